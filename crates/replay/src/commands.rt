@@ -1,0 +1,88 @@
+// The commands: each takes its line, whose field 0 is its name, and writes the answer with no line
+// end.
+use crate::text;
+use crate::text::field;
+use crate::write;
+use tile::CellCount;
+use tile::Contains;
+use tile::Tile;
+use tile::direction::Axis;
+use tile::direction::Offset;
+use tile::refusal::Verdict;
+
+// direction C: the row step, the column step, and the codes of the opposite, the rotated and the
+// reflected directions, Horizontal before Vertical.
+pub fn direction(line: &[u8]) {
+    let code = text::code_in(field(line, 1));
+    let step = tile::direction::step(code);
+    match step {
+        Offset::By(row, column) => {
+            write::step(row);
+            write::bytes(b" ");
+            write::step(column);
+            write::bytes(b" ");
+            write::turned(tile::direction::opposite(code));
+            write::bytes(b" ");
+            write::turned(tile::direction::rotate(code));
+            write::bytes(b" ");
+            write::turned(tile::direction::reflect(code, Axis::Horizontal));
+            write::bytes(b" ");
+            write::turned(tile::direction::reflect(code, Axis::Vertical));
+        }
+        Offset::Refused(refusal) => write::refused(refusal),
+    }
+}
+
+// orbit PATH: the orbit's paths.
+pub fn orbit(line: &[u8]) {
+    let made = text::tile_in(field(line, 1)).orbit();
+    let verdict = made.verdict;
+    match verdict {
+        Verdict::Accepted => write::tiles(made.tiles),
+        Verdict::Refused(refusal) => write::refused(refusal),
+    }
+}
+
+// tile PATH: the tile rotated, and reflected about Horizontal and Vertical.
+pub fn tile(line: &[u8]) {
+    let given = text::tile_in(field(line, 1));
+    let verdict = given.check();
+    match verdict {
+        Verdict::Accepted => {
+            write::made(given.rotate());
+            write::bytes(b" ");
+            write::made(given.reflect(Axis::Horizontal));
+            write::bytes(b" ");
+            write::made(given.reflect(Axis::Vertical));
+        }
+        Verdict::Refused(refusal) => write::refused(refusal),
+    }
+}
+
+// size PATH: the number of cells.
+pub fn size(line: &[u8]) {
+    let count = text::tile_in(field(line, 1)).count_cells();
+    match count {
+        CellCount::Is(n) => write::number(n),
+        CellCount::Refused(refusal) => write::refused(refusal),
+    }
+}
+
+// l N: the path of the L of N codes.
+pub fn l_tile(line: &[u8]) {
+    write::made(Tile::l_tile(text::number_in(field(line, 1))));
+}
+
+// t N: the path of the T of arms N.
+pub fn t_tile(line: &[u8]) {
+    write::made(Tile::t_tile(text::number_in(field(line, 1))));
+}
+
+// single TILES: whether one of them is the empty path.
+pub fn single(line: &[u8]) {
+    let contains = text::tiles_in(field(line, 1)).contains_single_tile();
+    match contains {
+        Contains::Is(found) => write::truth(found),
+        Contains::Refused(refusal) => write::refused(refusal),
+    }
+}

@@ -1,0 +1,140 @@
+// What a text holds: its fields, and a field's number, code, tile or tiles.
+use tile::Tile;
+use tile::Tiles;
+ghost use Prim.Native.Nat.{_≤_};
+ghost use lib.ListN.{length};
+
+// The place of the first such byte from a place on, or the end.
+pub fn find(text: &[u8], from: usize, byte: u8) -> usize
+    requires { ⌜ from ≤ length (now text) ⌝ }
+    ensures { λ r. ⌜ (from ≤ r) × (r ≤ length (now (text .entry))) ⌝ }
+{
+    let mut i = from;
+    while i < text.len() {
+        if text[i] == byte {
+            return i;
+        }
+        i += 1;
+    }
+    i
+}
+
+// The line's field behind the first count blanks, empty where there are fewer.
+pub fn field(line: &[u8], count: usize) -> &[u8] {
+    let mut at = 0;
+    let mut left = count;
+    while 0 < left {
+        let end = find(line, at, b' ');
+        if end == line.len() {
+            return &line[end..];
+        }
+        at = end + 1;
+        left -= 1;
+    }
+    let end = find(line, at, b' ');
+    &line[at..end]
+}
+
+// Whether two texts are the same.
+pub fn same(a: &[u8], b: &[u8]) -> bool {
+    if a.len() != b.len() {
+        return false;
+    }
+    let mut i = 0;
+    while i < a.len() {
+        if a[i] != b[i] {
+            return false;
+        }
+        i += 1;
+    }
+    true
+}
+
+// What a digit stands for, and 10 or more for any other byte.
+fn digit(byte: u8) -> u8 {
+    if byte < b'0' {
+        return 255;
+    }
+    byte - b'0'
+}
+
+// The number of some decimal digits, 0 where there are none; 10,000,000,010 for a greater number and
+// for other texts.
+pub fn number_in(text: &[u8]) -> usize {
+    let mut n: usize = 0;
+    let mut i = 0;
+    while i < text.len() {
+        let next = digit(text[i]);
+        if 9 < next {
+            return 10_000_000_010;
+        }
+        if 1_000_000_000 < n {
+            return 10_000_000_010;
+        }
+        n = 10 * n + next as usize;
+        i += 1;
+    }
+    n
+}
+
+// The code of a direction. Other texts have a code that tile refuses.
+pub fn code_in(text: &[u8]) -> u8 {
+    if text.len() != 1 {
+        return 255;
+    }
+    digit(text[0])
+}
+
+// The tile of a path; an empty text counts as `-`. Other texts have a tile that tile refuses.
+pub fn tile_in(path: &[u8]) -> Tile {
+    if same(path, b"-") {
+        return Tile::box_tile();
+    }
+    let mut codes = [0u8; 32];
+    let mut i = 0;
+    while i < path.len() {
+        if 31 < i {
+            return Tile { len: 33, codes };
+        }
+        codes[i] = digit(path[i]);
+        i += 1;
+    }
+    Tile { len: i, codes }
+}
+
+// The tiles of a list of paths; an empty text counts as `.`.
+pub fn tiles_in(list: &[u8]) -> Tiles {
+    let mut tiles = Tiles::new();
+    if same(list, b".") {
+        return tiles;
+    }
+    let mut at = 0;
+    while at < list.len() {
+        let end = find(list, at, b',');
+        tiles = with_tile(tiles, tile_in(&list[at..end]));
+        if end == list.len() {
+            return tiles;
+        }
+        at = end + 1;
+    }
+    tiles
+}
+
+// The tiles with one more; a 65th is not stored, only counted, and tile refuses them all.
+fn with_tile(tiles: Tiles, tile: Tile) -> Tiles {
+    let mut more = tiles;
+    let count = tiles.count;
+    if 63 < count {
+        more.count = 65;
+        return more;
+    }
+    more.count = count + 1;
+    more.lens[count] = tile.len;
+    let codes = tile.codes;
+    let mut i: usize = 0;
+    while i < 32 {
+        more.codes[32 * count + i] = codes[i];
+        i += 1;
+    }
+    more
+}

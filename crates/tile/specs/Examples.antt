@@ -1,0 +1,137 @@
+-- Examples of the definitions, by computation. Codes: 0 Up, 1 Down, 2 Left, 3 Right, 4 UpLeft, 5 UpRight, 6 DownRight, 7 DownLeft.
+use mathlib.Core.Path.{_≡_, refl}
+use mathlib.Core.Bool.{false}
+use mathlib.Core.List.{[], _∷_}
+use lib.IntN.{pos, negsuc}
+use lib.ListN.{length}
+use Rattle.tile.specs.declared.direction.Axis.the-variants as A
+use Rattle.tile.specs.Refusal.{refused, given}
+use Rattle.tile.specs.Position.{at, origin}
+use Rattle.tile.specs.Direction.{step, rotate, reflect, onCode}
+use Rattle.tile.specs.Path.{Path, points, cells, cellCount, EdgeJoined, orbit, lPath, tPath}
+use Rattle.tile.specs.Stored.{readTile, tileOf, readTiles, tilesOf, lTile, tTile}
+use Rattle.tile.specs.EdgeTest.{edgeJoined, edgeJoined-iff}
+
+-- ---- directions
+
+up-left : step 4 ≡ at (negsuc 0) (negsuc 0)
+unfolding step
+up-left = refl
+
+no-code : onCode 8 (step 8) ≡ refused 5
+unfolding onCode
+no-code = refl
+
+turned-up-left : rotate 4 ≡ 5
+unfolding rotate
+turned-up-left = refl
+
+-- the two reflections of UpLeft: DownLeft and UpRight
+reflected-rows : reflect A.Horizontal 4 ≡ 7
+unfolding reflect
+reflected-rows = refl
+
+reflected-cols : reflect A.Vertical 4 ≡ 5
+unfolding reflect
+reflected-cols = refl
+
+-- ---- cells: Right, Down, Left, Up comes back to where it began, so that five points are four cells
+
+square : Path
+square = 3 ∷ 1 ∷ 2 ∷ 0 ∷ []
+
+square-points : points origin square ≡ origin ∷ at (pos 0) (pos 1) ∷ at (pos 1) (pos 1) ∷ at (pos 1) (pos 0) ∷ origin ∷ []
+unfolding points step square
+square-points = refl
+
+square-cells : cells square ≡ origin ∷ at (pos 0) (pos 1) ∷ at (pos 1) (pos 1) ∷ at (pos 1) (pos 0) ∷ []
+unfolding cells step square
+square-cells = refl
+
+-- Right, Right, Down, Left, Up, Up crosses itself at its second point: seven points, six cells
+crossing : Path
+crossing = 3 ∷ 3 ∷ 1 ∷ 2 ∷ 0 ∷ 0 ∷ []
+
+crossing-points : length (points origin crossing) ≡ 7
+unfolding points step crossing
+crossing-points = refl
+
+crossing-cells : cells crossing ≡ origin ∷ at (pos 0) (pos 1) ∷ at (pos 0) (pos 2) ∷ at (pos 1) (pos 2) ∷ at (pos 1) (pos 1) ∷ at (negsuc 0) (pos 1) ∷ []
+unfolding cells step crossing
+crossing-cells = refl
+
+-- Right and Left cover as many cells as Right alone
+there-and-back : cellCount (3 ∷ 2 ∷ []) ≡ 2
+unfolding cellCount step
+there-and-back = refl
+
+-- ---- the Rust's tiles
+
+l-two : lTile 2 ≡ given (2 ∷ 0 ∷ [])
+unfolding lTile
+l-two = refl
+
+l-none : lTile 0 ≡ refused 5
+unfolding lTile
+l-none = refl
+
+l-long : lTile 33 ≡ refused 5
+unfolding lTile
+l-long = refl
+
+t-one : tTile 1 ≡ given (3 ∷ 0 ∷ 6 ∷ [])
+unfolding tTile
+t-one = refl
+
+t-long : tTile 16 ≡ refused 5
+unfolding tTile
+t-long = refl
+
+-- ---- orbits: of Right, 4 tiles; of `l_tile(2)` and of `t_tile(1)`, 8 each
+
+orbit-right : orbit (3 ∷ []) ≡ (3 ∷ []) ∷ (1 ∷ []) ∷ (2 ∷ []) ∷ (0 ∷ []) ∷ []
+unfolding orbit rotate reflect
+orbit-right = refl
+
+orbit-l : orbit (lPath 2)
+    ≡ (2 ∷ 0 ∷ []) ∷ (0 ∷ 3 ∷ []) ∷ (3 ∷ 1 ∷ []) ∷ (1 ∷ 2 ∷ []) ∷ (2 ∷ 1 ∷ []) ∷ (0 ∷ 2 ∷ []) ∷ (3 ∷ 0 ∷ []) ∷ (1 ∷ 3 ∷ []) ∷ []
+unfolding orbit lPath rotate reflect
+orbit-l = refl
+
+orbit-t : orbit (tPath 1)
+    ≡ (3 ∷ 0 ∷ 6 ∷ []) ∷ (1 ∷ 3 ∷ 7 ∷ []) ∷ (2 ∷ 1 ∷ 4 ∷ []) ∷ (0 ∷ 2 ∷ 5 ∷ []) ∷ (3 ∷ 1 ∷ 5 ∷ []) ∷ (1 ∷ 2 ∷ 6 ∷ []) ∷ (2 ∷ 0 ∷ 7 ∷ []) ∷ (0 ∷ 3 ∷ 4 ∷ []) ∷ []
+unfolding orbit tPath rotate reflect
+orbit-t = refl
+
+-- ---- edge-joined is about cells and not about steps: the T has a diagonal step and is; a diagonal pair is not
+
+t-joined : EdgeJoined (tPath 1)
+unfolding edgeJoined cellCount tPath step
+t-joined = edgeJoined-iff (tPath 1) .0 refl
+
+diagonal-not-joined : edgeJoined (4 ∷ []) ≡ false
+unfolding edgeJoined cellCount step
+diagonal-not-joined = refl
+
+-- ---- stored and read
+
+stored-right : readTile (tileOf (3 ∷ [])) ≡ given (3 ∷ [])
+unfolding readTile tileOf
+stored-right = refl
+
+stored-nine : readTile (tileOf (9 ∷ [])) ≡ refused 5
+unfolding readTile tileOf
+stored-nine = refl
+
+-- 6 comes before 5: too many tiles, and a length over 32
+both-faults : readTiles (record { count = 65; lens = 33 ∷ []; codes = [] }) ≡ refused 6
+unfolding readTiles
+both-faults = refl
+
+bad-length : readTiles (record { count = 1; lens = 33 ∷ []; codes = [] }) ≡ refused 5
+unfolding readTiles
+bad-length = refl
+
+stored-orbit : readTiles (tilesOf (orbit (3 ∷ []))) ≡ given ((3 ∷ []) ∷ (1 ∷ []) ∷ (2 ∷ []) ∷ (0 ∷ []) ∷ [])
+unfolding readTiles tilesOf orbit rotate reflect
+stored-orbit = refl

@@ -1,0 +1,152 @@
+// Collections of tiles in their struct: tests of every tile, and a collection with one tile more,
+// by which an orbit is collected. Private helpers; they ask that counts and lengths are in range.
+use crate::Tile;
+use crate::Tiles;
+use crate::codes;
+use crate::codes::Motion;
+ghost use mathlib.Core.Path.{_≡_};
+ghost use mathlib.Core.Bool.{_&&_};
+ghost use mathlib.Core.List.{[], _∷_, _++_};
+ghost use Prim.Native.Nat.{_+_, _≤_, _<_};
+ghost use lib.Dec.{leb};
+ghost use lib.ListN.{length, take, drop};
+ghost use Rattle.cells.specs.Arrays.{listOf, allBelow};
+ghost use Rattle.cells.specs.Firsts.{holds, addNew, addFirsts};
+ghost use Rattle.tile.specs.Path.{codesOk, containsSingle, samePath, turns};
+ghost use Rattle.tile.specs.Stored.{pathIn, pathsIn, soundAt, tilesOf};
+ghost use Rattle.tile.specs.Inner.{overlay, CleanTile, Clean};
+
+// Whether len codes from a place on are a path.
+fn sound(codes: &[u8], from: usize, len: usize) -> bool
+    requires { ⌜ from + 32 ≤ length (now codes) ⌝ }
+    ensures { λ r. ⌜ r ≡ (leb len 32 && codesOk (take len (drop from (now (codes .entry))))) ⌝ }
+{
+    if 32 < len {
+        return false;
+    }
+    let end = from + len;
+    codes::all_ok(&codes[from..end])
+}
+
+// Whether every tile is a path.
+pub fn all_sound(tiles: Tiles) -> bool
+    requires { ⌜ tiles .count ≤ 64 ⌝ }
+    ensures { λ r. ⌜ r ≡ allBelow (soundAt (tiles .lens) (tiles .codes)) (tiles .count) ⌝ }
+{
+    let count = tiles.count;
+    let lens = tiles.lens;
+    let codes = tiles.codes;
+    let mut i = 0;
+    while i < count {
+        if !sound(&codes, 32 * i, lens[i]) {
+            return false;
+        }
+        i += 1;
+    }
+    true
+}
+
+// Whether some tile is a single tile.
+pub fn has_single(tiles: Tiles) -> bool
+    requires { ⌜ tiles .count ≤ 64 ⌝ }
+    ensures { λ r. ⌜ r ≡ containsSingle (pathsIn tiles) ⌝ }
+{
+    let count = tiles.count;
+    let lens = tiles.lens;
+    let mut i = 0;
+    while i < count {
+        if lens[i] == 0 {
+            return true;
+        }
+        i += 1;
+    }
+    false
+}
+
+// Whether len codes from a place on are the given path.
+fn same_at(codes: &[u8], from: usize, len: usize, path: &[u8]) -> bool
+    requires { ⌜ from + len ≤ length (now codes) ⌝ }
+    ensures { λ r. ⌜ r ≡ samePath (take len (drop from (now (codes .entry)))) (now (path .entry)) ⌝ }
+{
+    let end = from + len;
+    codes::same(&codes[from..end], path)
+}
+
+// Whether a path is among those of the tiles.
+fn has_path(tiles: Tiles, path: &[u8]) -> bool
+    requires { ⌜ Clean tiles ⌝ }
+    ensures { λ r. ⌜ r ≡ holds samePath (pathsIn tiles) (now (path .entry)) ⌝ }
+{
+    let count = tiles.count;
+    let lens = tiles.lens;
+    let codes = tiles.codes;
+    let mut i = 0;
+    while i < count {
+        if same_at(&codes, 32 * i, lens[i], path) {
+            return true;
+        }
+        i += 1;
+    }
+    false
+}
+
+// The codes of tile i, the rest as they were.
+fn with_codes(codes: [u8; 2048], from: usize, tile: [u8; 32]) -> [u8; 2048]
+    requires { ⌜ from + 32 ≤ 2048 ⌝ }
+    ensures { λ r. ⌜ r ≡ listOf (overlay from tile codes) 2048 ⌝ }
+{
+    let mut out = codes;
+    let mut j = 0;
+    while j < 32 {
+        out[from + j] = tile[j];
+        j += 1;
+    }
+    out
+}
+
+// The tiles with one more behind them.
+fn with_tile(tiles: Tiles, tile: Tile) -> Tiles
+    requires { ⌜ Clean tiles × CleanTile tile × (tiles .count < 64) ⌝ }
+    ensures { λ r. ⌜ r ≡ tilesOf (pathsIn tiles ++ pathIn tile ∷ []) ⌝ }
+{
+    let count = tiles.count;
+    let mut lens = tiles.lens;
+    lens[count] = tile.len;
+    let before = tiles.codes;
+    let own = tile.codes;
+    let codes = with_codes(before, 32 * count, own);
+    Tiles {
+        count: count + 1,
+        lens,
+        codes,
+    }
+}
+
+// The tiles with one more, unless it is there.
+fn with_new(tiles: Tiles, tile: Tile) -> Tiles
+    requires { ⌜ Clean tiles × CleanTile tile × (tiles .count < 64) ⌝ }
+    ensures { λ r. ⌜ r ≡ tilesOf (addNew samePath (pathsIn tiles) (pathIn tile)) ⌝ }
+{
+    let len = tile.len;
+    let codes = tile.codes;
+    if has_path(tiles, &codes[..len]) {
+        return tiles;
+    }
+    with_tile(tiles, tile)
+}
+
+// The tiles with a tile and its three clockwise turns, those that are not there.
+pub fn with_turns(tiles: Tiles, tile: Tile) -> Tiles
+    requires { ⌜ Clean tiles × CleanTile tile × (tiles .count ≤ 4) ⌝ }
+    ensures { λ r. ⌜ r ≡ tilesOf (addFirsts samePath (pathsIn tiles) (turns 4 (pathIn tile))) ⌝ }
+{
+    let mut out = tiles;
+    let mut turned = tile;
+    let mut i: usize = 0;
+    while i < 4 {
+        out = with_new(out, turned);
+        turned = codes::moved(turned, Motion::Rotate);
+        i += 1;
+    }
+    out
+}

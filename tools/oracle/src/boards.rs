@@ -1,0 +1,141 @@
+//! Answers about a board and tiles: children, the layer count, the graph, the tilings.
+
+use crate::tiler::Tiler;
+use dcc_tiler::board::RectangularBoard;
+use dcc_tiler::graph::BoardGraph;
+use dcc_tiler::marks::{Marks, hex};
+use dcc_tiler::render::take_collected;
+use dcc_tiler::tile::{Tile, TileCollection};
+
+/// A board with any fixed and laid marks, set up through public items alone.
+///
+/// A laid mark also raises the private counts of its neighbours. So for each laid cell all other
+/// cells are marked in the public `board` field, and the Rust itself lays the single tile on the
+/// one free cell. At the end the field is set to the wanted marks; fixed marks never count.
+pub fn board_of(
+    (width, height): (usize, usize),
+    fixed: Marks,
+    laid: Marks,
+) -> Result<RectangularBoard, String> {
+    check_marks(width, height, fixed, laid)?;
+    let mut b = RectangularBoard::new(width, height);
+    let cells = || (0..height).flat_map(|row| (0..width).map(move |column| (row, column)));
+    for (row, column) in cells().filter(|c| laid.has(c.0, c.1)) {
+        b.board = vec![vec![true; width]; height];
+        b.board[row][column] = false;
+        let mut children = b.place_tile(&TileCollection::new(vec![Tile::box_tile()]));
+        assert!(children.len() == 1, "the single tile has not one child");
+        b = children.remove(0);
+    }
+    for (row, column) in cells() {
+        b.board[row][column] = fixed.has(row, column) || laid.has(row, column);
+    }
+    Ok(b)
+}
+
+fn check_marks(width: usize, height: usize, fixed: Marks, laid: Marks) -> Result<(), String> {
+    if width > 16 || height > 16 {
+        return Err("a board is at most 16 by 16".to_string());
+    }
+    for (row, column) in (0..16).flat_map(|row| (0..16).map(move |column| (row, column))) {
+        let (f, l) = (fixed.has(row, column), laid.has(row, column));
+        if f && l {
+            return Err(format!("cell {row} {column} is both fixed and laid"));
+        }
+        if (f || l) && (row >= height || column >= width) {
+            return Err(format!("cell {row} {column} is outside the board"));
+        }
+    }
+    Ok(())
+}
+
+/// `NUMBER HEX ...`, in the Rust's order.
+pub fn children(b: RectangularBoard, tiles: TileCollection) -> String {
+    let children = b.place_tile(&tiles);
+    let mut fields = vec![children.len().to_string()];
+    fields.extend(children.iter().map(hex));
+    fields.join(" ")
+}
+
+/// The count that `count_tilings` gives before a graph is there.
+pub fn layers(b: RectangularBoard, tiles: TileCollection) -> String {
+    Tiler::new(tiles, b).count_tilings().to_string()
+}
+
+/// `COUNT NODES EDGES FULL HEX ... PARENT>CHILD ...`, in the Rust's numbering; FULL is the full
+/// board's node or `none`; or `several`.
+pub fn graph(b: RectangularBoard, tiles: TileCollection) -> String {
+    let mut tiler = Tiler::new(tiles, b);
+    let shared = tiler.graph();
+    let graph = shared.read().unwrap();
+    if several_full(&graph) {
+        return "several".to_string();
+    }
+    let nodes = nodes_of(&graph);
+    let edges = edges_of(&graph, nodes.len());
+    let full = graph.get_complete_index();
+    let mut fields = vec![
+        tiler.count_tilings().to_string(),
+        nodes.len().to_string(),
+        edges.len().to_string(),
+        full.map_or("none".to_string(), |node| node.to_string()),
+    ];
+    fields.extend(nodes.into_iter().map(hex));
+    fields.extend(edges.iter().map(|(parent, child)| format!("{parent}>{child}")));
+    fields.join(" ")
+}
+
+/// With unequal tiles a graph may have several full nodes. The Rust then takes any one of them,
+/// by the order of its hashes, so that its answers are no reference.
+fn several_full(graph: &BoardGraph) -> bool {
+    let nodes = nodes_of(graph);
+    nodes.iter().skip(1).filter(|node| node.is_all_marked()).count() > 1
+}
+
+pub fn nodes_of(graph: &BoardGraph) -> Vec<&RectangularBoard> {
+    (0..).map_while(|node| graph.get_node(node)).collect()
+}
+
+/// All edges, sorted by parent and then by child. The edges that the Rust keeps backward beside
+/// them are the same ones.
+pub fn edges_of(graph: &BoardGraph, nodes: usize) -> Vec<(usize, usize)> {
+    let mut forward = Vec::new();
+    let mut backward = Vec::new();
+    for node in 0..nodes {
+        let children = graph.get_edges(node).into_iter().flatten();
+        forward.extend(children.map(|child| (node, *child)));
+        let parents = graph.get_rev_edges(node).into_iter().flatten();
+        backward.extend(parents.map(|parent| (*parent, node)));
+    }
+    forward.sort();
+    backward.sort();
+    assert!(forward == backward, "the backward edges differ");
+    forward
+}
+
+/// `NUMBER HEX,...,HEX ...`: each tiling as the list of its boards from the starting board on,
+/// the lists sorted; or `several`. The Rust hands its renderer each list full board first.
+pub fn tilings(b: RectangularBoard, tiles: TileCollection) -> String {
+    let mut tiler = Tiler::new(tiles, b);
+    if several_full(&tiler.graph().read().unwrap()) {
+        return "several".to_string();
+    }
+    take_collected();
+    tiler.render_all_tilings("/dev/null").expect("a file to write to");
+    let mut lists = take_collected();
+    for list in &mut lists {
+        list.reverse();
+    }
+    lists.sort();
+    let mut fields = vec![lists.len().to_string()];
+    fields.extend(lists.iter().map(|list| list.join(",")));
+    fields.join(" ")
+}
+
+/// `HEX ...` from the starting board to a full one, or `none`.
+pub fn one(b: RectangularBoard, tiles: TileCollection) -> String {
+    match Tiler::new(tiles, b).get_single_tiling(1) {
+        Some(boards) => boards.iter().map(hex).collect::<Vec<_>>().join(" "),
+        None => "none".to_string(),
+    }
+}

@@ -1,0 +1,86 @@
+//! Reads commands from standard input, one a line, and prints one answer line each. The forms of
+//! commands and answers stand in ../../README.md.
+//!
+//! If the Rust panics, the answer is `panic`. A command that is not understood, or a check of the
+//! driver that fails, ends the run with a message and the exit code 1.
+
+mod boards;
+mod plot;
+mod plotfile;
+mod text;
+#[path = "../upstream/cli/tiler.rs"]
+mod tiler;
+mod tiles;
+
+use dcc_tiler::marks::Marks;
+use dcc_tiler::tile::{Tile, TileCollection};
+use std::io::BufRead;
+use std::panic::{PanicHookInfo, catch_unwind, set_hook};
+use std::process::ExitCode;
+use std::sync::Mutex;
+use text::{read_bytes, read_direction, read_number, read_tile, read_tiles, tile_text, tiles_text};
+
+/// The last panic: whether it arose in a file of the driver, and its message.
+static PANIC: Mutex<(bool, String)> = Mutex::new((false, String::new()));
+
+/// A panic that arises in neither the driver's files nor the Rust's is the Rust's too: it comes
+/// from the standard library, as where `count_tilings` looks for a board that isn't there.
+fn note_panic(info: &PanicHookInfo) {
+    let file = info.location().map_or("", |place| place.file());
+    let ours = file.starts_with("src/") && !file.contains("../upstream/");
+    *PANIC.lock().unwrap() = (ours, info.to_string());
+}
+
+fn main() -> ExitCode {
+    set_hook(Box::new(note_panic));
+    for (number, line) in std::io::stdin().lock().lines().enumerate() {
+        let line = line.expect("a line of text");
+        match answer_or_panic(&line) {
+            Ok(answer) => println!("{answer}"),
+            Err(message) => {
+                eprintln!("oracle: line {}: {message}", number + 1);
+                return ExitCode::FAILURE;
+            }
+        }
+    }
+    ExitCode::SUCCESS
+}
+
+fn answer_or_panic(line: &str) -> Result<String, String> {
+    catch_unwind(|| answer(line)).unwrap_or_else(|_| match &*PANIC.lock().unwrap() {
+        (true, message) => Err(message.clone()),
+        (false, _) => Ok("panic".to_string()),
+    })
+}
+
+fn answer(line: &str) -> Result<String, String> {
+    let fields: Vec<&str> = line.split(' ').collect();
+    Ok(match fields[..] {
+        ["direction", code] => tiles::direction(read_direction(code)?),
+        ["orbit", path] => tiles_text(&tiles::orbit(&read_tile(path)?)),
+        ["tile", path] => tiles::tile(&read_tile(path)?),
+        ["l", n] => tile_text(&Tile::l_tile(read_number(n)?)),
+        ["t", n] => tile_text(&Tile::t_tile(read_number(n)?)),
+        ["single", list] => collection(list)?.contains_single_tile().to_string(),
+        ["size", path] => tiles::size(&read_tile(path)?).to_string(),
+        ["plot", bytes] => plot::plot(&read_bytes(bytes)?).replace('\n', "|"),
+        [name, width, height, fixed, laid, list] => {
+            let size = (read_number(width)?, read_number(height)?);
+            let board = boards::board_of(size, Marks::read(fixed)?, Marks::read(laid)?)?;
+            let answer = match name {
+                "children" => boards::children,
+                "layers" => boards::layers,
+                "graph" => boards::graph,
+                "tilings" => boards::tilings,
+                "one" => boards::one,
+                _ => return Err(format!("no such command: {line}")),
+            };
+            answer(board, collection(list)?)
+        }
+        _ => return Err(format!("no such command: {line}")),
+    })
+}
+
+fn collection(list: &str) -> Result<TileCollection, String> {
+    Ok(TileCollection::new(read_tiles(list)?))
+}
