@@ -12,7 +12,7 @@ use lib.ListN.{length, getD, take, drop, length-map, List·getD-eq-default, List
 use lib.Seq.{drop-cons, drop-length, length-take-le, getD-take}
 use Rattle.cells.specs.Arrays.{listOf}
 use Rattle.tile.specs.declared.direction.Code.{Code}
-use Rattle.tile.specs.declared.direction.Code.the-variants as T
+use Rattle.tile.specs.declared.direction.Code.the-variants as Codes
 use Rattle.tile.specs.Refusal.{refused, given}
 use Rattle.tile.specs.Direction.{codeAnswer, onCode}
 use Rattle.tile.specs.Path.{Path, codesOk, samePath}
@@ -68,15 +68,15 @@ pub codeOf-onCode : (t : Code) (code f : ℕ) → codeAnswer t ≡ onCode code f
 codeOf-onCode t code f e past = go t e (decLt code 8)
   where
     go : (t : Code) → codeAnswer t ≡ onCode code f → Dec (code < 8) → codeOf t code ≡ f
-    go (T.Is other) q (yes h) = let k : given other ≡ given f = q ∙ onCode-given code f h in cc
-    go (T.Is other) q (no h) =
+    go (Codes.Is other) q (yes h) = let k : given other ≡ given f = q ∙ onCode-given code f h in cc
+    go (Codes.Is other) q (no h) =
         let l : 8 ≤ code = omega arith in
         let k : given other ≡ refused 5 = q ∙ sym (onCode-past code f l) in
         let z : _≡_ {A = ℕ} 0 1 = cc in absurd (omega arith)
-    go (T.Refused r) q (yes h) =
-        let k : codeAnswer (T.Refused r) ≡ given f = q ∙ onCode-given code f h in
+    go (Codes.Refused r) q (yes h) =
+        let k : codeAnswer (Codes.Refused r) ≡ given f = q ∙ onCode-given code f h in
         let z : _≡_ {A = ℕ} 0 1 = cc in absurd (omega arith)
-    go (T.Refused r) q (no h) = let l : 8 ≤ code = omega arith in sym (past l)
+    go (Codes.Refused r) q (no h) = let l : 8 ≤ code = omega arith in sym (past l)
 
 -- ---- a run of one code
 

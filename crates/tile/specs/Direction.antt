@@ -12,7 +12,7 @@ use Rattle.tile.specs.declared.direction.Axis.the-variants as A
 use Rattle.tile.specs.declared.direction.Offset.{Offset}
 use Rattle.tile.specs.declared.direction.Offset.the-variants as O
 use Rattle.tile.specs.declared.direction.Code.{Code}
-use Rattle.tile.specs.declared.direction.Code.the-variants as T
+use Rattle.tile.specs.declared.direction.Code.the-variants as Codes
 use Rattle.tile.specs.Refusal.{Answer, refused, given, refusalNumber}
 use Rattle.tile.specs.Position.{Position, at, origin, mirrorRows, mirrorCols}
 
@@ -60,5 +60,5 @@ offsetAnswer (O.By down right) = given (at down right)
 offsetAnswer (O.Refused r) = refused (refusalNumber r)
 
 abbrev pub codeAnswer : Code → Answer ℕ
-codeAnswer (T.Is code) = given code
-codeAnswer (T.Refused r) = refused (refusalNumber r)
+codeAnswer (Codes.Is code) = given code
+codeAnswer (Codes.Refused r) = refused (refusalNumber r)

@@ -12,7 +12,7 @@ use Rattle.tile.specs.declared.Tiles.{Tiles}
 use Rattle.tile.specs.declared.codes.Motion.{Motion}
 use Rattle.tile.specs.declared.codes.Motion.the-variants as M
 use Rattle.tile.specs.declared.direction.Code.{Code}
-use Rattle.tile.specs.declared.direction.Code.the-variants as T
+use Rattle.tile.specs.declared.direction.Code.the-variants as Codes
 use Rattle.tile.specs.declared.points.Keys.{Keys}
 use Rattle.tile.specs.Position.{Position, at}
 use Rattle.tile.specs.Direction.{rotate, reflect}
@@ -29,8 +29,8 @@ image (M.Reflect axis) code = reflect axis code
 
 -- the code that is answered, or else the code itself
 abbrev pub codeOf : Code → ℕ → ℕ
-codeOf (T.Is other) code = other
-codeOf (T.Refused r) code = code
+codeOf (Codes.Is other) code = other
+codeOf (Codes.Refused r) code = code
 
 -- v at the places a to b - 1, and f elsewhere
 unfoldable pub run : ℕ → ℕ → ℕ → (ℕ → ℕ) → ℕ → ℕ
