@@ -10,6 +10,8 @@ ghost use lib.Dec.{eqb};
 ghost use Rattle.cells.specs.Set.{hasCell, withCell, unionOf, sharesCell, size};
 ghost use Rattle.cells.specs.Words.{value, number};
 
+pub mod list;
+
 // The four words, the lowest first.
 pub struct Cells {
     pub w0: u64,

@@ -31,6 +31,11 @@ unfoldable pub mapAnswer : {A B : Type 0} → (A → B) → Answer A → Answer 
 mapAnswer f (refused n) = refused n
 mapAnswer f (given a) = given (f a)
 
+-- what f answers to the value
+unfoldable pub bindAnswer : {A B : Type 0} → Answer A → (A → Answer B) → Answer B
+bindAnswer (refused n) f = refused n
+bindAnswer (given a) f = f a
+
 -- the refusal's number, 0 for none
 unfoldable pub refusalOf : {A : Type 0} → Answer A → ℕ
 refusalOf (refused n) = n

@@ -1,0 +1,98 @@
+-- What `new`, `l_board` and `t_board` hand back. Rests on `Board` and `BoardLaws`. Assumes nothing.
+use mathlib.Core.Path.{_≡_, refl, sym, ap, ap₂, _∙_}
+use mathlib.Core.Bool.{true, false}
+use Prim.Native.Nat.{ℕ, _+_, _-_, _*_, _≤_, _<_}
+use native.Mathlib.Nat.{mul-zero, mul-le-mul, le-mul-of-pos-right}
+use native.Mathlib.Omega.{arith}
+use Rattle.cells.specs.declared.Cells.{Cells}
+use Rattle.cells.specs.Set.{unionOf}
+use Rattle.cells.specs.Words.{number}
+use Rattle.tile.specs.declared.refusal.Verdict.the-variants as Verdicts
+use Rattle.tile.specs.Refusal.{Answer, refused, refusalOf, valueOr, verdictNumber}
+use Rattle.board.specs.declared.RectangularBoard.{RectangularBoard}
+use Rattle.board.specs.declared.MadeBoard.{MadeBoard}
+use Rattle.board.specs.Board.{Board, boardOf, noBoard, sizeOk, setOf, shapeMark, shaped, lBoard, tBoard, MakesBoard}
+use Rattle.board.specs.Children.{lay}
+use Rattle.board.specs.BoardLaws.{sizeOk-wide, sizeOk-high}
+
+-- ---- one shape
+
+module _ (w h rows low high : ℕ) where
+  pub shaped-refused : sizeOk w h ≡ false → shaped w h rows low high ≡ refused 4
+  unfolding shaped
+  shaped-refused e = rw e
+
+  pub makes-shaped : sizeOk w h ≡ true → (f l : Cells) → number f ≡ setOf (shapeMark w h rows low high) → number l ≡ 0 → MakesBoard (shaped w h rows low high) (record { verdict = Verdicts.Accepted; board = record { width = w; height = h; fixed = f; laid = l } })
+  unfolding shaped refusalOf valueOr
+  makes-shaped e f l p q =
+      record {
+        verdict = rw e;
+        board = rw e (λ i. record { width = w; height = h; fixed = p i; laid = q i });
+      }
+
+pub makes-refused : (a : Answer Board) (r : MadeBoard) → a ≡ refused 4 → (boardOf (r .board) ≡ noBoard) × (verdictNumber (r .verdict) ≡ 4) → MakesBoard a r
+unfolding refusalOf valueOr
+makes-refused a r e h = record { verdict = rw e (h .1); board = rw e (h .0) }
+
+-- the board with no cell, by its parts
+pub no-board : (f l : Cells) → number f ≡ 0 → number l ≡ 0 → boardOf (record { width = 0; height = 0; fixed = f; laid = l }) ≡ noBoard
+no-board f l p q = λ i. record { width = 0; height = 0; fixed = p i; laid = q i }
+
+-- a board with a piece laid, by its parts
+pub lay-parts : (b : RectangularBoard) (piece : ℕ) (s t : Cells) → number s ≡ piece → number t ≡ unionOf (number (b .laid)) (number s) → boardOf (record { width = b .width; height = b .height; fixed = b .fixed; laid = t }) ≡ lay (boardOf b) piece
+unfolding lay
+lay-parts b piece s t p q =
+    λ i. record { width = b .width; height = b .height; fixed = number (b .fixed); laid = (q ∙ ap (unionOf (number (b .laid))) p) i }
+
+-- ---- L and T
+
+module _ (n scale : ℕ) where
+  -- scale 0: the 0 by 0 board
+  pub l-none : scale ≡ 0 → shaped 0 0 0 0 0 ≡ lBoard n scale
+  unfolding lBoard
+  l-none e = rw (e, mul-zero n)
+
+  pub t-none : scale ≡ 0 → shaped 0 0 0 0 0 ≡ tBoard n scale
+  unfolding tBoard
+  t-none e =
+      let none : (k : ℕ) → k * scale ≡ 0 = λ k. ap (λ (s : ℕ). k * s) e ∙ mul-zero k in
+      sym
+      (ap (λ (x : ℕ). shaped x (2 * scale) scale (n * scale) ((n + 1) * scale)) (none (2 * n + 1))
+      ∙ ap (λ (x : ℕ). shaped 0 x scale (n * scale) ((n + 1) * scale)) (none 2)
+      ∙ ap (λ (x : ℕ). shaped 0 0 x (n * scale) ((n + 1) * scale)) e
+      ∙ ap₂ (shaped 0 0 0) (none n) (none (n + 1)))
+
+  -- too high
+  pub l-high : 8 < scale → lBoard n scale ≡ refused 4
+  unfolding lBoard
+  l-high h = shaped-refused (n * scale) (2 * scale) scale 0 scale (sizeOk-high (n * scale) (2 * scale) (omega arith))
+
+  pub t-high : 8 < scale → tBoard n scale ≡ refused 4
+  unfolding tBoard
+  t-high h =
+      shaped-refused ((2 * n + 1) * scale) (2 * scale) scale (n * scale) ((n + 1) * scale) (sizeOk-high ((2 * n + 1) * scale) (2 * scale) (omega arith))
+
+  -- too wide
+  pub l-wide : (scale ≡ 0 → ⊥) → 16 < n → lBoard n scale ≡ refused 4
+  unfolding lBoard
+  l-wide z h =
+      let pos : 0 < scale = omega arith in
+      shaped-refused (n * scale) (2 * scale) scale 0 scale (sizeOk-wide (n * scale) (2 * scale) (omega (arith, le-mul-of-pos-right n pos)))
+
+  pub t-wide : (scale ≡ 0 → ⊥) → 16 < n → tBoard n scale ≡ refused 4
+  unfolding tBoard
+  t-wide z h =
+      let pos : 0 < scale = omega arith in
+      shaped-refused ((2 * n + 1) * scale) (2 * scale) scale (n * scale) ((n + 1) * scale) (sizeOk-wide ((2 * n + 1) * scale) (2 * scale) (omega (arith, le-mul-of-pos-right (2 * n + 1) pos)))
+
+  pub l-shaped : shaped (n * scale) (2 * scale) scale 0 scale ≡ lBoard n scale
+  unfolding lBoard
+  l-shaped = refl
+
+  pub t-shaped : shaped ((2 * n + 1) * scale) (2 * scale) scale (n * scale) ((n + 1) * scale) ≡ tBoard n scale
+  unfolding tBoard
+  t-shaped = refl
+
+-- products of small numbers are small
+pub small-product : (a scale : ℕ) → a ≤ 33 → scale ≤ 8 → a * scale ≤ 264
+small-product a scale h k = mul-le-mul h k

@@ -1,0 +1,273 @@
+-- What the steps and walks of `walk` come to: the place at a position, the place one step on, the walks back and on, and the fit by the two walks.
+-- Rests on `FitLaws` and `PieceLaws`. Assumes nothing.
+use mathlib.Core.Path.{_≡_, refl, sym, ap, ap₂, _∙_, subst}
+use mathlib.Core.Bool.{Bool, true, false, So, not, cond, and-false, and-eq-true-iff}
+use mathlib.Core.List.{List, [], _∷_, _++_, flatMap, append-nil}
+use Prim.Native.Nat.{ℕ, zero, suc, _+_, _-_, _*_, _≤_, _<_}
+use native.Mathlib.Numerals.{add-one}
+use native.Mathlib.Omega.{arith}
+use borrow.Author.Tests.{ltb-true, lt-ltb, le-ltb}
+use lib.IntN.{ℤ, pos, negsuc, natAbs, _+ℤ_}
+use lib.Signed.{mag, ltZ}
+use lib.ListN.{length, getD, drop, drop-of-length-le}
+use lib.Seq.{drop-cons}
+use Rattle.cells.specs.declared.Cells.{Cells}
+use Rattle.cells.specs.Set.{hasCell, withCell}
+use Rattle.cells.specs.Words.{value, number}
+use Rattle.cells.specs.ListLaws.{value-none}
+use Rattle.tile.specs.declared.refusal.Refusal.{Refusal}
+use Rattle.tile.specs.declared.direction.Offset.{Offset}
+use Rattle.tile.specs.declared.direction.Offset.the-variants as O
+use Rattle.tile.specs.declared.direction.Code.{Code}
+use Rattle.tile.specs.declared.direction.Code.the-variants as Codes
+use Rattle.tile.specs.Refusal.{refused, given, refusalNumber}
+use Rattle.tile.specs.Position.{Position, at, shift}
+use Rattle.tile.specs.Direction.{step, opposite, onCode, offsetAnswer, codeAnswer}
+use Rattle.tile.specs.DirectionLaws.{by-code, onCode-given, opposite-lt}
+use Rattle.tile.specs.Path.{Path}
+use Rattle.board.specs.declared.walk.Place.{Place}
+use Rattle.board.specs.declared.walk.Place.the-variants as P
+use Rattle.board.specs.declared.walk.Fit.{Fit}
+use Rattle.board.specs.declared.walk.Fit.the-variants as F
+use Rattle.board.specs.Board.{cellOf, below, inside}
+use Rattle.board.specs.Children.{cover, moved, offset, pointAt}
+use Rattle.board.specs.Inner.{freeIn, back, onward, walked, placeIf, fitPieces}
+use Rattle.board.specs.FitLaws.{cover-free, cover-blocked, cover-end, cover-append, walked-moved}
+use Rattle.board.specs.PieceLaws.{inside-parts, inside-at}
+
+-- ---- the place at a position
+
+module _ (w h : ℕ) where
+  pub place-above : (r c : ℤ) → ltZ r (pos 0) ≡ true → P.Nowhere ≡ placeIf (inside w h) (at r c)
+  unfolding placeIf inside below
+  place-above (pos n) c e = absurd (omega (arith, ltb-true n 0 e))
+  place-above (negsuc n) c e = refl
+
+  pub place-left : (r c : ℤ) → ltZ c (pos 0) ≡ true → P.Nowhere ≡ placeIf (inside w h) (at r c)
+  unfolding placeIf inside below
+  place-left r (pos n) e = absurd (omega (arith, ltb-true n 0 e))
+  place-left r (negsuc n) e = rw (and-false (below h r))
+
+  module _ (m n : ℕ) (r c : ℤ) (p : pos m ≡ r) (q : pos n ≡ c) where
+    pub place-below : h ≤ m → P.Nowhere ≡ placeIf (inside w h) (at r c)
+    unfolding placeIf inside below
+    place-below l = rw (← p, ← q, le-ltb m h l)
+
+    pub place-right : m < h → w ≤ n → P.Nowhere ≡ placeIf (inside w h) (at r c)
+    unfolding placeIf inside below
+    place-right l k = rw (← p, ← q, lt-ltb m h l, le-ltb n w k)
+
+    pub place-inside : m < h → n < w → P.At m n ≡ placeIf (inside w h) (at r c)
+    unfolding placeIf inside below
+    place-inside l k = rw (← p, ← q, lt-ltb m h l, lt-ltb n w k)
+
+-- ---- the step of a code
+
+step-small : (code : ℕ) → code < 8 → (mag (step code .row) ≤ 1) × (mag (step code .col) ≤ 1)
+unfolding step
+step-small =
+    by-code (λ c. c < 8 → (mag (step c .row) ≤ 1) × (mag (step c .col) ≤ 1))
+    (λ _. (omega arith, omega arith)) (λ _. (omega arith, omega arith)) (λ _. (omega arith, omega arith)) (λ _. (omega arith, omega arith))
+    (λ _. (omega arith, omega arith)) (λ _. (omega arith, omega arith)) (λ _. (omega arith, omega arith)) (λ _. (omega arith, omega arith))
+    (λ c h i. absurd (omega arith))
+
+-- what is told of a code 0 to 7 is a step, and is no refusal
+module _ (o : Offset) (code : ℕ) (e : offsetAnswer o ≡ onCode code (step code)) (h : code < 8) where
+  pub told-step : (d f : ℤ) → o ≡ O.By d f → at d f ≡ step code
+  told-step d f q =
+      let s : given (at d f) ≡ given (step code) = ap offsetAnswer (sym q) ∙ e ∙ onCode-given code (step code) h in
+      cc
+
+  pub told-small : (d f : ℤ) → o ≡ O.By d f → (mag d ≤ 1) × (mag f ≤ 1)
+  told-small d f q = subst (λ (p : Position). (mag (p .row) ≤ 1) × (mag (p .col) ≤ 1)) (sym (told-step d f q)) (step-small code h)
+
+  pub told-no-refusal : (r : Refusal) → o ≡ O.Refused r → ⊥
+  told-no-refusal r q =
+      let s : refused (refusalNumber r) ≡ given (step code) = ap offsetAnswer (sym q) ∙ e ∙ onCode-given code (step code) h in
+      let z : _≡_ {A = ℕ} 0 1 = cc in
+      omega arith
+
+-- the place one step on
+pub place-step : (w h m n code : ℕ) (x y d f : ℤ) (p : Place) → p ≡ placeIf (inside w h) (at x y) → x ≡ pos m +ℤ d → y ≡ pos n +ℤ f → at d f ≡ step code → p ≡ placeIf (inside w h) (shift (at (pos m) (pos n)) (step code))
+place-step w h m n code x y d f p e a b s =
+    e ∙ ap₂ (λ (u v : ℤ). placeIf (inside w h) (at u v)) a b ∙ ap (λ (q : Position). placeIf (inside w h) (shift (at (pos m) (pos n)) q)) s
+
+-- ---- what a place tells of its position
+
+place-true : (test : Position → Bool) (p : Position) (r c : ℕ) → P.At r c ≡ placeIf test p → (test p ≡ true) × (natAbs (p .row) ≡ r) × (natAbs (p .col) ≡ c)
+unfolding placeIf
+place-true test p r c e = go (test p) e
+  where
+    go : (t : Bool) → P.At r c ≡ cond t (P.At (natAbs (p .row)) (natAbs (p .col))) P.Nowhere → (t ≡ true) × (natAbs (p .row) ≡ r) × (natAbs (p .col) ≡ c)
+    go true q = (refl, cc, cc)
+    go false q = let z : _≡_ {A = ℕ} 0 1 = cc in absurd (omega arith)
+
+pub place-false : (test : Position → Bool) (p : Position) → P.Nowhere ≡ placeIf test p → test p ≡ false
+unfolding placeIf
+place-false test p e = go (test p) e
+  where
+    go : (t : Bool) → P.Nowhere ≡ cond t (P.At (natAbs (p .row)) (natAbs (p .col))) P.Nowhere → t ≡ false
+    go true q = let z : _≡_ {A = ℕ} 0 1 = cc in absurd (omega arith)
+    go false q = refl
+
+-- a place is on the board, and its position is the one that was asked
+pub record Placed (w h : ℕ) (p : Position) (r c : ℕ) : Type 0 where
+  pub is-inside : So (inside w h p)
+  pub is-at : p ≡ at (pos r) (pos c)
+  pub row : r < h
+  pub col : c < w
+
+placed : (w h : ℕ) (p : Position) (r c : ℕ) → So (inside w h p) → natAbs (p .row) ≡ r → natAbs (p .col) ≡ c → Placed w h p r c
+placed w h p r c i a b =
+    let s = inside-parts w h p i in
+    let m : s .0 ≡ r = ap (λ (q : Position). natAbs (q .row)) (sym (s .2)) ∙ a in
+    let n : s .1 ≡ c = ap (λ (q : Position). natAbs (q .col)) (sym (s .2)) ∙ b in
+    record {
+      is-inside = i;
+      is-at = s .2 ∙ ap₂ (λ (x y : ℕ). at (pos x) (pos y)) m n;
+      row = omega (arith, s .3);
+      col = omega (arith, s .4);
+    }
+
+pub place-placed : (w h : ℕ) (p : Position) (r c : ℕ) (x : Place) → x ≡ placeIf (inside w h) p → x ≡ P.At r c → Placed w h p r c
+place-placed w h p r c x e f = let s = place-true (inside w h) p r c (sym f ∙ e) in placed w h p r c (s .0) (s .1) (s .2)
+
+pub placed-cell : (w h : ℕ) (p : Position) (r c : ℕ) → Placed w h p r c → cellOf p ≡ 16 * r + c
+unfolding cellOf
+placed-cell w h p r c s = ap cellOf (s .is-at)
+
+-- ---- the place one step on, if it has no mark
+
+module _ (w h m : ℕ) (p : Position) (x : Place) (e : x ≡ placeIf (inside w h) p) where
+  pub free-nowhere : x ≡ P.Nowhere → P.Nowhere ≡ placeIf (freeIn w h m) p
+  unfolding placeIf freeIn
+  free-nowhere f = rw (place-false (inside w h) p (sym f ∙ e))
+
+  pub free-marked : (r c : ℕ) → x ≡ P.At r c → hasCell m (16 * r + c) ≡ true → P.Nowhere ≡ placeIf (freeIn w h m) p
+  unfolding placeIf freeIn
+  free-marked r c f t = let s = place-placed w h p r c x e f in rw (s .is-inside, placed-cell w h p r c s, t)
+
+  pub free-open : (r c : ℕ) → x ≡ P.At r c → hasCell m (16 * r + c) ≡ false → P.At r c ≡ placeIf (freeIn w h m) p
+  unfolding placeIf freeIn
+  free-open r c f t =
+      let s = place-placed w h p r c x e f in
+      rw (s .is-inside, placed-cell w h p r c s, t, s .is-at)
+
+pub freeIn-placed : (w h m : ℕ) (p : Position) (r c : ℕ) → P.At r c ≡ placeIf (freeIn w h m) p → Placed w h p r c
+unfolding freeIn
+freeIn-placed w h m p r c e =
+    let s = place-true (freeIn w h m) p r c e in
+    placed w h p r c (and-eq-true-iff (inside w h p) (not (hasCell m (cellOf p))) .0 (s .0) .0) (s .1) (s .2)
+
+-- ---- the opposite code
+
+module _ (a : Code) (code : ℕ) (e : codeAnswer a ≡ onCode code (opposite code)) (h : code < 8) where
+  pub told-back : (other : ℕ) → a ≡ Codes.Is other → (other ≡ opposite code) × (other < 8)
+  told-back other q =
+      let s : given other ≡ given (opposite code) = ap codeAnswer (sym q) ∙ e ∙ onCode-given code (opposite code) h in
+      let t : other ≡ opposite code = cc in
+      (t, omega (arith, opposite-lt code h))
+
+  pub told-back-no-refusal : (r : Refusal) → a ≡ Codes.Refused r → ⊥
+  told-back-no-refusal r q =
+      let s : refused (refusalNumber r) ≡ given (opposite code) = ap codeAnswer (sym q) ∙ e ∙ onCode-given code (opposite code) h in
+      let z : _≡_ {A = ℕ} 0 1 = cc in
+      omega arith
+
+-- ---- the positions that are left of a walk
+
+pub onward-next : (p : Position) (path : Path) (i : ℕ) → i < length path → onward p (drop i path) ≡ shift p (step (getD path i 0)) ∷ onward (shift p (step (getD path i 0))) (drop (i + 1) path)
+unfolding onward
+onward-next p path i h = rw (add-one, drop-cons path i 0)
+
+pub onward-none : (p : Position) (path : Path) (i : ℕ) → length path ≤ i → onward p (drop i path) ≡ []
+unfolding onward
+onward-none p path i h = ap (onward p) (drop-of-length-le path h)
+
+pub back-next : (p : Position) (path : Path) (i code : ℕ) → 0 < i → code ≡ opposite (getD path (i - 1) 0) → back p path i ≡ shift p (step code) ∷ back (shift p (step code)) path (i - 1)
+unfolding back
+back-next p path zero code h e = absurd (omega arith)
+back-next p path (suc i) code h e = let f : suc i - 1 ≡ i = omega arith in rw (e, f)
+
+pub back-none : (p : Position) (path : Path) (i : ℕ) → i ≤ 0 → back p path i ≡ []
+unfolding back
+back-none p path zero h = refl
+back-none p path (suc i) h = absurd (omega arith)
+
+-- ---- where a walk stands: on the place of row r and column c, at point i of a path of n codes; what is left gives what the whole walk gives
+
+pub record Walking (whole rest : List ℕ) (w h r c i n : ℕ) : Type 0 where
+  pub row : r < h
+  pub col : c < w
+  pub index : i ≤ n
+  pub same : rest ≡ whole
+
+module _ (w h m : ℕ) (whole : List ℕ) (s : Cells) (l : List Position) (r c i n : ℕ) (k : Walking whole (cover (freeIn w h m) (number s) l) w h r c i n) where
+  -- the next place is not free
+  pub walk-stops : (p : Position) (ps : List Position) (x : Place) → l ≡ p ∷ ps → x ≡ placeIf (freeIn w h m) p → x ≡ P.Nowhere → [] ≡ whole
+  walk-stops p ps x e f g =
+      sym (cover-blocked (freeIn w h m) (number s) p ps (place-false (freeIn w h m) p (sym g ∙ f)))
+      ∙ ap (cover (freeIn w h m) (number s)) (sym e)
+      ∙ k .same
+
+  -- it is free
+  pub walk-goes : (p : Position) (next : Position → List Position) (x : Place) → l ≡ p ∷ next p → x ≡ placeIf (freeIn w h m) p → (a b : ℕ) → x ≡ P.At a b → (t : Cells) → number t ≡ withCell (number s) (16 * a + b) → (j : ℕ) → j ≤ n → Walking whole (cover (freeIn w h m) (number t) (next (at (pos a) (pos b)))) w h a b j n
+  walk-goes p next x e f a b g t u j v =
+      let o = freeIn-placed w h m p a b (sym g ∙ f) in
+      let free = place-true (freeIn w h m) p a b (sym g ∙ f) .0 in
+      record {
+        row = o .row;
+        col = o .col;
+        index = v;
+        same =
+            ap₂ (λ (y : ℕ) (q : Position). cover (freeIn w h m) y (next q)) (u ∙ ap (withCell (number s)) (sym (placed-cell w h p a b o))) (sym (o .is-at))
+            ∙ sym (cover-free (freeIn w h m) (number s) p (next p) free)
+            ∙ ap (cover (freeIn w h m) (number s)) (sym e)
+            ∙ k .same;
+      }
+
+  -- there is none
+  pub walk-ends : l ≡ [] → value (s .w0 ∷ s .w1 ∷ s .w2 ∷ s .w3 ∷ []) ∷ [] ≡ whole
+  unfolding number
+  walk-ends e = sym (cover-end (freeIn w h m) (number s)) ∙ ap (cover (freeIn w h m) (number s)) (sym e) ∙ k .same
+
+-- ---- the fit, by its two walks
+
+module _ (w h m : ℕ) (path : Path) (j r c : ℕ) (hr : r < h) (hc : c < w) (hj : j ≤ length path) where
+  here-free : (t : Bool) → hasCell m (16 * r + c) ≡ t → freeIn w h m (at (pos r) (pos c)) ≡ not t
+  unfolding freeIn cellOf
+  here-free t e = rw (inside-at w h r c hr hc, e)
+
+  -- its point j lies on a mark
+  pub fit-marked : hasCell m (16 * r + c) ≡ true → [] ≡ cover (freeIn w h m) 0 (moved (offset (pointAt path j) (at (pos r) (pos c))) path)
+  unfolding walked
+  fit-marked e =
+      let p : Position = at (pos r) (pos c) in
+      sym (cover-blocked (freeIn w h m) 0 p (back p path j ++ onward p (drop j path)) (here-free true e)) ∙ walked-moved (freeIn w h m) path j p hj
+
+  -- its point j lies on a free place: the walk back, and then the walk on
+  module _ (free : hasCell m (16 * r + c) ≡ false) (none first : ℕ) (empty : none ≡ value (0 ∷ 0 ∷ 0 ∷ 0 ∷ [])) (start : first ≡ withCell none (16 * r + c)) (behind : Fit) (e : fitPieces behind ≡ cover (freeIn w h m) first (back (at (pos r) (pos c)) path j)) where
+    fit-free : flatMap (λ n. cover (freeIn w h m) n (onward (at (pos r) (pos c)) (drop j path))) (fitPieces behind) ≡ cover (freeIn w h m) 0 (moved (offset (pointAt path j) (at (pos r) (pos c))) path)
+    unfolding walked cellOf
+    fit-free =
+        let p : Position = at (pos r) (pos c) in
+        let f = freeIn w h m in
+        let q : first ≡ withCell 0 (cellOf p) = start ∙ ap (λ (n : ℕ). withCell n (16 * r + c)) (empty ∙ value-none) in
+        ap (flatMap (λ n. cover f n (onward p (drop j path)))) (e ∙ ap (λ (n : ℕ). cover f n (back p path j)) q)
+        ∙ sym (cover-append f (back p path j) (onward p (drop j path)) (withCell 0 (cellOf p)))
+        ∙ sym (cover-free f 0 p (back p path j ++ onward p (drop j path)) (here-free false free))
+        ∙ walked-moved f path j p hj
+
+    pub fit-stops : behind ≡ F.Nothing → [] ≡ cover (freeIn w h m) 0 (moved (offset (pointAt path j) (at (pos r) (pos c))) path)
+    unfolding flatMap
+    fit-stops g = ap (λ (x : Fit). flatMap (λ n. cover (freeIn w h m) n (onward (at (pos r) (pos c)) (drop j path))) (fitPieces x)) (sym g) ∙ fit-free
+
+    pub fit-goes : (w0 w1 w2 w3 : ℕ) → behind ≡ F.Piece w0 w1 w2 w3 → (set : ℕ) → set ≡ value (w0 ∷ w1 ∷ w2 ∷ w3 ∷ []) → (r′ : List ℕ) → r′ ≡ cover (freeIn w h m) set (onward (at (pos r) (pos c)) (drop j path)) → r′ ≡ cover (freeIn w h m) 0 (moved (offset (pointAt path j) (at (pos r) (pos c))) path)
+    unfolding flatMap
+    fit-goes w0 w1 w2 w3 g set u r′ v =
+        let on : ℕ → List ℕ = λ n. cover (freeIn w h m) n (onward (at (pos r) (pos c)) (drop j path)) in
+        v
+        ∙ ap on u
+        ∙ sym (append-nil (on (value (w0 ∷ w1 ∷ w2 ∷ w3 ∷ []))))
+        ∙ ap (λ (x : Fit). flatMap on (fitPieces x)) (sym g)
+        ∙ fit-free

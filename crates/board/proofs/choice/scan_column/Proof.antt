@@ -1,0 +1,44 @@
+-- `board::choice::scan_column` meets its contract: the loop keeps the best of the rows so far (`Scanned`).
+-- Assumes nothing.
+use mathlib.Core.Bool.{not}
+use Prim.Native.Nat.{_+_, _-_, _*_, _≤_}
+use lib.ListN.{getD}
+use Rattle.cells.specs.Set.{hasCell}
+use Rattle.cells.specs.Words.{number}
+use Rattle.cells.specs.Arrays.{listOf}
+use Rattle.board.proofs.ChoiceLaws.{Scanned, scanned-none, scanned-more, scanned-all}
+use borrow.Author.Needs.{needs}
+use native.Mathlib.Omega.{arith}
+use Rattle.board.proofs.choice.scan_column.Statement.{statement}
+use Rattle.board.proofs.choice.scan_column.Tie as tie
+
+abbrev Inv-loop : tie.InvT-loop
+Inv-loop marks counts height col found₀ row₀ found row =
+    (row ≤ height) × Scanned (λ d. not (hasCell (number marks) d)) (λ d. getD counts d 0) found₀ found (listOf (λ i. 16 * i + col) row)
+
+abbrev μ-loop : tie.MeasureT-loop
+μ-loop marks counts height col found₀ row₀ found row = height - row
+
+loop-holds : tie.Need-loop-holds Inv-loop μ-loop
+loop-holds c = (search needs, scanned-none _ _ _ _)
+
+loop-again : tie.Need-loop-again Inv-loop μ-loop
+loop-again c = (omega arith, scanned-more _ _ _ _ _ _ _ (c .before .before .loop .inv .1) (c .look-at .ensures))
+
+returns : tie.Need-returns Inv-loop μ-loop
+returns c = scanned-all _ _ _ _ _ _ _ (c .before .loop .inv .1) (c .before .loop .inv .0) (c .loop-test .left)
+
+pub scan-column-spec : {M : Type 1} → statement M
+scan-column-spec =
+    tie.close
+    (tie.spec
+    Inv-loop
+    μ-loop
+    loop-holds
+    (λ c. search needs)
+    (λ c. search needs)
+    (λ c κs. search needs)
+    (λ c. search needs)
+    (λ c. search needs)
+    loop-again
+    returns)

@@ -1,0 +1,12 @@
+pub mod Board
+pub mod Children
+pub mod Inner
+pub mod CountLaws
+pub mod ChosenLaws
+pub mod PruneLaws
+pub mod FitLaws
+pub mod MemberLaws
+pub mod PieceLaws
+pub mod ChildLaws
+pub mod BoardLaws
+pub mod Examples

@@ -1,0 +1,160 @@
+// Sizes, the fixed marks of a shape, and the test of a board, cell by cell. Private helpers.
+use crate::RectangularBoard;
+use cells::Cells;
+ghost use mathlib.Core.Path.{_≡_};
+ghost use mathlib.Core.Bool.{cond};
+ghost use Prim.Native.Nat.{_≤_};
+ghost use Rattle.cells.specs.Set.{withCell};
+ghost use Rattle.cells.specs.Words.{number};
+ghost use Rattle.cells.specs.Arrays.{allBelow};
+ghost use Rattle.board.specs.Board.{boardOf, positionOf, inside, setOf, isFree, freeCount, sizeOk, markOk, valid, shapeMark};
+
+// Whether width and height are each 1 to 16, or both 0.
+pub fn size_ok(width: usize, height: usize) -> bool
+    ensures { λ r. ⌜ r ≡ sizeOk width height ⌝ }
+{
+    if width == 0 {
+        return height == 0;
+    }
+    if 16 < width {
+        return false;
+    }
+    if height == 0 {
+        return false;
+    }
+    height <= 16
+}
+
+// Whether a cell is in the rectangle.
+pub fn is_inside(width: usize, height: usize, cell: usize) -> bool
+    ensures { λ r. ⌜ r ≡ inside width height (positionOf cell) ⌝ }
+{
+    if height <= cell / 16 {
+        return false;
+    }
+    cell % 16 < width
+}
+
+// Whether a cell of the rectangle is in the first rows, and in a column below one or from another
+// on.
+fn is_shape_mark(
+    width: usize,
+    height: usize,
+    rows: usize,
+    low: usize,
+    high: usize,
+    cell: usize,
+) -> bool
+    ensures { λ r. ⌜ r ≡ shapeMark width height rows low high cell ⌝ }
+{
+    if !is_inside(width, height, cell) {
+        return false;
+    }
+    if rows <= cell / 16 {
+        return false;
+    }
+    if cell % 16 < low {
+        return true;
+    }
+    high <= cell % 16
+}
+
+// The set, with the cell if the test holds.
+fn with_cell_if(set: Cells, cell: usize, test: bool) -> Cells
+    ensures { λ r. ⌜ number r ≡ cond test (withCell (number set) cell) (number set) ⌝ }
+{
+    if test {
+        return set.with_cell(cell);
+    }
+    set
+}
+
+// The marks of a shape.
+pub fn shape_marks(width: usize, height: usize, rows: usize, low: usize, high: usize) -> Cells
+    ensures { λ r. ⌜ number r ≡ setOf (shapeMark width height rows low high) ⌝ }
+{
+    let mut set = Cells::of_words(0, 0, 0, 0);
+    let mut cell: usize = 0;
+    while cell < 256 {
+        set = with_cell_if(
+            set,
+            cell,
+            is_shape_mark(width, height, rows, low, high, cell),
+        );
+        cell += 1;
+    }
+    set
+}
+
+// Whether a cell has at most one kind of mark, and none outside the rectangle.
+fn mark_ok(board: RectangularBoard, cell: usize) -> bool
+    ensures { λ r. ⌜ r ≡ markOk (boardOf board) cell ⌝ }
+{
+    let fixed = board.fixed;
+    let laid = board.laid;
+    if fixed.has_cell(cell) {
+        if laid.has_cell(cell) {
+            return false;
+        }
+        return is_inside(board.width, board.height, cell);
+    }
+    if laid.has_cell(cell) {
+        return is_inside(board.width, board.height, cell);
+    }
+    true
+}
+
+// Whether every cell is so.
+fn marks_ok(board: RectangularBoard) -> bool
+    ensures { λ r. ⌜ r ≡ allBelow (markOk (boardOf board)) 256 ⌝ }
+{
+    let mut cell: usize = 0;
+    while cell < 256 {
+        if !mark_ok(board, cell) {
+            return false;
+        }
+        cell += 1;
+    }
+    true
+}
+
+// Whether a board is accepted.
+pub fn is_ok(board: RectangularBoard) -> bool
+    ensures { λ r. ⌜ r ≡ valid (boardOf board) ⌝ }
+{
+    if !size_ok(board.width, board.height) {
+        return false;
+    }
+    marks_ok(board)
+}
+
+// 1 for a free cell, else 0.
+fn free_mark(board: RectangularBoard, cell: usize) -> usize
+    ensures { λ r. ⌜ (r ≡ cond (isFree (boardOf board) cell) 1 0) × (r ≤ 1) ⌝ }
+{
+    let fixed = board.fixed;
+    let laid = board.laid;
+    if !is_inside(board.width, board.height, cell) {
+        return 0;
+    }
+    if fixed.has_cell(cell) {
+        return 0;
+    }
+    if laid.has_cell(cell) {
+        return 0;
+    }
+    1
+}
+
+// The number of free cells.
+pub fn free_count(board: RectangularBoard) -> usize
+    ensures { λ r. ⌜ r ≡ freeCount (boardOf board) ⌝ }
+{
+    let mut n: usize = 0;
+    let mut cell: usize = 0;
+    while cell < 256 {
+        n += free_mark(board, cell);
+        cell += 1;
+    }
+    n
+}
