@@ -5,7 +5,6 @@ use mathlib.Core.Bool.{Bool, true, false, So, not, cond, _&&_, _||_, or-true}
 use mathlib.Core.List.{List, [], _∷_, _++_}
 use mathlib.Core.Option.{Option, none, some}
 use Prim.Native.Nat.{ℕ, _+_, _*_, _/_, _%_, _≤_, _<_}
-use native.Mathlib.Nat.{zero-add}
 use native.Mathlib.Numerals.{add-one}
 use native.Mathlib.Omega.{arith}
 use borrow.Author.Tests.{lt-ltb, le-ltb, eq-eqb, ne-eqb}
@@ -13,7 +12,7 @@ use lib.Dec.{eqb}
 use lib.ListN.{getD}
 use Rattle.cells.specs.Set.{hasCell}
 use Rattle.cells.specs.Arrays.{listOf}
-use Rattle.cells.specs.ArrayLaws.{listFrom-snoc}
+use Rattle.cells.specs.ArrayLaws.{listOf-snoc}
 use Rattle.tile.specs.Position.{shift}
 use Rattle.tile.specs.Direction.{step}
 use Rattle.board.specs.declared.walk.Place.{Place}
@@ -125,11 +124,6 @@ unfolding bestOf
 bestOf-append free count best [] ys = refl
 bestOf-append free count best (x ∷ xs) ys = bestOf-append free count (cond (free x && higher count x best) (some x) best) xs ys
 
--- one more at the end
-listOf-more : (f : ℕ → ℕ) (n : ℕ) → listOf f (n + 1) ≡ listOf f n ++ f n ∷ []
-unfolding listOf
-listOf-more f n = ap (listOf f) (add-one n) ∙ listFrom-snoc f 0 n ∙ ap (λ (k : ℕ). listOf f n ++ f k ∷ []) (zero-add n)
-
 module _ (free : ℕ → Bool) (count : ℕ → ℕ) where
   -- the best of a list, if the best before it is told by first
   abbrev pub Scanned : Chosen → Chosen → List ℕ → Type 0
@@ -142,7 +136,7 @@ module _ (free : ℕ → Bool) (count : ℕ → ℕ) where
   pub scanned-more : (first best next : Chosen) (f : ℕ → ℕ) (n : ℕ) → Scanned first best (listOf f n) → Scanned best next (f n ∷ []) → Scanned first next (listOf f (n + 1))
   scanned-more first best next f n a b o e =
       b (bestOf free count o (listOf f n)) (a o e)
-      ∙ ap (foundOf count) (sym (ap (bestOf free count o) (listOf-more f n) ∙ bestOf-append free count o (listOf f n) (f n ∷ [])))
+      ∙ ap (foundOf count) (sym (ap (bestOf free count o) (listOf-snoc f n) ∙ bestOf-append free count o (listOf f n) (f n ∷ [])))
 
   pub scanned-all : (first best : Chosen) (f : ℕ → ℕ) (n m : ℕ) → Scanned first best (listOf f n) → n ≤ m → m ≤ n → Scanned first best (listOf f m)
   scanned-all first best f n m a l k o e = let q : n ≡ m = omega arith in a o e ∙ ap (λ (i : ℕ). foundOf count (bestOf free count o (listOf f i))) q

@@ -20,9 +20,9 @@ use Rattle.board.specs.declared.placing.Stored.the-variants as S
 use Rattle.board.specs.Board.{Board, cellOf, positionOf, marks, isMarked, freeAt, isFree, valid}
 use Rattle.board.specs.Children.{neighbourCount, countOf, columns, higher, bestOf, chosen, pruned, children}
 use Rattle.board.specs.Inner.{foundOf, childOf, fitsOfAll, OnBoard, Keeps}
+use Rattle.board.specs.BoardLaws.{inside-iff, cellOf-positionOf, isMarked-marks, valid-width, valid-height}
 use Rattle.board.specs.ChosenLaws.{mem-columns, free-inside, chosen-best, pruned-chosen}
-use Rattle.board.specs.PieceLaws.{inside-at, cellOf-positionOf}
-use Rattle.board.specs.ChildLaws.{isMarked-marks, valid-width, valid-height, children-chosen, firsts-children}
+use Rattle.board.specs.ChildLaws.{children-chosen, firsts-children}
 use Rattle.board.proofs.PlacingLaws.{keeps-none}
 
 -- tests and counts that agree on the cells of a list find the same cell
@@ -56,7 +56,7 @@ module _ (b : Board) (wide : b .width ≤ 16) (high : b .height ≤ 16) (m : ℕ
       ap (λ (n : ℕ). not (hasCell n cell)) em
       ∙ ap not (sym (isMarked-marks b cell (omega arith)))
       ∙ sym
-      (ap (λ (t : Bool). t && not (isMarked b (cellOf (positionOf cell)))) (inside-at (b .width) (b .height) (cell / 16) (cell % 16) r c)
+      (ap (λ (t : Bool). t && not (isMarked b (cellOf (positionOf cell)))) (inside-iff (b .width) (b .height) (cell / 16) (cell % 16) .1 (r, c))
       ∙ ap (λ (n : ℕ). not (isMarked b n)) (cellOf-positionOf cell))
 
   pub chosen-is : bestOf (λ c. not (hasCell m c)) (λ c. getD counts c 0) none (columns (b .height) (b .width)) ≡ chosen b

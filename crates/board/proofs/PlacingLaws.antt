@@ -2,10 +2,8 @@
 -- come one behind the other. Rests on `Inner`, `cells` and the laws of children. Assumes nothing.
 use mathlib.Core.Path.{_≡_, refl, sym, ap, ap₂, _∙_, subst}
 use mathlib.Core.Bool.{Bool, true, false, So, not, cond, _&&_, and-eq-true-iff}
-use mathlib.Core.List.{List, [], _∷_, _++_, map, flatMap, append-nil, append-assoc}
+use mathlib.Core.List.{List, [], _∷_, _++_, map, flatMap}
 use Prim.Native.Nat.{ℕ, _+_, _-_, _*_, _/_, _^_, _≤_, _<_}
-use native.Mathlib.Nat.{zero-add}
-use native.Mathlib.Numerals.{add-one}
 use native.Mathlib.Decide.{ℕ-discrete}
 use native.Mathlib.Omega.{arith}
 use borrow.Author.Tests.{le-leb, lt-leb, leb-true, leb-false, ne-eqb}
@@ -17,7 +15,8 @@ use Rattle.cells.specs.Firsts.{holds, addNew, addFirsts}
 use Rattle.cells.specs.Arrays.{listFrom, listOf, allBelow}
 use Rattle.cells.specs.Lists.{setsIn, withSet, storedIn}
 use Rattle.cells.specs.FirstsLaws.{addFirsts-append, addNew-old, addNew-new}
-use Rattle.cells.specs.ArrayLaws.{getD-snoc, listFrom-snoc, allBelow-at}
+use Rattle.cells.specs.ArrayLaws.{getD-snoc, listOf-snoc, allBelow-at}
+use Rattle.cells.specs.MemberLaws.{map-append, flatMap-snoc}
 use Rattle.cells.specs.ListLaws.{length-storedIn, storedIn-none, setsIn-storedIn, storedIn-snoc}
 use Rattle.cells.specs.Set.{hasCell}
 use Rattle.tile.specs.declared.Tiles.{Tiles}
@@ -33,9 +32,8 @@ use Rattle.board.specs.declared.placing.Stored.the-variants as S
 use Rattle.board.specs.Board.{Board, cellOf, positionOf, inside, marks, isMarked, freeAt}
 use Rattle.board.specs.Children.{cover, moved, offset, pointAt, fitAt, fitsOf}
 use Rattle.board.specs.Inner.{freeIn, childOf, fitsOfAll, OnBoard, storedOf, Keeps}
+use Rattle.board.specs.BoardLaws.{cellOf-lt, isMarked-marks}
 use Rattle.board.specs.FitLaws.{cover-ext}
-use Rattle.board.specs.PieceLaws.{cellOf-lt}
-use Rattle.board.specs.ChildLaws.{isMarked-marks}
 
 -- ---- the state
 
@@ -175,75 +173,62 @@ module _ (b : Board) (old ns ws : List ℕ) where
 
 -- ---- fits one behind the other
 
-flatMap-snoc : {A : Type 0} (f : A → List ℕ) (xs : List A) (x : A) → flatMap f (xs ++ x ∷ []) ≡ flatMap f xs ++ f x
-unfolding flatMap
-flatMap-snoc f [] x = append-nil (f x)
-flatMap-snoc f (y ∷ xs) x = ap (λ (l : List ℕ). f y ++ l) (flatMap-snoc f xs x) ∙ sym (append-assoc (f y) (flatMap f xs) (f x))
-
-map-append : (f : ℕ → ℕ) (xs ys : List ℕ) → map f (xs ++ ys) ≡ map f xs ++ map f ys
-map-append f [] ys = refl
-map-append f (x ∷ xs) ys = ap (λ (l : List ℕ). f x ∷ l) (map-append f xs ys)
-
-listOf-snoc : {A : Type 0} (f : ℕ → A) (n : ℕ) → listOf f (n + 1) ≡ listOf f n ++ f n ∷ []
-unfolding listOf
-listOf-snoc f n = ap (listFrom f 0) (add-one n) ∙ listFrom-snoc f 0 n ∙ ap (λ (k : ℕ). listFrom f 0 n ++ f k ∷ []) (zero-add n)
-
 -- the children of the first n of a run of lists of pieces
-unfoldable pub kids : {A : Type 0} → Board → (A → List ℕ) → (ℕ → A) → ℕ → List ℕ
+unfoldable pub childrenOfFirst : {A : Type 0} → Board → (A → List ℕ) → (ℕ → A) → ℕ → List ℕ
 unfolding flatMap listOf
-kids b f g n = map (childOf b) (flatMap f (listOf g n))
+childrenOfFirst b f g n = map (childOf b) (flatMap f (listOf g n))
 
 module _ {A : Type 0} (b : Board) (f : A → List ℕ) (g : ℕ → A) where
-  pub kids-none : (ns : List ℕ) → addFirsts eqb ns (kids b f g 0) ≡ ns
-  unfolding kids addFirsts flatMap listOf listFrom
-  kids-none ns = refl
+  pub childrenOfFirst-none : (ns : List ℕ) → addFirsts eqb ns (childrenOfFirst b f g 0) ≡ ns
+  unfolding childrenOfFirst addFirsts flatMap listOf listFrom
+  childrenOfFirst-none ns = refl
 
-  pub kids-more : (ns : List ℕ) (n : ℕ) → addFirsts eqb (addFirsts eqb ns (kids b f g n)) (map (childOf b) (f (g n))) ≡ addFirsts eqb ns (kids b f g (n + 1))
-  unfolding kids
-  kids-more ns n =
+  pub childrenOfFirst-more : (ns : List ℕ) (n : ℕ) → addFirsts eqb (addFirsts eqb ns (childrenOfFirst b f g n)) (map (childOf b) (f (g n))) ≡ addFirsts eqb ns (childrenOfFirst b f g (n + 1))
+  unfolding childrenOfFirst
+  childrenOfFirst-more ns n =
       sym
       (ap (λ (l : List ℕ). addFirsts eqb ns (map (childOf b) l)) (ap (flatMap f) (listOf-snoc g n) ∙ flatMap-snoc f (listOf g n) (g n))
       ∙ ap (addFirsts eqb ns) (map-append (childOf b) (flatMap f (listOf g n)) (f (g n)))
       ∙ addFirsts-append eqb ns (map (childOf b) (flatMap f (listOf g n))) (map (childOf b) (f (g n))))
 
 -- those of a tile's first points on a cell, and those of the first tiles
-unfoldable pub pointKids : Board → ℕ → Path → ℕ → List ℕ
-unfolding kids fitAt
-pointKids b cell path n = kids b (λ j. fitAt b path j cell) (λ j. j) n
+unfoldable pub pointChildren : Board → ℕ → Path → ℕ → List ℕ
+unfolding childrenOfFirst fitAt
+pointChildren b cell path n = childrenOfFirst b (λ j. fitAt b path j cell) (λ j. j) n
 
-unfoldable pub tileKids : Board → ℕ → List ℕ → List ℕ → ℕ → List ℕ
-unfolding kids fitsOf
-tileKids b cell lens codes n = kids b (fitsOf b cell) (pathAt lens codes) n
+unfoldable pub tileChildren : Board → ℕ → List ℕ → List ℕ → ℕ → List ℕ
+unfolding childrenOfFirst fitsOf
+tileChildren b cell lens codes n = childrenOfFirst b (fitsOf b cell) (pathAt lens codes) n
 
 module _ (b : Board) (cell : ℕ) (path : Path) (old ns ws : List ℕ) (st : Stored) where
-  pub points-none : Keeps old ns ws st → Keeps old (addFirsts eqb ns (pointKids b cell path 0)) ws st
-  unfolding pointKids
-  points-none k = subst (λ (l : List ℕ). Keeps old l ws st) (sym (kids-none b (λ j. fitAt b path j cell) (λ j. j) ns)) k
+  pub points-none : Keeps old ns ws st → Keeps old (addFirsts eqb ns (pointChildren b cell path 0)) ws st
+  unfolding pointChildren
+  points-none k = subst (λ (l : List ℕ). Keeps old l ws st) (sym (childrenOfFirst-none b (λ j. fitAt b path j cell) (λ j. j) ns)) k
 
-  pub points-more : (n : ℕ) → Keeps old (addFirsts eqb (addFirsts eqb ns (pointKids b cell path n)) (map (childOf b) (fitAt b path n cell))) ws st → Keeps old (addFirsts eqb ns (pointKids b cell path (n + 1))) ws st
-  unfolding pointKids
-  points-more n k = subst (λ (l : List ℕ). Keeps old l ws st) (kids-more b (λ j. fitAt b path j cell) (λ j. j) ns n) k
+  pub points-more : (n : ℕ) → Keeps old (addFirsts eqb (addFirsts eqb ns (pointChildren b cell path n)) (map (childOf b) (fitAt b path n cell))) ws st → Keeps old (addFirsts eqb ns (pointChildren b cell path (n + 1))) ws st
+  unfolding pointChildren
+  points-more n k = subst (λ (l : List ℕ). Keeps old l ws st) (childrenOfFirst-more b (λ j. fitAt b path j cell) (λ j. j) ns n) k
 
-  pub points-all : (n : ℕ) → n ≤ length path + 1 → length path < n → Keeps old (addFirsts eqb ns (pointKids b cell path n)) ws st → Keeps old (addFirsts eqb ns (map (childOf b) (fitsOf b cell path))) ws st
-  unfolding pointKids kids fitsOf
+  pub points-all : (n : ℕ) → n ≤ length path + 1 → length path < n → Keeps old (addFirsts eqb ns (pointChildren b cell path n)) ws st → Keeps old (addFirsts eqb ns (map (childOf b) (fitsOf b cell path))) ws st
+  unfolding pointChildren childrenOfFirst fitsOf
   points-all n h i k =
       let e : n ≡ length path + 1 = omega arith in
       subst (λ (m : ℕ). Keeps old (addFirsts eqb ns (map (childOf b) (flatMap (λ j. fitAt b path j cell) (listOf (λ j. j) m)))) ws st) e k
 
 module _ (b : Board) (cell : ℕ) (lens codes old ws : List ℕ) (st : Stored) where
-  pub tiles-none : Keeps old [] ws st → Keeps old (addFirsts eqb [] (tileKids b cell lens codes 0)) ws st
-  unfolding tileKids
-  tiles-none k = subst (λ (l : List ℕ). Keeps old l ws st) (sym (kids-none b (fitsOf b cell) (pathAt lens codes) [])) k
+  pub tiles-none : Keeps old [] ws st → Keeps old (addFirsts eqb [] (tileChildren b cell lens codes 0)) ws st
+  unfolding tileChildren
+  tiles-none k = subst (λ (l : List ℕ). Keeps old l ws st) (sym (childrenOfFirst-none b (fitsOf b cell) (pathAt lens codes) [])) k
 
-  pub tiles-more : (n : ℕ) (path : Path) → path ≡ pathAt lens codes n → Keeps old (addFirsts eqb (addFirsts eqb [] (tileKids b cell lens codes n)) (map (childOf b) (fitsOf b cell path))) ws st → Keeps old (addFirsts eqb [] (tileKids b cell lens codes (n + 1))) ws st
-  unfolding tileKids
+  pub tiles-more : (n : ℕ) (path : Path) → path ≡ pathAt lens codes n → Keeps old (addFirsts eqb (addFirsts eqb [] (tileChildren b cell lens codes n)) (map (childOf b) (fitsOf b cell path))) ws st → Keeps old (addFirsts eqb [] (tileChildren b cell lens codes (n + 1))) ws st
+  unfolding tileChildren
   tiles-more n path e k =
       subst (λ (l : List ℕ). Keeps old l ws st)
-      (ap (λ (p : Path). addFirsts eqb (addFirsts eqb [] (kids b (fitsOf b cell) (pathAt lens codes) n)) (map (childOf b) (fitsOf b cell p))) e ∙ kids-more b (fitsOf b cell) (pathAt lens codes) [] n)
+      (ap (λ (p : Path). addFirsts eqb (addFirsts eqb [] (childrenOfFirst b (fitsOf b cell) (pathAt lens codes) n)) (map (childOf b) (fitsOf b cell p))) e ∙ childrenOfFirst-more b (fitsOf b cell) (pathAt lens codes) [] n)
       k
 
-  pub tiles-all : (n count : ℕ) → n ≤ count → count ≤ n → Keeps old (addFirsts eqb [] (tileKids b cell lens codes n)) ws st → Keeps old (addFirsts eqb [] (map (childOf b) (fitsOfAll b cell (listOf (pathAt lens codes) count)))) ws st
-  unfolding tileKids kids fitsOfAll
+  pub tiles-all : (n count : ℕ) → n ≤ count → count ≤ n → Keeps old (addFirsts eqb [] (tileChildren b cell lens codes n)) ws st → Keeps old (addFirsts eqb [] (map (childOf b) (fitsOfAll b cell (listOf (pathAt lens codes) count)))) ws st
+  unfolding tileChildren childrenOfFirst fitsOfAll
   tiles-all n count h i k =
       let e : n ≡ count = omega arith in
       subst (λ (m : ℕ). Keeps old (addFirsts eqb [] (map (childOf b) (flatMap (fitsOf b cell) (listOf (pathAt lens codes) m)))) ws st) e k

@@ -1,27 +1,24 @@
 -- What the tests and loops of `shape` come to: sizes, the marks of a shape, the test of a board and the count of its free cells.
--- Rests on `Board`. Assumes nothing.
+-- Rests on `BoardLaws`. Assumes nothing.
 use mathlib.Core.Path.{_≡_, refl, sym, ap, _∙_}
 use mathlib.Core.Bool.{Bool, true, false, cond, or-true, or-false}
 use Prim.Native.Nat.{ℕ, _+_, _-_, _*_, _/_, _%_, _^_, _≤_, _<_}
 use native.Mathlib.Nat.{zero-mul, add-zero}
 use native.Mathlib.Numerals.{add-one}
 use native.Mathlib.Omega.{arith}
-use borrow.Author.Tests.{lt-ltb, le-ltb, lt-leb, le-leb, ne-eqb}
+use borrow.Author.Tests.{lt-ltb, le-ltb, le-leb, ne-eqb}
 use lib.Dec.{eqb, ltb, leb}
 use Rattle.cells.specs.Set.{hasCell, fromBits, withCell, sizeBelow, size}
 use Rattle.cells.specs.Arrays.{allBelow}
 use Rattle.cells.specs.BitLaws.{bit-high, bit-fromBits, fromBits-lt}
-use Rattle.board.specs.Board.{Board, cellOf, positionOf, inside, below, setOf, isMarked, freeAt, isFree, freeSet, freeCount, sizeOk, markOk, valid, shapeMark}
+use Rattle.board.specs.Board.{Board, positionOf, inside, below, setOf, isMarked, freeAt, isFree, freeSet, freeCount, sizeOk, markOk, valid, shapeMark}
+use Rattle.board.specs.BoardLaws.{cellOf-positionOf, digit}
 
 -- ---- sizes
 
 pub sizeOk-none : (w h : ℕ) → w ≡ 0 → eqb h 0 ≡ sizeOk w h
 unfolding sizeOk
 sizeOk-none w h e = rw e (sym (or-false (eqb h 0)))
-
-pub sizeOk-wide : (w h : ℕ) → 16 < w → false ≡ sizeOk w h
-unfolding sizeOk
-sizeOk-wide w h l = rw (ne-eqb w 0 (λ e. omega arith), lt-ltb 0 w (omega arith), lt-leb w 16 l)
 
 pub sizeOk-flat : (w h : ℕ) → (w ≡ 0 → ⊥) → w ≤ 16 → h ≡ 0 → false ≡ sizeOk w h
 unfolding sizeOk
@@ -63,10 +60,6 @@ module _ (w h rows low high cell : ℕ) where
     shape-high l k = rw (e, lt-ltb (cell / 16) rows l, le-ltb (cell % 16) low k)
 
 -- ---- a set that is filled in the order of its cells
-
-digit : (t : Bool) → cond t 1 0 ≤ 1
-digit true = omega arith
-digit false = omega arith
 
 module _ (test : ℕ → Bool) where
   unfoldable pub bits : ℕ → ℕ
@@ -124,10 +117,6 @@ allBelow-end p i e l k = let q : i ≡ 256 = omega arith in sym e ∙ ap (allBel
 
 -- ---- the count of the free cells
 
-cell-position : (cell : ℕ) → cellOf (positionOf cell) ≡ cell
-unfolding cellOf
-cell-position cell = omega arith
-
 module _ (b : Board) (cell : ℕ) where
   pub free-outside : inside (b .width) (b .height) (positionOf cell) ≡ false → _≡_ {A = ℕ} 0 (cond (isFree b cell) 1 0)
   unfolding isFree freeAt
@@ -136,15 +125,15 @@ module _ (b : Board) (cell : ℕ) where
   module _ (e : inside (b .width) (b .height) (positionOf cell) ≡ true) where
     pub free-fixed : hasCell (b .fixed) cell ≡ true → _≡_ {A = ℕ} 0 (cond (isFree b cell) 1 0)
     unfolding isFree freeAt isMarked
-    free-fixed f = rw (e, cell-position cell, f)
+    free-fixed f = rw (e, cellOf-positionOf cell, f)
 
     pub free-laid : hasCell (b .fixed) cell ≡ false → hasCell (b .laid) cell ≡ true → _≡_ {A = ℕ} 0 (cond (isFree b cell) 1 0)
     unfolding isFree freeAt isMarked
-    free-laid f g = rw (e, cell-position cell, f, g)
+    free-laid f g = rw (e, cellOf-positionOf cell, f, g)
 
     pub free-none : hasCell (b .fixed) cell ≡ false → hasCell (b .laid) cell ≡ false → _≡_ {A = ℕ} 1 (cond (isFree b cell) 1 0)
     unfolding isFree freeAt isMarked
-    free-none f g = rw (e, cell-position cell, f, g)
+    free-none f g = rw (e, cellOf-positionOf cell, f, g)
 
 module _ (b : Board) where
   pub counted-none : 0 ≡ sizeBelow 0 (freeSet b)

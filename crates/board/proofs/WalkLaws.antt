@@ -32,8 +32,8 @@ use Rattle.board.specs.declared.walk.Fit.the-variants as F
 use Rattle.board.specs.Board.{cellOf, below, inside}
 use Rattle.board.specs.Children.{cover, moved, offset, pointAt}
 use Rattle.board.specs.Inner.{freeIn, back, onward, walked, placeIf, fitPieces}
+use Rattle.board.specs.BoardLaws.{inside-parts, inside-iff}
 use Rattle.board.specs.FitLaws.{cover-free, cover-blocked, cover-end, cover-append, walked-moved}
-use Rattle.board.specs.PieceLaws.{inside-parts, inside-at}
 
 -- ---- the place at a position
 
@@ -236,7 +236,7 @@ module _ (w h m : ℕ) (whole : List ℕ) (s : Cells) (l : List Position) (r c i
 module _ (w h m : ℕ) (path : Path) (j r c : ℕ) (hr : r < h) (hc : c < w) (hj : j ≤ length path) where
   here-free : (t : Bool) → hasCell m (16 * r + c) ≡ t → freeIn w h m (at (pos r) (pos c)) ≡ not t
   unfolding freeIn cellOf
-  here-free t e = rw (inside-at w h r c hr hc, e)
+  here-free t e = rw (inside-iff w h r c .1 (hr, hc), e)
 
   -- its point j lies on a mark
   pub fit-marked : hasCell m (16 * r + c) ≡ true → [] ≡ cover (freeIn w h m) 0 (moved (offset (pointAt path j) (at (pos r) (pos c))) path)

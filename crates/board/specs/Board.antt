@@ -1,5 +1,5 @@
--- Definitions: boards by their numbers; which boards are accepted; free cells; and the boards that are made. "01" quotes its section Boards.
--- Assumes nothing.
+-- Definitions: boards by their numbers; free cells; which boards are accepted; and the boards that are made. What stands in quotation marks is
+-- 01's, from its sections Boards and Children. Assumes nothing.
 use mathlib.Core.Path.{_≡_}
 use mathlib.Core.Bool.{Bool, false, not, cond, _&&_, _||_}
 use Prim.Native.Nat.{ℕ, _+_, _*_, _/_, _%_}
@@ -115,7 +115,7 @@ unfolding inside
 shapeMark w h rows low high cell =
     inside w h (positionOf cell) && (ltb (cell / 16) rows && (ltb (cell % 16) low || leb high (cell % 16)))
 
--- the board of a size with these cells fixed; refusal 4 for a wrong size
+-- the board of a size with these cells fixed, none where there are no such rows; refusal 4 for a wrong size
 unfoldable pub shaped : ℕ → ℕ → ℕ → ℕ → ℕ → Answer Board
 unfolding sizeOk setOf shapeMark
 shaped w h rows low high =

@@ -1,116 +1,41 @@
 -- Laws of children: what an accepted board is; a piece shares no cell with the marks, so laying it adds it to them; the children are the marks with a
--- piece over the chosen cell added, each once, and every such piece where the board is not pruned; their sizes and their number. Rests on
--- `PieceLaws`. Assumes nothing.
+-- piece over the chosen cell added, each once, and every such piece where the board is not pruned; their sizes and their number; a full
+-- board has none; laying a piece keeps a board accepted. Rests on `ChosenLaws` and `PieceLaws`. Assumes nothing.
 use mathlib.Core.Path.{_≡_, refl, sym, ap, _∙_, subst}
 use mathlib.Core.Logic.{_⊎_, inl, inr, ⊎-elim}
-use mathlib.Core.Bool.{Bool, true, false, So, not, cond, _&&_, _||_, false≢true, and-eq-true-iff}
+use mathlib.Core.Bool.{Bool, true, false, So, not, cond, and-eq-true-iff}
 use mathlib.Core.List.{List, [], _∷_, map, flatMap, List·Memᴰ as Mem, List·Memᴰ·head as here, List·Memᴰ·not-nil as not-nil, Memᴰ·cast as cast, Memᴰ·map as mem-map, Memᴰ·of-map as of-map}
 use mathlib.Core.Option.{Option, none, some}
-use Prim.Native.Nat.{ℕ, _+_, _^_, _≤_, _<_, max}
+use Prim.Native.Nat.{ℕ, _+_, _^_, _≤_, _<_}
 use native.Mathlib.Decide.{ℕ-discrete, decLt}
 use native.Mathlib.Omega.{arith}
-use borrow.Author.Tests.{eqb-true, eqb-false, eq-eqb, leb-true, not-true}
-use lib.Dec.{eqb, ltb, leb}
+use borrow.Author.Tests.{eqb-true, eq-eqb, not-true}
+use lib.Dec.{eqb}
 use lib.Pow.{pow-pos}
 use lib.ListN.{length, length-map}
 use Rattle.cells.specs.Set.{bit, hasCell, unionOf, Disjoint, size}
 use Rattle.cells.specs.BitLaws.{bit-le, bit-ext, bit-high, bit-add, add-lt}
-use Rattle.cells.specs.SetLaws.{hasCell-iff, hasCell-false, bit-unionOf, unionOf-lt, size-add}
+use Rattle.cells.specs.SetLaws.{hasCell-false, bit-unionOf, unionOf-lt, size-add}
+use Rattle.cells.specs.Arrays.{allBelow}
+use Rattle.cells.specs.ArrayLaws.{allBelow-all}
 use Rattle.cells.specs.Firsts.{Once, firsts}
 use Rattle.cells.specs.FirstsLaws.{so-eq, firsts-map}
-use Rattle.cells.specs.Arrays.{allBelow}
-use Rattle.cells.specs.ArrayLaws.{allBelow-at}
 use Rattle.tile.specs.Position.{Position}
 use Rattle.tile.specs.Path.{Path, cellCount}
-use Rattle.board.specs.Board.{Board, cellOf, positionOf, inside, marks, isMarked, freeAt, sizeOk, markOk, valid}
-use Rattle.board.specs.Children.{chosen, withCells, moved, Fits, IsPiece, fitsOf, pieces, lay, pruned, children}
+use Rattle.board.specs.Board.{Board, cellOf, positionOf, inside, marks, isMarked, freeAt, isFull, sizeOk, markOk, valid}
+use Rattle.board.specs.Children.{chosen, withCells, moved, Fits, IsPiece, fitsOf, pieces, lay, pruned, children, mostChildren}
+use Rattle.board.specs.BoardLaws.{positionOf-cellOf, freeAt-inside, bit-free, marks-lt, isMarked-marks, valid-size, valid-mark, valid-width, valid-height}
+use Rattle.board.specs.ChosenLaws.{full-iff}
 use Rattle.board.specs.FitLaws.{bit-withCells-iff, withCells-lt}
-use Rattle.board.specs.MemberLaws.{map-ext, once-map}
-use Rattle.board.specs.PieceLaws.{mostChildren, fits-are-pieces, pieces-are-pieces, mem-pieces, once-pieces, length-pieces, size-piece}
-
-hasCell-none : (n c : ℕ) → hasCell n c ≡ false → bit n c ≡ 0
-unfolding hasCell
-hasCell-none n c e = let other = eqb-false (bit n c) 1 e in omega (arith, bit-le n c)
-
--- ---- the marks of either kind
-
-pub marks-lt : (b : Board) → marks b < 2 ^ 256
-unfolding marks
-marks-lt b = unionOf-lt (b .fixed) (b .laid)
-
-bit-marks : (b : Board) (c : ℕ) → c < 256 → bit (marks b) c ≡ max (bit (b .fixed) c) (bit (b .laid) c)
-unfolding marks
-bit-marks b c h = bit-unionOf (b .fixed) (b .laid) c h
-
-pub isMarked-marks : (b : Board) (c : ℕ) → c < 256 → isMarked b c ≡ hasCell (marks b) c
-unfolding isMarked
-isMarked-marks b c h = go (hasCell (b .fixed) c) (hasCell (b .laid) c) refl refl
-  where
-    go : (x y : Bool) → hasCell (b .fixed) c ≡ x → hasCell (b .laid) c ≡ y → (x || y) ≡ hasCell (marks b) c
-    go true y e f = sym (hasCell-iff (marks b) c .1 (omega (arith, bit-marks b c h, hasCell-iff (b .fixed) c .0 e, bit-le (b .laid) c)))
-    go false true e f = sym (hasCell-iff (marks b) c .1 (omega (arith, bit-marks b c h, hasCell-iff (b .laid) c .0 f, bit-le (b .fixed) c)))
-    go false false e f = sym (hasCell-false (marks b) c (omega (arith, bit-marks b c h, hasCell-none (b .fixed) c e, hasCell-none (b .laid) c f)))
-
--- ---- an accepted board
-
-sizeOk-le : (w h : ℕ) → So (sizeOk w h) → (w ≤ 16) × (h ≤ 16)
-unfolding sizeOk
-sizeOk-le w h = go (eqb w 0 && eqb h 0) refl
-  where
-    go : (t : Bool) → (eqb w 0 && eqb h 0) ≡ t → So (t || ltb 0 w && leb w 16 && (ltb 0 h && leb h 16)) → (w ≤ 16) × (h ≤ 16)
-    go true e s =
-        let both = and-eq-true-iff (eqb w 0) (eqb h 0) .0 e in
-        (omega (arith, eqb-true w 0 (both .0)), omega (arith, eqb-true h 0 (both .1)))
-    go false e s =
-        let both = and-eq-true-iff (ltb 0 w && leb w 16) (ltb 0 h && leb h 16) .0 s in
-        (leb-true w 16 (and-eq-true-iff (ltb 0 w) (leb w 16) .0 (both .0) .1), leb-true h 16 (and-eq-true-iff (ltb 0 h) (leb h 16) .0 (both .1) .1))
-
-module _ (b : Board) (ok : So (valid b)) where
-  valid-parts : So (sizeOk (b .width) (b .height)) × So (allBelow (markOk b) 256)
-  unfolding valid
-  valid-parts = and-eq-true-iff (sizeOk (b .width) (b .height)) (allBelow (markOk b) 256) .0 ok
-
-  pub valid-width : b .width ≤ 16
-  valid-width = sizeOk-le (b .width) (b .height) (valid-parts .0) .0
-
-  pub valid-height : b .height ≤ 16
-  valid-height = sizeOk-le (b .width) (b .height) (valid-parts .0) .1
-
-  mark-parts : (c : ℕ) → c < 256 → So (not (hasCell (b .fixed) c && hasCell (b .laid) c)) × So (inside (b .width) (b .height) (positionOf c) || not (isMarked b c))
-  unfolding markOk
-  mark-parts c h =
-      and-eq-true-iff (not (hasCell (b .fixed) c && hasCell (b .laid) c)) (inside (b .width) (b .height) (positionOf c) || not (isMarked b c)) .0
-      (allBelow-at (markOk b) 256 c (valid-parts .1) h)
-
-  -- no cell is both fixed and laid
-  pub valid-disjoint : b .fixed < 2 ^ 256 → Disjoint (b .fixed) (b .laid)
-  valid-disjoint small c = go (decLt c 256)
-    where
-      go : Dec (c < 256) → bit (b .fixed) c + bit (b .laid) c ≤ 1
-      go (yes h) = both (ℕ-discrete (bit (b .fixed) c) 1) (ℕ-discrete (bit (b .laid) c) 1)
-        where
-          both : Dec (bit (b .fixed) c ≡ 1) → Dec (bit (b .laid) c ≡ 1) → bit (b .fixed) c + bit (b .laid) c ≤ 1
-          both (yes e) (yes f) =
-              absurd (false≢true (sym (not-true (hasCell (b .fixed) c && hasCell (b .laid) c) (mark-parts c h .0)) ∙ and-eq-true-iff (hasCell (b .fixed) c) (hasCell (b .laid) c) .1 (hasCell-iff (b .fixed) c .1 e, hasCell-iff (b .laid) c .1 f)))
-          both (yes e) (no f) = omega (arith, bit-le (b .laid) c)
-          both (no e) y = omega (arith, bit-le (b .fixed) c, bit-le (b .laid) c)
-      go (no h) = omega (arith, bit-high 256 (b .fixed) c small (omega arith), bit-le (b .laid) c)
-
-  -- no mark is outside the rectangle
-  pub valid-inside : (c : ℕ) → c < 256 → So (hasCell (marks b) c) → So (inside (b .width) (b .height) (positionOf c))
-  valid-inside c h e = go (inside (b .width) (b .height) (positionOf c)) (isMarked b c) (isMarked-marks b c h ∙ e) (mark-parts c h .1)
-    where
-      go : (x y : Bool) → So y → So (x || not y) → So x
-      go true y f s = refl
-      go false true f s = s
-      go false false f s = f
+use Rattle.cells.specs.MemberLaws.{map-ext, once-map}
+use Rattle.board.specs.PieceLaws.{fits-are-pieces, pieces-are-pieces, mem-pieces, once-pieces, length-pieces, size-piece}
 
 -- ---- a piece and the marks
 
 free-unmarked : (b : Board) (p : Position) → cellOf p < 256 → So (freeAt b p) → bit (marks b) (cellOf p) ≡ 0
 unfolding freeAt
 free-unmarked b p h e =
-    hasCell-none (marks b) (cellOf p)
+    bit-free (marks b) (cellOf p)
     (sym (isMarked-marks b (cellOf p) h) ∙ not-true (isMarked b (cellOf p)) (and-eq-true-iff (inside (b .width) (b .height) p) (not (isMarked b (cellOf p))) .0 e .1))
 
 module _ (b : Board) (paths : List Path) (n : ℕ) (piece : IsPiece b paths n) where
@@ -244,3 +169,47 @@ module _ (b : Board) (ok : So (valid b)) where
     piece-child e cell f n p h =
         subst (Mem (marks b + n)) (sym (children-chosen b paths e cell f))
         (cast (sym (marks-lay b paths n p)) (mem-map (λ piece. marks (lay b piece)) (mem-pieces b paths cell n (valid-width b ok) (valid-height b ok) .1 (p, h))))
+
+    -- "A full board has none"
+    pub full-children : isFull b ≡ true → children b paths ≡ []
+    full-children e = children-full b paths (full-iff b (valid-width b ok) (valid-height b ok) .0 e)
+
+    -- a child has as many cells more as its tile has
+    pub child-size : (x : ℕ) → Mem x (children b paths) → (path : Path) × Mem path paths × (size x ≡ size (marks b) + cellCount path)
+    child-size x m =
+        let r = child-piece x m in
+        let p = r .3 in
+        (p .0, p .1, ap size (r .5 ∙ ap (λ (n : ℕ). marks b + n) (p .4)) ∙ size-child (p .0) (p .2) (p .3))
+
+    -- ---- a piece laid on the board
+
+    module _ (n : ℕ) (piece : IsPiece b paths n) where
+      -- a cell of the piece is in the rectangle and not fixed
+      piece-cell : (c : ℕ) → c < 256 → bit n c ≡ 1 → So (inside (b .width) (b .height) (positionOf c)) × (hasCell (b .fixed) c ≡ false)
+      unfolding marks
+      piece-cell c h e =
+          let r = bit-withCells-iff (moved (piece .2) (piece .0)) c h .0 (ap (λ (x : ℕ). bit x c) (sym (piece .4)) ∙ e) in
+          let within = freeAt-inside b (r .0) (piece .3 (r .0) (r .1)) in (
+            subst (λ (p : Position). So (inside (b .width) (b .height) p)) (sym (positionOf-cellOf (b .width) (b .height) (r .0) within (valid-width b ok)) ∙ ap positionOf (r .2)) within,
+            hasCell-false (b .fixed) c (omega (arith, piece-apart b paths n piece c, bit-unionOf (b .fixed) (b .laid) c h)),
+          )
+
+      -- elsewhere the laid marks are as they were
+      lay-old : (c : ℕ) → c < 256 → bit n c ≡ 0 → hasCell (unionOf (b .laid) n) c ≡ hasCell (b .laid) c
+      unfolding hasCell
+      lay-old c h e =
+          let same : bit (unionOf (b .laid) n) c ≡ bit (b .laid) c = omega (arith, bit-unionOf (b .laid) n c h) in
+          ap (λ (x : ℕ). eqb x 1) same
+
+      lay-ok : (c : ℕ) → c < 256 → markOk (lay b n) c ≡ true
+      unfolding markOk isMarked lay
+      lay-ok c h = go (ℕ-discrete (bit n c) 1)
+        where
+          go : Dec (bit n c ≡ 1) → markOk (lay b n) c ≡ true
+          go (yes e) = let r = piece-cell c h e in rw (r .0, r .1)
+          go (no e) = rw (lay-old c h (omega (arith, bit-le n c))) (valid-mark b ok c h)
+
+      -- laying a piece keeps a board accepted
+      pub lay-valid : So (valid (lay b n))
+      unfolding valid lay
+      lay-valid = and-eq-true-iff (sizeOk (b .width) (b .height)) (allBelow (markOk (lay b n)) 256) .1 (valid-size b ok, allBelow-all (markOk (lay b n)) 256 lay-ok)

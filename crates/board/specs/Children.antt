@@ -1,10 +1,12 @@
--- Definitions: the children of a board. Neighbour counts, the chosen cell, pieces, pruning, children in order, and what `place_tile` answers and
--- leaves in the lent words. "01" quotes its sections Boards and Children. Assumes nothing.
+-- Definitions: the children of a board. Neighbour counts, the chosen cell, pieces, pruning, children in order, what `place_tile` answers and
+-- leaves in the lent words, and words that the laws use. What stands in quotation marks is 01's, from its sections Boards and Children.
+-- Assumes nothing.
 use mathlib.Core.Path.{_≡_}
+use mathlib.Core.Logic.{_⊎_}
 use mathlib.Core.Bool.{Bool, true, So, not, cond, _&&_, _||_}
 use mathlib.Core.List.{List, [], _∷_, _++_, map, flatMap, List·Memᴰ as Mem}
 use mathlib.Core.Option.{Option, none, some}
-use Prim.Native.Nat.{ℕ, zero, suc, _+_, _*_, _/_, _%_}
+use Prim.Native.Nat.{ℕ, zero, suc, _+_, _*_, _/_, _%_, _≤_, _<_}
 use lib.Dec.{eqb, ltb, leb}
 use lib.IntN.{_+ℤ_, negℤ}
 use lib.ListN.{length, getD, take}
@@ -40,7 +42,7 @@ laidBeside w h laid cell code =
     inside w h (shift (positionOf cell) (step code)) && hasCell laid (cellOf (shift (positionOf cell) (step code)))
 
 -- "A cell's neighbour count is 1 in the outer rows and columns (corners too), else 0, plus its edge neighbours with laid marks. Fixed
--- marks never add": of a width, a height and laid marks; 0 outside the rectangle
+-- marks never add": of a width, a height and laid marks; 0 outside the rectangle. Edge neighbours are one step Up, Down, Left and Right, codes 0 to 3
 unfoldable pub neighbourCount : ℕ → ℕ → ℕ → ℕ → ℕ
 unfolding one outer laidBeside inside
 neighbourCount w h laid cell =
@@ -131,10 +133,15 @@ unfoldable pub lay : Board → ℕ → Board
 unfolding unionOf
 lay b piece = record { width = b .width; height = b .height; fixed = b .fixed; laid = unionOf (b .laid) piece }
 
+-- "any free cell has count 4"
+unfoldable pub hasFour : Board → Bool
+unfolding any isFree neighbourCount columns
+hasFour b = any (λ cell. isFree b cell && eqb (countOf b cell) 4) (columns (b .height) (b .width))
+
 -- "If any free cell has count 4 and no tile is single, there are no children"
 unfoldable pub pruned : Board → List Path → Bool
-unfolding containsSingle any isFree neighbourCount columns
-pruned b paths = any (λ cell. isFree b cell && eqb (countOf b cell) 4) (columns (b .height) (b .width)) && not (containsSingle paths)
+unfolding hasFour containsSingle
+pruned b paths = hasFour b && not (containsSingle paths)
 
 -- the boards, both kinds of marks together, that the pieces on a cell make; "A full board has none"
 unfoldable pub childrenOn : Board → List Path → Option ℕ → List ℕ
@@ -167,7 +174,25 @@ pub record PlacesTiles (b : RectangularBoard) (ts : Tiles) (old new : List ℕ) 
   pub answer : childrenAnswer r ≡ mapAnswer length (placeTile b ts (length old))
   pub words : new ≡ wordsFor (valueOr [] (placeTile b ts (length old))) (length old)
 
--- `write_children`: the same answer; the children that there is room for stand in front of the words, and behind them is what stood there
+-- `write_children`: the same answer; the children that there is room for stand in front of the words, none after refusal 4, 6 or 5, and behind them
+-- is what stood there
 pub record WritesChildren (b : RectangularBoard) (ts : Tiles) (old new : List ℕ) (r : Children) : Type 0 where
   pub answer : childrenAnswer r ≡ mapAnswer length (placeTile b ts (length old))
   pub words : new ≡ storedIn (take (length old / 4) (valueOr [] (childrenOf b ts))) old
+
+-- ---- words that the laws use
+
+-- "ties go to the lowest column, then the lowest row": a cell comes before another by its column, then by its row
+abbrev pub Earlier : ℕ → ℕ → Type 0
+Earlier c d = (c % 16 < d % 16) ⊎ ((c % 16 ≡ d % 16) × (c / 16 < d / 16))
+
+-- "The chosen cell is the free cell with the highest neighbour count; ties go to the lowest column, then the lowest row"
+pub record Best (b : Board) (cell : ℕ) : Type 0 where
+  pub free : So (isFree b cell)
+  pub most : (d : ℕ) → So (isFree b d) → countOf b d ≤ countOf b cell
+  pub first : (d : ℕ) → So (isFree b d) → countOf b d ≡ countOf b cell → Earlier d cell → ⊥
+
+-- "Children never exceed the sum of k + 1 over the tiles"
+unfoldable pub mostChildren : List Path → ℕ
+mostChildren [] = 0
+mostChildren (path ∷ paths) = length path + 1 + mostChildren paths

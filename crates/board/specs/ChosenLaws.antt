@@ -1,6 +1,6 @@
 -- Laws of the chosen cell: the cells of the columns are those of the rectangle, in order; what is chosen is the best free cell, and the best free
--- cell is chosen; where no cell is chosen, none is free. A free cell with count 4 is looked for at the chosen cell alone. Rests on `CountLaws`.
--- Assumes nothing.
+-- cell is chosen; no cell is chosen just where none is free, and so just where the board is full. A free cell with count 4 is looked for at the
+-- chosen cell alone. Rests on `BoardLaws` and `CountLaws`. Assumes nothing.
 use mathlib.Core.Path.{_≡_, refl, sym, ap, _∙_, subst}
 use mathlib.Core.Logic.{_⊎_, inl, inr, ⊎-elim, _↔_}
 use mathlib.Core.Bool.{Bool, true, false, So, not, cond, _&&_, and-eq-true-iff, false≢true}
@@ -11,19 +11,15 @@ use native.Mathlib.Omega.{arith}
 use native.Mathlib.Decide.{ℕ-discrete, decLt}
 use borrow.Author.Tests.{ltb-true, ltb-false, eqb-true, eq-eqb}
 use lib.Dec.{eqb, ltb}
-use Rattle.cells.specs.Firsts.{any}
 use Rattle.cells.specs.Arrays.{listFrom}
 use Rattle.cells.specs.FirstsLaws.{so-eq, any-true, any-some}
 use Rattle.tile.specs.Path.{Path, containsSingle}
-use Rattle.board.specs.Board.{Board, cellOf, positionOf, inside, isMarked, isFree}
-use Rattle.board.specs.Children.{countOf, columns, higher, bestOf, chosen, pruned}
-use Rattle.board.specs.CountLaws.{inside-iff, count-le}
+use Rattle.board.specs.Board.{Board, cellOf, positionOf, inside, isMarked, isFree, isFull}
+use Rattle.board.specs.Children.{countOf, columns, higher, bestOf, chosen, hasFour, pruned, Earlier, Best}
+use Rattle.board.specs.BoardLaws.{inside-iff, full-none, none-full}
+use Rattle.board.specs.CountLaws.{count-le}
 
 -- ---- the order of cells
-
--- "ties go to the lowest column, then the lowest row": a cell comes before another by its column, then by its row
-abbrev pub Earlier : ℕ → ℕ → Type 0
-Earlier c d = (c % 16 < d % 16) ⊎ ((c % 16 ≡ d % 16) × (c / 16 < d / 16))
 
 earlier-not : (c d : ℕ) → d % 16 ≤ c % 16 → (c % 16 ≡ d % 16 → d / 16 ≤ c / 16) → Earlier c d → ⊥
 earlier-not c d l r e = ⊎-elim (λ (x : c % 16 < d % 16). omega arith) (λ (x : (c % 16 ≡ d % 16) × (c / 16 < d / 16)). omega (arith, r (x .0))) e
@@ -172,12 +168,6 @@ free-inside b cell f =
     let r = inside-iff (b .width) (b .height) (cell / 16) (cell % 16) .0 (both .0) in
     (r .1, r .0)
 
--- "The chosen cell is the free cell with the highest neighbour count; ties go to the lowest column, then the lowest row"
-pub record Best (b : Board) (cell : ℕ) : Type 0 where
-  pub free : So (isFree b cell)
-  pub most : (d : ℕ) → So (isFree b d) → countOf b d ≤ countOf b cell
-  pub first : (d : ℕ) → So (isFree b d) → countOf b d ≡ countOf b cell → Earlier d cell → ⊥
-
 pub best-unique : (b : Board) (c d : ℕ) → Best b c → Best b d → c ≡ d
 best-unique b c d p q =
     let l = p .most d (q .free) in
@@ -185,7 +175,8 @@ best-unique b c d p q =
     earlier-total c d (q .first c (p .free) (omega arith)) (p .first d (q .free) (omega arith))
 
 -- where the test of pruning holds, a free cell has count 4
-pub any-four-some : (b : Board) → any (λ c. isFree b c && eqb (countOf b c) 4) (columns (b .height) (b .width)) ≡ true → (cell : ℕ) × So (isFree b cell) × (countOf b cell ≡ 4)
+pub any-four-some : (b : Board) → hasFour b ≡ true → (cell : ℕ) × So (isFree b cell) × (countOf b cell ≡ 4)
+unfolding hasFour
 any-four-some b t =
     let r = any-some (λ c. isFree b c && eqb (countOf b c) 4) (columns (b .height) (b .width)) t in
     let both = and-eq-true-iff (isFree b (r .0)) (eqb (countOf b (r .0)) 4) .0 (r .2) in
@@ -209,6 +200,21 @@ module _ (b : Board) (wide : b .width ≤ 16) where
   pub chosen-none : chosen b ≡ none → (d : ℕ) → So (isFree b d) → ⊥
   chosen-none e d f = subst (BestIn (isFree b) (countOf b) (λ d. ⊥ ⊎ Mem d (columns (b .height) (b .width)))) e scanned d (inr (seen d f)) f
 
+  -- no cell is chosen if and only if none is free
+  pub chosen-none-iff : (chosen b ≡ none) ↔ ((d : ℕ) → So (isFree b d) → ⊥)
+  chosen-none-iff = (chosen-none, λ f. go f (chosen b) refl)
+    where
+      go : ((d : ℕ) → So (isFree b d) → ⊥) → (best : Option ℕ) → chosen b ≡ best → best ≡ none
+      go f none e = refl
+      go f (some c) e = absurd (f c (chosen-best c e .free))
+
+  -- a board is full if and only if no cell is chosen
+  pub full-iff : b .height ≤ 16 → (isFull b ≡ true) ↔ (chosen b ≡ none)
+  full-iff high = (
+    λ e. chosen-none-iff .1 (λ d f. let r = free-inside b d f in full-none b e d (omega arith) f),
+    λ e. none-full b (chosen-none e),
+  )
+
   pub best-chosen : (cell : ℕ) → Best b cell → chosen b ≡ some cell
   best-chosen cell p = go (chosen b) refl
     where
@@ -218,20 +224,21 @@ module _ (b : Board) (wide : b .width ≤ 16) where
 
   -- ---- a free cell with count 4 is looked for at the chosen cell alone
 
-  pub any-four : (cell : ℕ) → chosen b ≡ some cell → any (λ c. isFree b c && eqb (countOf b c) 4) (columns (b .height) (b .width)) ≡ eqb (countOf b cell) 4
+  pub any-four : (cell : ℕ) → chosen b ≡ some cell → hasFour b ≡ eqb (countOf b cell) 4
+  unfolding hasFour
   any-four cell e =
       let best = chosen-best cell e in
       let test : ℕ → Bool = λ c. isFree b c && eqb (countOf b c) 4 in
-      so-eq (any test (columns (b .height) (b .width))) (eqb (countOf b cell) 4)
+      so-eq (hasFour b) (eqb (countOf b cell) 4)
       (λ t.
       let r = any-four-some b t in
       let l = best .most (r .0) (r .1) in
       eq-eqb (countOf b cell) 4 (omega (arith, count-le (b .width) (b .height) (b .laid) cell)))
       (λ t. any-true test (columns (b .height) (b .width)) cell (seen cell (best .free)) (and-eq-true-iff (isFree b cell) (eqb (countOf b cell) 4) .1 (best .free, t)))
 
-  pub any-none : chosen b ≡ none → any (λ c. isFree b c && eqb (countOf b c) 4) (columns (b .height) (b .width)) ≡ false
+  pub any-none : chosen b ≡ none → hasFour b ≡ false
   any-none e =
-      so-eq (any (λ c. isFree b c && eqb (countOf b c) 4) (columns (b .height) (b .width))) false
+      so-eq (hasFour b) false
       (λ t. let r = any-four-some b t in absurd (chosen-none e (r .0) (r .1))) (λ t. absurd (false≢true t))
 
   pub pruned-chosen : (paths : List Path) (cell : ℕ) → chosen b ≡ some cell → pruned b paths ≡ (eqb (countOf b cell) 4 && not (containsSingle paths))

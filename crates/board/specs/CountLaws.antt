@@ -1,11 +1,10 @@
 -- Laws of neighbour counts: a count is at most 4, 0 outside the rectangle, and 4 only where every edge neighbour on the board is laid.
 -- Rests on `Children`. Assumes nothing.
 use mathlib.Core.Path.{_≡_, refl, ap, _∙_}
-use mathlib.Core.Logic.{_↔_}
-use mathlib.Core.Bool.{Bool, true, false, So, not, _&&_, _||_, and-false, and-eq-true-iff, false≢true}
+use mathlib.Core.Bool.{Bool, true, false, So, not, _&&_, _||_, and-false, false≢true}
 use Prim.Native.Nat.{ℕ, zero, suc, _+_, _/_, _%_, _≤_, _<_}
 use native.Mathlib.Omega.{arith}
-use borrow.Author.Tests.{eqb-true, ltb-true, lt-ltb, le-ltb}
+use borrow.Author.Tests.{eqb-true, le-ltb}
 use lib.Dec.{eqb, ltb}
 use lib.IntN.{pos}
 use Rattle.cells.specs.Set.{hasCell}
@@ -13,14 +12,6 @@ use Rattle.tile.specs.Position.{Position, at, shift}
 use Rattle.tile.specs.Direction.{step}
 use Rattle.board.specs.Board.{cellOf, positionOf, inside}
 use Rattle.board.specs.Children.{one, outer, laidBeside, neighbourCount}
-
--- ---- a row and a column in the rectangle
-
-pub inside-iff : (w h row col : ℕ) → So (inside w h (at (pos row) (pos col))) ↔ ((row < h) × (col < w))
-unfolding inside
-inside-iff w h row col =
-    let both = and-eq-true-iff (ltb row h) (ltb col w) in
-    (λ e. let t = both .0 e in (ltb-true row h (t .0), ltb-true col w (t .1)), λ l. both .1 (lt-ltb row h (l .0), lt-ltb col w (l .1)))
 
 -- ---- 1 and 0 for a test
 

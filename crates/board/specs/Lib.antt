@@ -1,12 +1,12 @@
+-- Boards and their children. `Board` and `Children` are what a reader must believe; `Inner` serves private contracts only; the rest are laws.
 pub mod Board
 pub mod Children
 pub mod Inner
+pub mod BoardLaws
 pub mod CountLaws
 pub mod ChosenLaws
 pub mod PruneLaws
 pub mod FitLaws
-pub mod MemberLaws
 pub mod PieceLaws
 pub mod ChildLaws
-pub mod BoardLaws
 pub mod Examples

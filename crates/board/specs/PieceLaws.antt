@@ -1,16 +1,14 @@
 -- Laws of pieces: the cells at positions of the rectangle; a fit with a point on a cell is a piece over the cell, and every piece over it is one; so
 -- `pieces` has exactly the pieces over a cell, each once; how many there can be; how many cells a piece has. Rests on `FitLaws`. Assumes nothing.
-use mathlib.Core.Path.{_≡_, refl, sym, ap, ap₂, _∙_, subst}
+use mathlib.Core.Path.{_≡_, refl, sym, ap, _∙_, subst}
 use mathlib.Core.Logic.{_↔_}
-use mathlib.Core.Bool.{So, not, false≢true, and-eq-true-iff}
+use mathlib.Core.Bool.{So}
 use mathlib.Core.List.{List, [], _∷_, flatMap, List·Memᴰ as Mem, List·Memᴰ·head as here, List·Memᴰ·tail as there, Memᴰ·cast as cast, Memᴰ·map as mem-map, Memᴰ·of-map as of-map}
-use Prim.Native.Nat.{ℕ, _+_, _*_, _/_, _%_, _≤_, _<_}
+use Prim.Native.Nat.{ℕ, _+_, _≤_, _<_}
 use native.Mathlib.Decide.{decLt}
 use native.Mathlib.Omega.{arith}
-use borrow.Author.Tests.{ltb-true, lt-ltb}
 use lib.Dec.{eqb}
 use lib.ListN.{length, length-append, length-map}
-use lib.IntN.{ℤ, pos, negsuc}
 use Rattle.cells.specs.Set.{bit, hasCell, withCell, size}
 use Rattle.cells.specs.BitLaws.{zero-bit}
 use Rattle.cells.specs.SetLaws.{hasCell-iff, bit-withCell-other, size-zero, size-withCell-new}
@@ -18,62 +16,16 @@ use Rattle.cells.specs.Firsts.{Once}
 use Rattle.cells.specs.FirstsLaws.{mem-getD, mem-firsts, once-firsts, length-addFirsts}
 use Rattle.cells.specs.Arrays.{listOf}
 use Rattle.cells.specs.ArrayLaws.{length-listOf}
-use Rattle.tile.specs.Position.{Position, at, origin, shift, samePosition}
+use Rattle.tile.specs.Position.{Position, origin, shift, samePosition}
 use Rattle.tile.specs.PositionLaws.{samePosition-iff}
 use Rattle.tile.specs.Direction.{step}
 use Rattle.tile.specs.Path.{Path, points, cells, cellCount}
 use Rattle.tile.specs.PathLaws.{cells-shift}
-use Rattle.board.specs.Board.{Board, cellOf, positionOf, below, inside, isMarked, freeAt}
-use Rattle.board.specs.Children.{withCells, cover, moved, offset, pointAt, Fits, IsPiece, fitAt, fitsOf, pieces}
+use Rattle.board.specs.Board.{Board, cellOf, positionOf, inside, freeAt}
+use Rattle.board.specs.Children.{withCells, cover, moved, offset, pointAt, Fits, IsPiece, fitAt, fitsOf, pieces, mostChildren}
+use Rattle.board.specs.BoardLaws.{cellOf-lt, positionOf-cellOf, cellOf-inj, cellOf-positionOf, freeAt-inside}
 use Rattle.board.specs.FitLaws.{mem-cover, length-cover, bit-withCells-past, bit-withCells-new, bit-withCells-iff, offset-takes, offset-only}
-use Rattle.board.specs.MemberLaws.{eqb-tells, mem-place, mem-listOf, mem-flatMap, length-flatMap}
-
--- ---- positions of the rectangle and their cells
-
-below-parts : (n : ℕ) (k : ℤ) → So (below n k) → (m : ℕ) × (k ≡ pos m) × (m < n)
-unfolding below
-below-parts n (pos m) e = (m, refl, ltb-true m n e)
-below-parts n (negsuc m) e = absurd (false≢true e)
-
-module _ (w h : ℕ) where
-  pub inside-parts : (p : Position) → So (inside w h p) → (r : ℕ) × (c : ℕ) × (p ≡ at (pos r) (pos c)) × (r < h) × (c < w)
-  unfolding inside
-  inside-parts p e =
-      let both = and-eq-true-iff (below h (p .row)) (below w (p .col)) .0 e in
-      let row = below-parts h (p .row) (both .0) in
-      let col = below-parts w (p .col) (both .1) in
-      (row .0, col .0, ap₂ at (row .1) (col .1), row .2, col .2)
-
-  pub inside-at : (r c : ℕ) → r < h → c < w → So (inside w h (at (pos r) (pos c)))
-  unfolding inside
-  inside-at r c i j = and-eq-true-iff (below h (pos r)) (below w (pos c)) .1 (lt-ltb r h i, lt-ltb c w j)
-
-  cell-parts : (p : Position) → So (inside w h p) → (r : ℕ) × (c : ℕ) × (p ≡ at (pos r) (pos c)) × (r < h) × (c < w) × (cellOf p ≡ 16 * r + c)
-  unfolding cellOf
-  cell-parts p e = let s = inside-parts p e in (s .0, s .1, s .2, s .3, s .4, ap cellOf (s .2))
-
-  pub cellOf-lt : (p : Position) → So (inside w h p) → w ≤ 16 → h ≤ 16 → cellOf p < 256
-  cellOf-lt p e i j = let s = cell-parts p e in omega (arith, s .3, s .4, s .5)
-
-  pub positionOf-cellOf : (p : Position) → So (inside w h p) → w ≤ 16 → positionOf (cellOf p) ≡ p
-  positionOf-cellOf p e i =
-      let s = cell-parts p e in
-      let row : cellOf p / 16 ≡ s .0 = omega (arith, s .4, s .5) in
-      let col : cellOf p % 16 ≡ s .1 = omega (arith, s .4, s .5) in
-      ap₂ (λ (r c : ℕ). at (pos r) (pos c)) row col ∙ sym (s .2)
-
-  pub cellOf-inj : (p q : Position) → So (inside w h p) → So (inside w h q) → w ≤ 16 → cellOf p ≡ cellOf q → p ≡ q
-  cellOf-inj p q e f i s = sym (positionOf-cellOf p e i) ∙ ap positionOf s ∙ positionOf-cellOf q f i
-
-pub cellOf-positionOf : (cell : ℕ) → cellOf (positionOf cell) ≡ cell
-unfolding cellOf
-cellOf-positionOf cell = omega arith
-
--- ---- free positions
-
-pub freeAt-inside : (b : Board) (p : Position) → So (freeAt b p) → So (inside (b .width) (b .height) p)
-unfolding freeAt
-freeAt-inside b p e = and-eq-true-iff (inside (b .width) (b .height) p) (not (isMarked b (cellOf p))) .0 e .0
+use Rattle.cells.specs.MemberLaws.{eqb-tells, mem-place, mem-listOf, mem-flatMap, length-flatMap}
 
 -- ---- the points of a path stand on its moved cells
 
@@ -186,11 +138,6 @@ unfolding pieces
 once-pieces b paths cell = once-firsts eqb eqb-tells (flatMap (fitsOf b cell) paths)
 
 -- ---- how many pieces
-
--- "Children never exceed the sum of k + 1 over the tiles"
-unfoldable pub mostChildren : List Path → ℕ
-mostChildren [] = 0
-mostChildren (path ∷ paths) = length path + 1 + mostChildren paths
 
 length-fitsOf : (b : Board) (cell : ℕ) (path : Path) → length (fitsOf b cell path) ≤ length path + 1
 unfolding fitsOf fitAt

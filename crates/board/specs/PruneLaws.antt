@@ -1,13 +1,11 @@
 -- Laws of pruning, under demand 3's condition on tiles: a cell with count 4 is covered by no tile of two or more cells, so where pruning strikes there
 -- is a free cell that no tile covers. Rests on `ChosenLaws` and tile's `PathLaws`. Assumes nothing.
 use mathlib.Core.Path.{_≡_, refl, sym, ap, _∙_, subst}
-use mathlib.Core.Bool.{Bool, true, false, So, not, _&&_, _||_, and-eq-true-iff, false≢true}
+use mathlib.Core.Bool.{Bool, true, false, So, not, _||_, and-eq-true-iff, false≢true}
 use mathlib.Core.List.{List, [], _∷_, List·Memᴰ as Mem, Memᴰ·map as mem-map, Memᴰ·of-map as of-map}
 use Prim.Native.Nat.{ℕ, _≤_}
 use borrow.Author.Tests.{not-true}
-use lib.Dec.{eqb}
 use Rattle.cells.specs.Set.{hasCell}
-use Rattle.cells.specs.Firsts.{any}
 use Rattle.cells.specs.FirstsLaws.{any-true}
 use Rattle.tile.specs.Position.{Position, shift}
 use Rattle.tile.specs.Direction.{step}
@@ -15,7 +13,7 @@ use Rattle.tile.specs.Path.{Path, codesOk, cells, cellCount, isSingle, contains
 use Rattle.tile.specs.PositionLaws.{shift-shift}
 use Rattle.tile.specs.PathLaws.{codesOk-cons, cellCount-more}
 use Rattle.board.specs.Board.{Board, cellOf, positionOf, inside, isMarked, freeAt, isFree}
-use Rattle.board.specs.Children.{countOf, columns, moved, Fits, pruned}
+use Rattle.board.specs.Children.{countOf, moved, Fits, hasFour, pruned}
 use Rattle.board.specs.CountLaws.{count-four}
 use Rattle.board.specs.ChosenLaws.{any-four-some}
 
@@ -62,7 +60,7 @@ none-single paths path e m = go (isSingle path) refl
 pub pruned-four : (b : Board) (paths : List Path) → pruned b paths ≡ true → ((cell : ℕ) × So (isFree b cell) × (countOf b cell ≡ 4)) × (containsSingle paths ≡ false)
 unfolding pruned
 pruned-four b paths e =
-    let both = and-eq-true-iff (any (λ c. isFree b c && eqb (countOf b c) 4) (columns (b .height) (b .width))) (not (containsSingle paths)) .0 e in
+    let both = and-eq-true-iff (hasFour b) (not (containsSingle paths)) .0 e in
     (any-four-some b (both .0), not-true (containsSingle paths) (both .1))
 
 pub pruned-none : (b : Board) (paths : List Path) → pruned b paths ≡ true → ((path : Path) → Mem path paths → EdgeJoined path) → ((path : Path) → Mem path paths → So (codesOk path)) → (cell : ℕ) × So (isFree b cell) × ((path : Path) → Mem path paths → (d : Position) → Fits b path d → Mem (positionOf cell) (moved d path) → ⊥)

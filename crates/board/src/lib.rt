@@ -1,9 +1,10 @@
 // Boards: the port of the Rust's board.rs. A board has at most 16 by 16 cells, a size, and two sets
 // of marks, fixed ones and laid ones (Vec<Vec<bool>> in the Rust).
 //
-// The struct holds any numbers; a call that is handed a board tests it and refuses (4), so that
-// nothing is asked of a caller. What each call answers is a definition of specs/: Board.antt for
-// boards, Children.antt for the children of a board.
+// The struct holds any numbers, and nothing is asked of a caller: the calls that count cells or place
+// tiles test the board and refuse (4); `marks` and `mark_tile_at_position` are unions of sets, which
+// any numbers have. What each call answers is a definition of specs/: Board.antt for boards,
+// Children.antt for the children of a board.
 use cells::Cells;
 use cells::list;
 use placing::Stored;
@@ -167,8 +168,9 @@ impl RectangularBoard {
         }
     }
 
-    // The same answer; the children that there is room for stand in front, and the words behind them
-    // are as they were.
+    // The same answer, for a caller's own buffer, which is not cleared: the children that there is
+    // room for stand in front, also after refusal 8, and the words behind them are as they were.
+    // Refusals 4, 6 and 5 change no word.
     pub fn write_children(self, tiles: Tiles, out: &mut [u64]) -> Children
         ensures { λ r. ⌜ WritesChildren self tiles (now (out .entry)) (now (out .exit)) r ⌝ }
     {

@@ -92,19 +92,20 @@ fn mark_ok(board: RectangularBoard, cell: usize) -> bool
 {
     let fixed = board.fixed;
     let laid = board.laid;
+    let inside = is_inside(board.width, board.height, cell);
     if fixed.has_cell(cell) {
         if laid.has_cell(cell) {
             return false;
         }
-        return is_inside(board.width, board.height, cell);
+        return inside;
     }
     if laid.has_cell(cell) {
-        return is_inside(board.width, board.height, cell);
+        return inside;
     }
     true
 }
 
-// Whether every cell is so.
+// Whether that holds of every cell.
 fn marks_ok(board: RectangularBoard) -> bool
     ensures { λ r. ⌜ r ≡ allBelow (markOk (boardOf board)) 256 ⌝ }
 {

@@ -1,2 +1,3 @@
 -- What belongs to no one function's proof.
 pub mod Match
+pub mod ListLoops

@@ -61,6 +61,10 @@ module _ {A : Type 0} where
   unfolding listOf
   listOf-ext f g n h = listFrom-ext f g 0 n (λ k a b. h k (omega arith))
 
+  pub listOf-snoc : (f : ℕ → A) (n : ℕ) → listOf f (n + 1) ≡ listOf f n ++ f n ∷ []
+  unfolding listOf
+  listOf-snoc f n = ap (listFrom f 0) (add-one n) ∙ listFrom-snoc f 0 n ∙ ap (λ (k : ℕ). listFrom f 0 n ++ f k ∷ []) (zero-add n)
+
   -- a list is what it has at its places
   pub listOf-eta : (d : A) (xs : List A) (f : ℕ → A) (n : ℕ) → length xs ≡ n → ((k : ℕ) → k < n → getD xs k d ≡ f k) → xs ≡ listOf f n
   listOf-eta d xs f n e h =

@@ -7,6 +7,7 @@ use lib.Dec.{eqb}
 use Rattle.cells.specs.Set.{hasCell, withCell, unionOf, sharesCell, size}
 use Rattle.cells.specs.Words.{value, wordsOf}
 use Rattle.cells.specs.Firsts.{firsts}
+use Rattle.cells.specs.Lists.{setAt, setsIn, withSet, clearedFrom, wordsFor, storedIn}
 
 -- the cell in row 1, column 1 is number 17; a cell that is there is not added again; 256 is no cell
 seventeen : withCell 5 17 ≡ 131077
@@ -59,3 +60,17 @@ back = refl
 first-appearances : firsts eqb (3 ∷ 1 ∷ 3 ∷ 2 ∷ 1 ∷ []) ≡ 3 ∷ 1 ∷ 2 ∷ []
 unfolding firsts
 first-appearances = refl
+
+-- ---- lists of sets in words: six words hold one set, and two words are left over
+
+lists-read : (setAt (5 ∷ 0 ∷ 0 ∷ 1 ∷ 7 ∷ 7 ∷ []) 0 ≡ 5 + 2 ^ 192) × (setAt (5 ∷ 0 ∷ 0 ∷ 1 ∷ 7 ∷ 7 ∷ []) 1 ≡ 0) × (setsIn (5 ∷ 0 ∷ 0 ∷ 1 ∷ 7 ∷ 7 ∷ []) 3 ≡ (5 + 2 ^ 192) ∷ [])
+unfolding setsIn
+lists-read = (refl, refl, refl)
+
+lists-written : (withSet (9 ∷ 9 ∷ 9 ∷ 9 ∷ 9 ∷ []) 0 3 ≡ 3 ∷ 0 ∷ 0 ∷ 0 ∷ 9 ∷ []) × (withSet (9 ∷ 9 ∷ 9 ∷ 9 ∷ 9 ∷ []) 1 3 ≡ 9 ∷ 9 ∷ 9 ∷ 9 ∷ 9 ∷ []) × (clearedFrom 1 (9 ∷ 9 ∷ 9 ∷ []) ≡ 9 ∷ 0 ∷ 0 ∷ [])
+unfolding withSet clearedFrom
+lists-written = (refl, refl, refl)
+
+lists-stored : (storedIn (3 ∷ []) (9 ∷ 9 ∷ 9 ∷ 9 ∷ 9 ∷ []) ≡ 3 ∷ 0 ∷ 0 ∷ 0 ∷ 9 ∷ []) × (wordsFor (3 ∷ []) 5 ≡ 3 ∷ 0 ∷ 0 ∷ 0 ∷ 0 ∷ [])
+unfolding storedIn wordsFor
+lists-stored = (refl, refl)

@@ -11,4 +11,5 @@ pub mod WordLaws
 pub mod FirstsLaws
 pub mod ArrayLaws
 pub mod ListLaws
+pub mod MemberLaws
 pub mod Examples

@@ -1,25 +1,23 @@
--- Laws of lists of sets in lent words: what is stored is read back, a set is added behind the last, and what the loops over such words do.
+-- Laws of lists of sets in lent words: what is stored is read back, and a set is added behind the last.
 -- Rests on `Lists`, `WordLaws`, `ArrayLaws`. Assumes nothing.
 use mathlib.Core.Path.{_≡_, refl, sym, ap, _∙_}
 use mathlib.Core.Bool.{Bool, true, false, cond}
 use mathlib.Core.List.{List, [], _∷_, _++_}
-use Prim.Native.Nat.{ℕ, zero, suc, _+_, _-_, _*_, _/_, _%_, _^_, _≤_, _<_}
+use Prim.Native.Nat.{ℕ, zero, suc, _+_, _-_, _*_, _/_, _%_, _^_, _≤_, _<_, min}
 use native.Mathlib.Nat.{add-zero}
-use native.Mathlib.Decide.{ℕ-discrete, decLt}
+use native.Mathlib.Decide.{decLt}
 use native.Mathlib.Omega.{arith}
 use borrow.Author.Tests.{lt-ltb, le-ltb}
-use lib.Dec.{eqb, ltb}
+use lib.Dec.{ltb}
 use lib.ListN.{length, getD, set, length-append, length-set, List·getD-eq-default}
 use lib.Seq.{sets, length-sets, getD-set-same, getD-set-other, getD-append-seam}
-use Rattle.cells.specs.declared.Cells.{Cells}
-use Rattle.cells.specs.Words.{value, wordsOf, wordsBelow, number, Sound}
-use Rattle.cells.specs.Firsts.{holds}
+use Rattle.cells.specs.Words.{value, wordsOf, wordsBelow, number}
 use Rattle.cells.specs.Arrays.{listOf}
 use Rattle.cells.specs.Lists.{setAt, setsIn, withSet, clearedFrom, wordAt, wordsFor, storedIn}
-use Rattle.cells.specs.WordLaws.{value-wordsOf, wordsOf-number}
-use Rattle.cells.specs.ArrayLaws.{getD-snoc, length-listOf, getD-listOf, listOf-ext, listOf-eta, Filled, filled-start, filled-end, any-listOf, none-listOf}
+use Rattle.cells.specs.WordLaws.{value-wordsOf}
+use Rattle.cells.specs.ArrayLaws.{getD-snoc, length-listOf, getD-listOf, listOf-ext, listOf-eta}
 
--- ---- the set at a place
+-- ---- one set
 
 module _ (ws : List ℕ) (i : ℕ) where
   pub setAt-none : length ws / 4 ≤ i → 0 ≡ setAt ws i
@@ -30,18 +28,7 @@ module _ (ws : List ℕ) (i : ℕ) where
   unfolding setAt
   setAt-value h = rw (lt-ltb i (length ws / 4) h)
 
--- ---- the search for a set among the first n
-
-module _ (ws : List ℕ) (n x : ℕ) where
-  pub holds-found : (i : ℕ) → i < n → eqb (setAt ws i) x ≡ true → true ≡ holds eqb (setsIn ws n) x
-  unfolding holds setsIn
-  holds-found i h e = sym (any-listOf (λ y. eqb y x) (setAt ws) n i h e)
-
-  pub holds-missed : ((i : ℕ) → i < n → eqb (setAt ws i) x ≡ false) → false ≡ holds eqb (setsIn ws n) x
-  unfolding holds setsIn
-  holds-missed h = sym (none-listOf (λ y. eqb y x) (setAt ws) n h)
-
--- ---- a set is stored at a place
+-- ---- a set is stored
 
 module _ (ws : List ℕ) (i n : ℕ) where
   pub withSet-none : length ws / 4 ≤ i → withSet ws i n ≡ ws
@@ -60,17 +47,7 @@ length-withSet ws i n = go (ltb i (length ws / 4))
     go true = length-sets ws (4 * i) (wordsOf n)
     go false = refl
 
--- ---- zeros from a place on
-
-pub cleared-end : (ws xs : List ℕ) (from i : ℕ) → Filled 0 (λ k. cond (ltb k from) (getD ws k 0) 0) (λ k. getD ws k 0) (length ws) i xs → length ws ≤ i → xs ≡ clearedFrom from ws
-unfolding clearedFrom
-cleared-end ws xs from i h e = filled-end 0 (λ k. cond (ltb k from) (getD ws k 0) 0) (λ k. getD ws k 0) (length ws) i xs h (λ k a b. absurd (omega arith))
-
-pub cleared-start : (ws : List ℕ) (from : ℕ) → Filled 0 (λ k. cond (ltb k from) (getD ws k 0) 0) (λ k. getD ws k 0) (length ws) from ws
-cleared-start ws from = filled-start 0 (λ k. cond (ltb k from) (getD ws k 0) 0) (λ k. getD ws k 0) (length ws) from ws refl (λ k h. refl) (λ k h. rw (lt-ltb k from h))
-
-pub cleared-zero : (from i : ℕ) (x : ℕ) → from ≤ i → 0 ≡ cond (ltb i from) x 0
-cleared-zero from i x h = rw (le-ltb i from h)
+-- ---- zeros from a word on
 
 pub length-clearedFrom : (from : ℕ) (ws : List ℕ) → length (clearedFrom from ws) ≡ length ws
 unfolding clearedFrom
@@ -141,7 +118,28 @@ setAt-storedIn ns ws i h r s =
 pub setsIn-storedIn : (ns ws : List ℕ) → 4 * length ns ≤ length ws → ((i : ℕ) → getD ns i 0 < 2 ^ 256) → setsIn (storedIn ns ws) (length ns) ≡ ns
 unfolding setsIn
 setsIn-storedIn ns ws r s =
-    sym (listOf-eta 0 ns (setAt (storedIn ns ws)) (length ns) refl (λ i h. sym (setAt-storedIn ns ws i h r (s i))))
+    let all : min (length ns) (length (storedIn ns ws) / 4) ≡ length ns = omega (arith, length-storedIn ns ws) in
+    ap (listOf (setAt (storedIn ns ws))) all
+    ∙ sym (listOf-eta 0 ns (setAt (storedIn ns ws)) (length ns) refl (λ i h. sym (setAt-storedIn ns ws i h r (s i))))
+
+-- so they are where zeros stand behind the last
+storedIn-wordsFor : (ns : List ℕ) (n : ℕ) → storedIn ns (wordsFor ns n) ≡ wordsFor ns n
+unfolding storedIn wordsFor
+storedIn-wordsFor ns n =
+    ap (listOf (λ k. cond (ltb k (4 * length ns)) (wordAt ns k) (getD (wordsFor ns n) k 0))) (length-listOf (wordAt ns) n)
+    ∙ listOf-ext (λ k. cond (ltb k (4 * length ns)) (wordAt ns k) (getD (wordsFor ns n) k 0)) (wordAt ns) n (λ k h. go k (ltb k (4 * length ns)) h)
+  where
+    go : (k : ℕ) (t : Bool) → k < n → cond t (wordAt ns k) (getD (wordsFor ns n) k 0) ≡ wordAt ns k
+    go k true h = refl
+    go k false h = getD-listOf (wordAt ns) n k 0 h
+
+pub length-wordsFor : (ns : List ℕ) (n : ℕ) → length (wordsFor ns n) ≡ n
+unfolding wordsFor
+length-wordsFor ns n = length-listOf (wordAt ns) n
+
+pub setsIn-wordsFor : (ns : List ℕ) (n : ℕ) → 4 * length ns ≤ n → ((i : ℕ) → getD ns i 0 < 2 ^ 256) → setsIn (wordsFor ns n) (length ns) ≡ ns
+setsIn-wordsFor ns n r s =
+    ap (λ (ws : List ℕ). setsIn ws (length ns)) (sym (storedIn-wordsFor ns n)) ∙ setsIn-storedIn ns (wordsFor ns n) (omega (arith, length-wordsFor ns n)) s
 
 -- ---- a set more
 
@@ -218,22 +216,6 @@ cleared-all ws =
     listOf-ext (λ k. cond (ltb k 0) (getD ws k 0) 0) (wordAt []) (length ws)
     (λ k h. rw (le-ltb k 0 (omega arith)) (sym (wordAt-past [] k (omega arith))))
 
--- four words stored one by one are the set stored
-pub withSet-words : (ws : List ℕ) (i : ℕ) (s : Cells) → Sound s → i < length ws / 4 → set (set (set (set ws (4 * i) (s .w0)) (4 * i + 1) (s .w1)) (4 * i + 2) (s .w2)) (4 * i + 3) (s .w3) ≡ withSet ws i (number s)
-withSet-words ws i s h l =
-    let one : 4 * i + 1 ≡ suc (4 * i) = omega arith in
-    let two : 4 * i + 2 ≡ suc (suc (4 * i)) = omega arith in
-    let three : 4 * i + 3 ≡ suc (suc (suc (4 * i))) = omega arith in
-    rw (one, two, three, withSet-lent ws i (number s) l, wordsOf-number s h)
-
--- one set more was not it
-pub missed-more : (ws : List ℕ) (x i : ℕ) → ((k : ℕ) → k < i → eqb (setAt ws k) x ≡ false) → eqb (setAt ws i) x ≡ false → (k : ℕ) → k < i + 1 → eqb (setAt ws k) x ≡ false
-missed-more ws x i h e k l = go (ℕ-discrete k i)
-  where
-    go : Dec (k ≡ i) → eqb (setAt ws k) x ≡ false
-    go (yes q) = ap (λ (j : ℕ). eqb (setAt ws j) x) q ∙ e
-    go (no q) = h k (omega arith)
-
 -- the set with no cell
 pub value-none : value (0 ∷ 0 ∷ 0 ∷ 0 ∷ []) ≡ 0
 unfolding value
@@ -242,7 +224,3 @@ value-none = refl
 pub number-none : number (record { w0 = 0; w1 = 0; w2 = 0; w3 = 0 }) ≡ 0
 unfolding number value
 number-none = refl
-
--- what a look at one set tells
-pub looked-at : (ws : List ℕ) (i x s : ℕ) (t b : Bool) → s ≡ setAt ws i → t ≡ eqb s x → t ≡ b → eqb (setAt ws i) x ≡ b
-looked-at ws i x s t b e f g = ap (λ (y : ℕ). eqb y x) (sym e) ∙ sym f ∙ g

@@ -1,6 +1,6 @@
 // Lists of sets in lent words, four words a set, as boards stand in an output, a layer or a graph.
-// A place whose four words are not all lent has no set and takes none, so that nothing is asked of
-// a caller.
+// A set whose four words are not all lent reads as none and is not stored, so that nothing is asked
+// of a caller.
 use crate::Cells;
 ghost use mathlib.Core.Path.{_≡_};
 ghost use lib.Dec.{eqb};
@@ -8,7 +8,7 @@ ghost use Rattle.cells.specs.Firsts.{holds};
 ghost use Rattle.cells.specs.Words.{number};
 ghost use Rattle.cells.specs.Lists.{setAt, setsIn, withSet, clearedFrom};
 
-// The set at a place.
+// Set i of the words.
 pub fn get(words: &[u64], i: usize) -> Cells
     ensures { λ r. ⌜ number r ≡ setAt (now (words .entry)) i ⌝ }
 {
@@ -24,12 +24,15 @@ pub fn get(words: &[u64], i: usize) -> Cells
     Cells::of_words(words[at], words[at + 1], words[at + 2], words[at + 3])
 }
 
-// Whether a set is one of the first n.
+// Whether a set is one of the first n, or of as many as are lent.
 pub fn contains(words: &[u64], n: usize, set: Cells) -> bool
     ensures { λ r. ⌜ r ≡ holds eqb (setsIn (now (words .entry)) n) (number set) ⌝ }
 {
     let mut i = 0;
     while i < n {
+        if words.len() / 4 <= i {
+            return false;
+        }
         if get(words, i).equal(set) {
             return true;
         }
@@ -38,7 +41,7 @@ pub fn contains(words: &[u64], n: usize, set: Cells) -> bool
     false
 }
 
-// The words with a set at a place.
+// The words with another set i.
 pub fn put(words: &mut [u64], i: usize, set: Cells)
     ensures { λ _. ⌜ now (words .exit) ≡ withSet (now (words .entry)) i (number set) ⌝ }
 {
@@ -51,7 +54,7 @@ pub fn put(words: &mut [u64], i: usize, set: Cells)
     }
 }
 
-// Zeros from a place on.
+// Zeros from a word on.
 pub fn clear_from(words: &mut [u64], from: usize)
     ensures { λ _. ⌜ now (words .exit) ≡ clearedFrom from (now (words .entry)) ⌝ }
 {

@@ -3,6 +3,9 @@
 use crate::text;
 use crate::text::field;
 use crate::write;
+use board::AllMarked;
+use board::Children;
+use board::RectangularBoard;
 use tile::CellCount;
 use tile::Contains;
 use tile::Tile;
@@ -84,5 +87,48 @@ pub fn single(line: &[u8]) {
     match contains {
         Contains::Is(found) => write::truth(found),
         Contains::Refused(refusal) => write::refused(refusal),
+    }
+}
+
+// new WIDTH HEIGHT: the board with no marks.
+pub fn new_board(line: &[u8]) {
+    let width = text::number_in(field(line, 1));
+    let height = text::number_in(field(line, 2));
+    write::made_board(RectangularBoard::new(width, height));
+}
+
+// lb N SCALE: the L of n by 2 squares.
+pub fn l_board(line: &[u8]) {
+    let n = text::number_in(field(line, 1));
+    let scale = text::number_in(field(line, 2));
+    write::made_board(RectangularBoard::l_board(n, scale));
+}
+
+// tb N SCALE: the T of 2 n + 1 by 2 squares.
+pub fn t_board(line: &[u8]) {
+    let n = text::number_in(field(line, 1));
+    let scale = text::number_in(field(line, 2));
+    write::made_board(RectangularBoard::t_board(n, scale));
+}
+
+// full WIDTH HEIGHT FIXED LAID: whether no cell is free.
+pub fn full(line: &[u8]) {
+    let marked = text::board_in(line).is_all_marked();
+    match marked {
+        AllMarked::Is(is) => write::truth(is),
+        AllMarked::Refused(refusal) => write::refused(refusal),
+    }
+}
+
+// children WIDTH HEIGHT FIXED LAID TILES: the number of children, and the marks of each in order.
+// There is room for 2,112 boards, 33 for each of 64 tiles.
+pub fn children(line: &[u8]) {
+    let board = text::board_in(line);
+    let tiles = text::tiles_in(field(line, 5));
+    let mut out = [0u64; 8448];
+    let answer = board.place_tile(tiles, &mut out);
+    match answer {
+        Children::Number(n) => write::boards(&out, n),
+        Children::Refused(refusal) => write::refused(refusal),
     }
 }

@@ -1,35 +1,101 @@
-// Reads commands from standard input, one a line, and writes what crate tile answers, one line
-// each: the file stdout has the answers of the Rust for the commands of the file stdin.
+// Reads commands from standard input, one a line, and writes what crates tile and board answer, one
+// line each: the file stdout has the answers of the Rust for the commands of the file stdin.
 //
 // A line has fields parted by one blank, the first of them the command. A path is digits 0 to 7,
-// `-` for the empty one; tiles are paths joined by commas, `.` for none. Another command is a
-// function of commands.rt and a line of `answer`.
+// `-` for the empty one; tiles are paths joined by commas, `.` for none. Marks are a hexadecimal
+// number with no zeros in front, cell (row, column) being bit 16 * row + column. Another command is
+// a function of commands.rt and a line of `answer`.
 use text::field;
 use text::find;
 use text::same;
+ghost use Prim.Native.Nat.{_≤_};
+ghost use lib.ListN.{length};
 
 mod commands;
 mod text;
 mod write;
 
-// At most 65,536 bytes of input are read.
-fn main() {
-    let mut input = io::large_buffer();
-    let n = io::read_full(0, &mut input);
-    replay(&input[..n]);
+// What a turn of reading leaves: so many bytes of an unfinished line, or the end of the input.
+enum Rest {
+    Kept(usize),
+    End,
 }
 
-// Answers every line.
-fn replay(input: &[u8]) {
+// Reads standard input to its end, in pieces. A proved loop has to end, so the turns are counted
+// down from a number that no run uses up. A line of more than 65,536 bytes is cut there.
+fn main() {
+    let mut input = io::large_buffer();
+    let mut kept = 0;
+    let mut turns = u64::MAX;
+    while 0 < turns {
+        let rest = read_piece(&mut input, kept);
+        let Rest::Kept(n) = rest else {
+            return;
+        };
+        kept = n;
+        turns -= 1;
+    }
+}
+
+// Reads behind the kept bytes, answers the lines that are whole and moves the rest to the front. At
+// the end of the input the kept bytes are a line too.
+fn read_piece(input: &mut [u8], kept: usize) -> Rest {
+    if input.len() <= kept {
+        answer(input);
+        return Rest::Kept(0);
+    }
+    let end = read_behind(input, kept);
+    if end == kept {
+        last_line(&input[..end]);
+        return Rest::End;
+    }
+    let from = replay(&input[..end]);
+    Rest::Kept(move_to_front(input, from, end))
+}
+
+// Reads behind the kept bytes, and gives the number of bytes that are there then.
+fn read_behind(input: &mut [u8], kept: usize) -> usize
+    requires { ⌜ kept ≤ length (now input) ⌝ }
+    ensures { λ r. ⌜ (kept ≤ r) × (r ≤ length (now (input .entry))) ⌝ }
+{
+    let n = io::read_full(0, &mut input[kept..]);
+    kept + n
+}
+
+// Answers the line that ends with the input, if there is one.
+fn last_line(line: &[u8]) {
+    if 0 < line.len() {
+        answer(line);
+    }
+}
+
+// Moves the bytes between two places to the front, and gives their number.
+fn move_to_front(bytes: &mut [u8], from: usize, end: usize) -> usize
+    requires { ⌜ (from ≤ end) × (end ≤ length (now bytes)) ⌝ }
+{
+    let count = end - from;
+    let mut i = 0;
+    while i < count {
+        bytes[i] = bytes[from + i];
+        i += 1;
+    }
+    i
+}
+
+// Answers every whole line, and gives the place behind the last one.
+fn replay(input: &[u8]) -> usize
+    ensures { λ r. ⌜ r ≤ length (now (input .entry)) ⌝ }
+{
     let mut at = 0;
     while at < input.len() {
         let end = find(input, at, b'\n');
-        answer(&input[at..end]);
         if end == input.len() {
-            return;
+            return at;
         }
+        answer(&input[at..end]);
         at = end + 1;
     }
+    at
 }
 
 // Answers one line, by its command.
@@ -49,6 +115,16 @@ fn answer(line: &[u8]) {
         commands::t_tile(line);
     } else if same(command, b"single") {
         commands::single(line);
+    } else if same(command, b"new") {
+        commands::new_board(line);
+    } else if same(command, b"lb") {
+        commands::l_board(line);
+    } else if same(command, b"tb") {
+        commands::t_board(line);
+    } else if same(command, b"full") {
+        commands::full(line);
+    } else if same(command, b"children") {
+        commands::children(line);
     } else {
         write::bytes(b"unknown command");
     }

@@ -1,4 +1,6 @@
-// What a text holds: its fields, and a field's number, code, tile or tiles.
+// What a text holds: its fields, a field's number, code, tile, tiles or marks, and a line's board.
+use board::RectangularBoard;
+use cells::Cells;
 use tile::Tile;
 use tile::Tiles;
 ghost use Prim.Native.Nat.{_≤_};
@@ -137,4 +139,72 @@ fn with_tile(tiles: Tiles, tile: Tile) -> Tiles {
         i += 1;
     }
     more
+}
+
+// What a hexadecimal digit stands for, and 0 for any other byte.
+fn hex_digit(byte: u8) -> u64
+    ensures { λ r. ⌜ r ≤ 15 ⌝ }
+{
+    let decimal = digit(byte);
+    if decimal <= 9 {
+        return decimal as u64;
+    }
+    if byte < b'a' {
+        return 0;
+    }
+    if b'f' < byte {
+        return 0;
+    }
+    (byte - b'a' + 10) as u64
+}
+
+// The number of at most 16 hexadecimal digits; what 64 bits do not hold is not read.
+fn hex_in(text: &[u8]) -> u64 {
+    let mut n: u64 = 0;
+    let mut i = 0;
+    while i < text.len() {
+        if 0x0FFF_FFFF_FFFF_FFFF < n {
+            return n;
+        }
+        n = 16 * n + hex_digit(text[i]);
+        i += 1;
+    }
+    n
+}
+
+// The difference, 0 where there is none.
+fn less(n: usize, by: usize) -> usize
+    ensures { λ r. ⌜ r ≤ n ⌝ }
+{
+    if n < by {
+        return 0;
+    }
+    n - by
+}
+
+// The word of the 16 digits in front of the last so many.
+fn word_in(text: &[u8], last: usize) -> u64 {
+    let end = less(text.len(), last);
+    let from = less(end, 16);
+    hex_in(&text[from..end])
+}
+
+// The cells of a hexadecimal number, whose last 64 digits are read.
+fn cells_in(text: &[u8]) -> Cells {
+    Cells::of_words(
+        word_in(text, 0),
+        word_in(text, 16),
+        word_in(text, 32),
+        word_in(text, 48),
+    )
+}
+
+// The board of a line, whose fields 1 to 4 are width, height, fixed and laid marks.
+pub fn board_in(line: &[u8]) -> RectangularBoard {
+    RectangularBoard {
+        width: number_in(field(line, 1)),
+        height: number_in(field(line, 2)),
+        fixed: cells_in(field(line, 3)),
+        laid: cells_in(field(line, 4)),
+    }
 }

@@ -1,4 +1,8 @@
 // The parts of an answer, written to standard output.
+use board::FreeCells;
+use board::MadeBoard;
+use cells::Cells;
+use cells::list;
 use libc::STDOUT_FILENO;
 use tile::MadeTile;
 use tile::Tiles;
@@ -96,5 +100,68 @@ fn tile_at(shown: Tiles, i: usize) {
     }
     if i < 64 {
         path(&codes, 32 * i, lens[i]);
+    }
+}
+
+// A word of a number whose higher words are written, in 16 digits; a width of 0 says that all of them
+// were 0, and then a 0 is not written and no other word has zeros in front. Gives the width of the
+// next word.
+fn word(value: u64, width: usize) -> usize {
+    if width == 0 {
+        if value == 0 {
+            return 0;
+        }
+    }
+    io::print_hex(STDOUT_FILENO, value, width);
+    16
+}
+
+// A set of cells as a hexadecimal number with no zeros in front.
+fn marks(set: Cells) {
+    let second = word(set.w3, 0);
+    let third = word(set.w2, second);
+    let last = word(set.w1, third);
+    io::print_hex(STDOUT_FILENO, set.w0, last);
+}
+
+// The marks of one of some boards, behind a blank.
+fn board_at(words: &[u64], i: usize) {
+    bytes(b" ");
+    marks(list::get(words, i));
+}
+
+// The number of some boards, and the marks of each.
+pub fn boards(words: &[u64], count: usize) {
+    number(count);
+    let mut i = 0;
+    while i < count {
+        board_at(words, i);
+        i += 1;
+    }
+}
+
+// The number of free cells.
+fn free(cells: FreeCells) {
+    match cells {
+        FreeCells::Number(n) => number(n),
+        FreeCells::Refused(refusal) => refused(refusal),
+    }
+}
+
+// The width, the height, the fixed marks and the number of free cells of a board that was made.
+pub fn made_board(answer: MadeBoard) {
+    let verdict = answer.verdict;
+    let board = answer.board;
+    match verdict {
+        Verdict::Accepted => {
+            number(board.width);
+            bytes(b" ");
+            number(board.height);
+            bytes(b" ");
+            marks(board.fixed);
+            bytes(b" ");
+            free(board.free_cells());
+        }
+        Verdict::Refused(refusal) => refused(refusal),
     }
 }

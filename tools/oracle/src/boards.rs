@@ -1,6 +1,8 @@
-//! Answers about a board and tiles: children, the layer count, the graph, the tilings.
+//! Answers about a board, and about a board and tiles: children, the layer count, the graph, the
+//! tilings.
 
 use crate::tiler::Tiler;
+use crate::tiles::free_cells;
 use dcc_tiler::board::RectangularBoard;
 use dcc_tiler::graph::BoardGraph;
 use dcc_tiler::marks::{Marks, hex};
@@ -49,12 +51,30 @@ fn check_marks(width: usize, height: usize, fixed: Marks, laid: Marks) -> Result
     Ok(())
 }
 
-/// `NUMBER HEX ...`, in the Rust's order.
-pub fn children(b: RectangularBoard, tiles: TileCollection) -> String {
+/// `WIDTH HEIGHT HEX FREE`; or `large`, as the marks of such a board have no number.
+pub fn made(b: RectangularBoard) -> String {
+    if b.width > 16 || b.height > 16 {
+        return "large".to_string();
+    }
+    format!("{} {} {} {}", b.width, b.height, hex(&b), free_cells(&b))
+}
+
+/// `NUMBER HEX ...`, in the Rust's order, for a board with these fixed marks.
+pub fn children(b: RectangularBoard, fixed: Marks, tiles: TileCollection) -> String {
     let children = b.place_tile(&tiles);
+    if let Some(child) = children.last() {
+        check_child(child, fixed);
+    }
     let mut fields = vec![children.len().to_string()];
     fields.extend(children.iter().map(hex));
     fields.join(" ")
+}
+
+/// The Rust's own child, its private counts included, is the board that is set up with its marks.
+fn check_child(child: &RectangularBoard, fixed: Marks) {
+    let laid = Marks::of(child).without(fixed);
+    let set_up = board_of((child.width, child.height), fixed, laid);
+    assert!(set_up.as_ref() == Ok(child), "a child is not the board of its marks");
 }
 
 /// The count that `count_tilings` gives before a graph is there.
@@ -127,8 +147,9 @@ pub fn tilings(b: RectangularBoard, tiles: TileCollection) -> String {
         list.reverse();
     }
     lists.sort();
+    let text = |list: &Vec<Marks>| list.iter().map(Marks::to_string).collect::<Vec<_>>().join(",");
     let mut fields = vec![lists.len().to_string()];
-    fields.extend(lists.iter().map(|list| list.join(",")));
+    fields.extend(lists.iter().map(text));
     fields.join(" ")
 }
 

@@ -17,20 +17,20 @@ pub mod marks;
 /// What tiler.rs finds under the renderer's name: it draws nothing and keeps each tiling.
 pub mod render {
     use crate::board::RectangularBoard;
-    use crate::marks::hex;
+    use crate::marks::Marks;
     use std::sync::Mutex;
 
-    static COLLECTED: Mutex<Vec<Vec<String>>> = Mutex::new(Vec::new());
+    static COLLECTED: Mutex<Vec<Vec<Marks>>> = Mutex::new(Vec::new());
 
-    /// Keeps the boards of one tiling as handed over, the full board first.
+    /// Keeps the marks of one tiling's boards as handed over, the full board first.
     pub fn render_single_tiling_from_vec(boards: Vec<&RectangularBoard>) -> String {
-        let list = boards.into_iter().map(hex).collect();
+        let list = boards.into_iter().map(Marks::of).collect();
         COLLECTED.lock().unwrap().push(list);
         String::new()
     }
 
     /// Hands over what was collected since the last call.
-    pub fn take_collected() -> Vec<Vec<String>> {
+    pub fn take_collected() -> Vec<Vec<Marks>> {
         std::mem::take(&mut *COLLECTED.lock().unwrap())
     }
 

@@ -12,6 +12,7 @@ mod text;
 mod tiler;
 mod tiles;
 
+use dcc_tiler::board::RectangularBoard;
 use dcc_tiler::marks::Marks;
 use dcc_tiler::tile::{Tile, TileCollection};
 use std::io::BufRead;
@@ -64,11 +65,25 @@ fn answer(line: &str) -> Result<String, String> {
         ["single", list] => collection(list)?.contains_single_tile().to_string(),
         ["size", path] => tiles::size(&read_tile(path)?).to_string(),
         ["plot", bytes] => plot::plot(&read_bytes(bytes)?).replace('\n', "|"),
+        ["new", width, height] => {
+            boards::made(RectangularBoard::new(read_number(width)?, read_number(height)?))
+        }
+        ["lb", n, scale] => {
+            boards::made(RectangularBoard::l_board(read_number(n)?, read_number(scale)?))
+        }
+        ["tb", n, scale] => {
+            boards::made(RectangularBoard::t_board(read_number(n)?, read_number(scale)?))
+        }
+        ["full", width, height, fixed, laid] => {
+            read_board(width, height, fixed, laid)?.is_all_marked().to_string()
+        }
+        ["children", width, height, fixed, laid, list] => {
+            let board = read_board(width, height, fixed, laid)?;
+            boards::children(board, Marks::read(fixed)?, collection(list)?)
+        }
         [name, width, height, fixed, laid, list] => {
-            let size = (read_number(width)?, read_number(height)?);
-            let board = boards::board_of(size, Marks::read(fixed)?, Marks::read(laid)?)?;
+            let board = read_board(width, height, fixed, laid)?;
             let answer = match name {
-                "children" => boards::children,
                 "layers" => boards::layers,
                 "graph" => boards::graph,
                 "tilings" => boards::tilings,
@@ -79,6 +94,16 @@ fn answer(line: &str) -> Result<String, String> {
         }
         _ => return Err(format!("no such command: {line}")),
     })
+}
+
+fn read_board(
+    width: &str,
+    height: &str,
+    fixed: &str,
+    laid: &str,
+) -> Result<RectangularBoard, String> {
+    let size = (read_number(width)?, read_number(height)?);
+    boards::board_of(size, Marks::read(fixed)?, Marks::read(laid)?)
 }
 
 fn collection(list: &str) -> Result<TileCollection, String> {

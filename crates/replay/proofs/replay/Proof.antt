@@ -1,4 +1,4 @@
--- `replay::replay` is safe and ends: each turn leaves less of the input.
+-- `replay::replay` is safe and ends: each turn leaves less of the input. The place is not behind the end.
 -- Assumes nothing.
 use Prim.Native.Nat.{_≤_, _-_}
 use lib.ListN.{length}
@@ -23,8 +23,8 @@ replay-spec =
     (λ c. search needs)
     (λ c. search needs)
     (λ c. search needs)
-    (λ c κs. search needs)
     (λ c. search needs)
+    (λ c κs. search needs)
     (λ c. search needs)
     (λ c. search needs)
     (λ c. search needs)

@@ -1,7 +1,8 @@
 -- `board::placing::add_children` meets its contract: the cell that is found is the chosen one; the tiles are put down on it.
 -- Assumes nothing.
+use Rattle.board.specs.BoardLaws.{valid-width, valid-height}
 use mathlib.Core.Path.{_∙_}
-use Rattle.board.specs.ChildLaws.{valid-width, valid-height, children-full, children-pruned}
+use Rattle.board.specs.ChildLaws.{children-full, children-pruned}
 use Rattle.board.proofs.FoundLaws.{found-full, found-cell, found-on, found-pruned, kept-none, kept-all}
 use borrow.Author.Needs.{needs}
 use Rattle.board.proofs.placing.add_children.Statement.{statement}

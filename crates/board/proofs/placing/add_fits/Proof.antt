@@ -8,14 +8,14 @@ use lib.ListN.{length}
 use Rattle.cells.specs.Firsts.{addFirsts}
 use Rattle.board.specs.Board.{boardOf}
 use Rattle.board.specs.Inner.{Keeps}
-use Rattle.board.proofs.PlacingLaws.{pointKids, points-none, points-more, points-all}
+use Rattle.board.proofs.PlacingLaws.{pointChildren, points-none, points-more, points-all}
 use borrow.Author.Needs.{needs}
 use native.Mathlib.Omega.{arith}
 use Rattle.board.proofs.placing.add_fits.Statement.{statement}
 use Rattle.board.proofs.placing.add_fits.Tie as tie
 
 abbrev Inv-loop : tie.InvT-loop
-Inv-loop out₀ board marked path cell state₀ point₀ out state point = (point ≤ length path + 1) × (length out ≡ length out₀) × ((old ns : List ℕ) → Keeps old ns out₀ state₀ → Keeps old (addFirsts eqb ns (pointKids (boardOf board) cell path point)) out state)
+Inv-loop out₀ board marked path cell state₀ point₀ out state point = (point ≤ length path + 1) × (length out ≡ length out₀) × ((old ns : List ℕ) → Keeps old ns out₀ state₀ → Keeps old (addFirsts eqb ns (pointChildren (boardOf board) cell path point)) out state)
 
 abbrev μ-loop : tie.MeasureT-loop
 μ-loop out₀ board marked path cell state₀ point₀ out state point = length path + 1 - point

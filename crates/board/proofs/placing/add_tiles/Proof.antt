@@ -10,14 +10,14 @@ use Rattle.cells.specs.Firsts.{addFirsts}
 use Rattle.tile.specs.Path.{Path, codesOk}
 use Rattle.board.specs.Board.{boardOf}
 use Rattle.board.specs.Inner.{Keeps}
-use Rattle.board.proofs.PlacingLaws.{keeps-none, tileKids, tiles-none, tiles-more, tiles-all, tile-sound, part-path}
+use Rattle.board.proofs.PlacingLaws.{keeps-none, tileChildren, tiles-none, tiles-more, tiles-all, tile-sound, part-path}
 use borrow.Author.Needs.{needs}
 use native.Mathlib.Omega.{arith}
 use Rattle.board.proofs.placing.add_tiles.Statement.{statement}
 use Rattle.board.proofs.placing.add_tiles.Tie as tie
 
 abbrev Inv-loop : tie.InvT-loop
-Inv-loop out₀ board marked cell count lens codes state₀ i₀ out state i = (i ≤ count) × (length out ≡ length out₀) × Keeps out₀ (addFirsts eqb [] (tileKids (boardOf board) cell lens codes i)) out state
+Inv-loop out₀ board marked cell count lens codes state₀ i₀ out state i = (i ≤ count) × (length out ≡ length out₀) × Keeps out₀ (addFirsts eqb [] (tileChildren (boardOf board) cell lens codes i)) out state
 
 abbrev μ-loop : tie.MeasureT-loop
 μ-loop out₀ board marked cell count lens codes state₀ i₀ out state i = count - i

@@ -10,10 +10,10 @@ returns : tie.Need-returns
 returns c = mark-both _ _ (sym (c .before .before .before .has-cell .ensures) ∙ c .before .before .if1 .taken) (sym (c .before .has-cell2 .ensures) ∙ c .if2 .taken)
 
 returns-2 : tie.Need-returns-2
-returns-2 c = c .is-inside .ensures ∙ mark-fixed _ _ (sym (c .before .before .before .before .has-cell .ensures) ∙ c .before .before .before .if1 .taken) (sym (c .before .before .has-cell2 .ensures) ∙ c .before .if2 .left)
+returns-2 c = c .before .before .before .before .is-inside .ensures ∙ mark-fixed _ _ (sym (c .before .before .before .has-cell .ensures) ∙ c .before .before .if1 .taken) (sym (c .before .has-cell2 .ensures) ∙ c .if2 .left)
 
 returns-3 : tie.Need-returns-3
-returns-3 c = c .is-inside2 .ensures ∙ mark-laid _ _ (sym (c .before .before .before .before .has-cell .ensures) ∙ c .before .before .before .if1 .left) (sym (c .before .before .has-cell3 .ensures) ∙ c .before .if3 .taken)
+returns-3 c = c .before .before .before .before .is-inside .ensures ∙ mark-laid _ _ (sym (c .before .before .before .has-cell .ensures) ∙ c .before .before .if1 .left) (sym (c .before .has-cell3 .ensures) ∙ c .if3 .taken)
 
 returns-4 : tie.Need-returns-4
 returns-4 c = mark-none _ _ (sym (c .before .before .before .has-cell .ensures) ∙ c .before .before .if1 .left) (sym (c .before .has-cell3 .ensures) ∙ c .if3 .left)
@@ -24,10 +24,9 @@ mark-ok-spec =
     (tie.spec
     (λ c κs. search needs)
     (λ c κs. search needs)
+    (λ c κs. search needs)
     returns
-    (λ c κs. search needs)
     returns-2
-    (λ c κs. search needs)
     (λ c κs. search needs)
     returns-3
     returns-4)

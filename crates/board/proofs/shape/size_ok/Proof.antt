@@ -1,6 +1,8 @@
 -- `board::shape::size_ok` meets its contract: by the width first, then the height.
 -- Assumes nothing.
-use Rattle.board.proofs.ShapeLaws.{sizeOk-none, sizeOk-wide, sizeOk-flat, sizeOk-last}
+use mathlib.Core.Path.{sym}
+use Rattle.board.specs.BoardLaws.{sizeOk-wide}
+use Rattle.board.proofs.ShapeLaws.{sizeOk-none, sizeOk-flat, sizeOk-last}
 use Rattle.board.proofs.shape.size_ok.Statement.{statement}
 use Rattle.board.proofs.shape.size_ok.Tie as tie
 
@@ -8,7 +10,7 @@ returns : tie.Need-returns
 returns c = sizeOk-none _ _ (c .if1 .taken)
 
 returns-2 : tie.Need-returns-2
-returns-2 c = sizeOk-wide _ _ (c .if2 .taken)
+returns-2 c = sym (sizeOk-wide _ _ (c .if2 .taken))
 
 returns-3 : tie.Need-returns-3
 returns-3 c = sizeOk-flat _ _ (c .before .before .if1 .left) (c .before .if2 .left) (c .if3 .taken)

@@ -5,7 +5,7 @@ use Prim.Native.Nat.{_-_, _≤_}
 use lib.Dec.{ltb}
 use lib.ListN.{length, getD}
 use Rattle.cells.specs.ArrayLaws.{Filled, filled-step}
-use Rattle.cells.specs.ListLaws.{cleared-start, cleared-zero, cleared-end}
+use Rattle.cells.proofs.ListLoops.{cleared-start, cleared-zero, cleared-end}
 use borrow.Author.Needs.{needs}
 use native.Mathlib.Omega.{arith}
 use Rattle.cells.proofs.list.clear_from.Statement.{statement}

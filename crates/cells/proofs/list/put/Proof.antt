@@ -3,7 +3,8 @@
 use mathlib.Core.Path.{sym}
 use lib.ListN.{length-set}
 use Rattle.cells.specs.Words.{Sound}
-use Rattle.cells.specs.ListLaws.{withSet-words, withSet-none}
+use Rattle.cells.specs.ListLaws.{withSet-none}
+use Rattle.cells.proofs.ListLoops.{withSet-words}
 use borrow.Author.Needs.{needs}
 use native.Mathlib.Omega.{arith}
 use Rattle.cells.proofs.list.put.Statement.{statement}

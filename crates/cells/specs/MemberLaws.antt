@@ -1,17 +1,18 @@
 -- Laws of members of lists: at which place a member stands; the members and the length of `flatMap`; the members of a list given by its elements; two
--- maps that agree on the members; a map that is one-to-one on them; `eqb` tells equal numbers. Rests on `ArrayLaws`. Assumes nothing.
-use mathlib.Core.Path.{_≡_, refl, sym, ap₂, _∙_, subst}
+-- maps that agree on the members; a map that is one-to-one on them; one element more; `eqb` tells equal numbers. Rests on `ArrayLaws`.
+-- Assumes nothing.
+use mathlib.Core.Path.{_≡_, refl, sym, ap, ap₂, _∙_, subst}
 use mathlib.Core.Logic.{_↔_, ⊎-elim}
-use mathlib.Core.List.{List, [], _∷_, map, flatMap, List·Memᴰ as Mem, List·Memᴰ·head as here, List·Memᴰ·tail as there, List·Memᴰ·cases-cons as cases-cons, List·Memᴰ·append-cases as append-cases, List·Memᴰ·not-nil as not-nil, Memᴰ·cast as cast, Memᴰ·append-left as append-left, Memᴰ·append-right as append-right, Memᴰ·of-map as of-map}
+use mathlib.Core.List.{List, [], _∷_, _++_, map, flatMap, append-nil, append-assoc, List·Memᴰ as Mem, List·Memᴰ·head as here, List·Memᴰ·tail as there, List·Memᴰ·cases-cons as cases-cons, List·Memᴰ·append-cases as append-cases, List·Memᴰ·not-nil as not-nil, Memᴰ·cast as cast, Memᴰ·append-left as append-left, Memᴰ·append-right as append-right, Memᴰ·of-map as of-map}
 use Prim.Native.Nat.{ℕ, suc, _*_, _≤_, _<_}
 use native.Mathlib.Omega.{arith}
 use borrow.Author.Tests.{eq-eqb, eqb-true}
 use lib.Dec.{eqb}
 use lib.ListN.{length, getD, length-append}
 use Rattle.cells.specs.Firsts.{Once, Tells}
 use Rattle.cells.specs.FirstsLaws.{mem-getD}
 use Rattle.cells.specs.Arrays.{listOf}
 use Rattle.cells.specs.ArrayLaws.{length-listOf, getD-listOf}
 
 pub eqb-tells : Tells eqb
 eqb-tells x y = (λ e. eqb-true x y e, λ e. eq-eqb x y e)
@@ -67,3 +68,15 @@ module _ {A B : Type 0} where
     λ m. let r = of-map f xs m in o .0 (cast (h x (r .0) (here refl) (there (r .1)) (sym (r .2))) (r .1)),
     once-map f xs (λ y z m k. h y z (there m) (there k)) (o .1),
   )
+
+-- ---- one element more
+
+module _ {A B : Type 0} where
+  pub map-append : (f : A → B) (xs ys : List A) → map f (xs ++ ys) ≡ map f xs ++ map f ys
+  map-append f [] ys = refl
+  map-append f (x ∷ xs) ys = ap (λ (l : List B). f x ∷ l) (map-append f xs ys)
+
+  pub flatMap-snoc : (f : A → List B) (xs : List A) (x : A) → flatMap f (xs ++ x ∷ []) ≡ flatMap f xs ++ f x
+  unfolding flatMap
+  flatMap-snoc f [] x = append-nil (f x)
+  flatMap-snoc f (y ∷ xs) x = ap (λ (l : List B). f y ++ l) (flatMap-snoc f xs x) ∙ sym (append-assoc (f y) (flatMap f xs) (f x))

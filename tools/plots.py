@@ -1,0 +1,311 @@
+"""Random boards and tiles for make-answers and compare, and the running of the oracle.
+
+A set of cells is a number, cell (row, column) being bit 16 * row + column. What stands here about
+neighbour counts and the chosen cell only picks and counts cases; answers are the programs' own.
+"""
+
+import os
+import pathlib
+import subprocess
+import sys
+
+ROOT = pathlib.Path(__file__).resolve().parent.parent
+MOST_CODES = 32  # of a path
+MOST_TILES = 64
+CODES = "01234567"
+OPPOSITE = "10326745"
+TURNED = "32015674"
+REFLECTED = "10237654"
+STEPS = [(-1, 0), (1, 0), (0, -1), (0, 1), (-1, -1), (-1, 1), (1, 1), (1, -1)]
+EDGE_STEPS = STEPS[:4]
+# Few codes make paths that cross themselves or go back.
+FEW_CODES = ["01", "23", "46", "57", "0123", "4567", "013", "236", "0256", "1347"]
+
+DOMINOES = "3,1,2,0"
+ORBITS = [DOMINOES, "20,03,31,12,21,02,30,13", "306,137,214,025,315,126,207,034", "33,11,22,00"]
+# Tiles that make one piece from several points, or of which several make one piece.
+EQUAL_PIECES = ["3,2", "32", "0101", "3021", "33,22", "313,202", "5,7,57", "3021,0213", "44,66"]
+
+COLUMNS = [sum(1 << (16 * row + column) for row in range(16)) for column in range(16)]
+ROWS = [0xFFFF << (16 * row) for row in range(16)]
+
+
+class Draws:
+    """A 64-bit xorshift generator; its seed is not 0."""
+
+    def __init__(self, seed):
+        self.state = seed
+        for _ in range(16):
+            self.word()
+
+    def word(self):
+        x = self.state
+        x ^= (x << 13) & (2**64 - 1)
+        x ^= x >> 7
+        x ^= (x << 17) & (2**64 - 1)
+        self.state = x
+        return x
+
+    def below(self, limit):
+        return (self.word() >> 32) % limit
+
+    def one_of(self, items):
+        return items[self.below(len(items))]
+
+    def one_in(self, number):
+        return self.below(number) == 0
+
+    def path(self, length, codes=CODES):
+        return "".join(self.one_of(codes) for _ in range(length)) or "-"
+
+    def paths(self, number, length):
+        """Different paths of one length."""
+        found = []
+        while len(found) < number:
+            path = self.path(length)
+            if path not in found:
+                found.append(path)
+        return found
+
+    def half(self):
+        """A set that has each cell or not."""
+        return sum(self.word() << (64 * i) for i in range(4))
+
+    def cells(self, thickness):
+        """A set: thickness -3 to 3 is about 1/16, 1/8, 1/4, 1/2, 3/4, 7/8, 15/16 of the cells."""
+        found = self.half()
+        for _ in range(abs(thickness)):
+            found = found | self.half() if thickness > 0 else found & self.half()
+        return found
+
+
+def cell(row, column):
+    return 1 << (16 * row + column)
+
+
+class Plot:
+    """A board and tiles. The tiles are a text, paths joined by commas or `.`."""
+
+    def __init__(self, width, height, fixed=0, laid=0, tiles="."):
+        self.width, self.height = width, height
+        self.fixed, self.laid, self.tiles = fixed, laid, tiles
+
+    def inside(self):
+        return sum(COLUMNS[: self.width]) & sum(ROWS[: self.height])
+
+    def free(self):
+        return self.inside() & ~self.fixed & ~self.laid
+
+    def board(self):
+        return f"{self.width} {self.height} {self.fixed:x} {self.laid:x}"
+
+    def command(self):
+        return f"children {self.board()} {self.tiles}"
+
+    def child(self, marks):
+        """The plot of a child, whose marks of both kinds are given as in an answer."""
+        laid = int(marks, 16) & ~self.fixed
+        return Plot(self.width, self.height, self.fixed, laid, self.tiles)
+
+    def has_single(self):
+        return "-" in self.tiles.split(",")
+
+    def choice(self):
+        """The highest neighbour count of a free cell, its first holder and the number of holders.
+
+        The counts are added up for all cells at once, as three sets of their binary digits.
+        """
+        if not self.free():
+            return -1, 0, 0
+        laid = self.laid
+        ones = COLUMNS[0] | COLUMNS[self.width - 1] | ROWS[0] | ROWS[self.height - 1]
+        twos = fours = 0
+        beside = (laid << 16, laid >> 16, laid << 1 & ~COLUMNS[0], laid >> 1 & ~COLUMNS[15])
+        for more in beside:
+            ones, more = ones ^ more, ones & more
+            twos, more = twos ^ more, twos & more
+            fours |= more
+        for count in (4, 3, 2, 1, 0):
+            best = self.free()
+            for digit, cells in enumerate((ones, twos, fours)):
+                best &= cells if count >> digit & 1 else ~cells
+            if best:
+                break
+        column = next(c for c in COLUMNS if best & c) & best
+        return count, (column & -column).bit_length() - 1, best.bit_count()
+
+
+def reversed_path(path):
+    """The path from its other end: the same pieces."""
+    return "".join(OPPOSITE[int(code)] for code in path[::-1].strip("-")) or "-"
+
+
+def orbit(path):
+    """The turns of a path and of its reflection, first appearances kept."""
+    if path == "-":
+        return [path]
+    found = []
+    for start in (path, "".join(REFLECTED[int(code)] for code in path)):
+        for _ in range(4):
+            found.append(start)
+            start = "".join(TURNED[int(code)] for code in start)
+    return list(dict.fromkeys(found))
+
+
+def some_size(draws):
+    if draws.one_in(200):
+        return 0, 0
+    most = draws.one_of([3, 4, 6, 8, 12, 16, 16])
+    width, height = 1 + draws.below(most), 1 + draws.below(most)
+    if draws.one_in(8):
+        return 16, height
+    return (width, 16) if draws.one_in(8) else (width, height)
+
+
+def enclose(draws, plot):
+    """Frees a cell and lays the cells beside it; now and then some of them are fixed instead."""
+    row, column = draws.below(plot.height), draws.below(plot.width)
+    here = cell(row, column)
+    plot.fixed &= ~here
+    plot.laid &= ~here
+    fixed_too = draws.one_in(4)
+    for down, right in EDGE_STEPS:
+        r, c = row + down, column + right
+        if 0 <= r < plot.height and 0 <= c < plot.width:
+            plot.fixed &= ~cell(r, c)
+            plot.laid |= cell(r, c)
+            if fixed_too and draws.one_in(3):
+                plot.laid &= ~cell(r, c)
+                plot.fixed |= cell(r, c)
+
+
+def some_marks(draws, plot):
+    """Fixed marks of any kind, and laid marks that need be no run's."""
+    inside = plot.inside()
+    if not inside:
+        return
+    if draws.one_in(2):
+        plot.fixed = inside & draws.cells(draws.one_of([-3, -3, -2, -1, 0, 1]))
+    thickness = draws.one_of([-3, -3, -3, -2, -2, -1, 0, 1, 2, 3])
+    plot.laid = inside & ~plot.fixed & draws.cells(thickness)
+    if draws.one_in(2):
+        enclose(draws, plot)
+
+
+def walk(draws, free, at, length):
+    """A random path over free cells."""
+    path = ""
+    row, column = at // 16, at % 16
+    for _ in range(length):
+        ways = []
+        for code, (down, right) in enumerate(STEPS):
+            r, c = row + down, column + right
+            if 0 <= r < 16 and 0 <= c < 16 and free & cell(r, c):
+                ways.append((str(code), r, c))
+        if not ways:
+            break
+        code, row, column = draws.one_of(ways)
+        path += code
+    return path or "-"
+
+
+def fitting_path(draws, plot, length):
+    """A path that lies on free cells with one of its points on the chosen cell."""
+    count, at, _ = plot.choice()
+    if count < 0:
+        return "-"
+    back = draws.below(length + 1)
+    before = reversed_path(walk(draws, plot.free(), at, back)).strip("-")
+    return before + walk(draws, plot.free(), at, length - back).strip("-") or "-"
+
+
+def some_tile(draws, plot):
+    length = draws.below(9) if draws.below(12) else draws.below(MOST_CODES + 1)
+    kind = draws.below(5)
+    if kind == 0:
+        return draws.path(length)
+    if kind == 1:
+        return draws.path(length, draws.one_of(FEW_CODES))
+    if kind == 2:
+        return draws.path(1 + draws.below(3), "0123")
+    return fitting_path(draws, plot, length)
+
+
+def some_tiles(draws, plot):
+    if draws.one_in(40):
+        return "."
+    kind = draws.below(16)
+    if kind < 2:
+        tiles = draws.one_of(ORBITS).split(",")
+    elif kind < 6:
+        tiles = orbit(some_tile(draws, plot))
+        if draws.one_in(2):
+            tiles += orbit(draws.path(1 + draws.below(4)))
+    elif kind == 6:
+        tiles = draws.one_of(EQUAL_PIECES).split(",")
+    elif kind == 7:
+        number = 1 + draws.below(MOST_TILES)
+        tiles = [draws.path(1 + draws.below(4)) for _ in range(number)]
+    else:
+        tiles = [some_tile(draws, plot) for _ in range(1 + draws.below(6))]
+    if draws.one_in(4):
+        tiles.append(reversed_path(draws.one_of(tiles)))
+    if draws.one_in(3):
+        tiles.insert(draws.below(len(tiles) + 1), "-")
+    return ",".join(tiles[:MOST_TILES])
+
+
+def open_plot(draws):
+    """A plot with few marks, a chosen cell in its midst and whole orbits: many children."""
+    plot = Plot(5 + draws.below(12), 5 + draws.below(12))
+    row, column = 2 + draws.below(plot.height - 4), 2 + draws.below(plot.width - 4)
+    beside = [cell(row + down, column + right) for down, right in EDGE_STEPS]
+    for _ in range(1 + draws.below(2)):
+        beside.remove(draws.one_of(beside))
+    plot.laid = sum(beside)
+    if draws.one_in(2):
+        plot.fixed = plot.inside() & draws.cells(-3) & ~plot.laid & ~cell(row, column)
+    tiles = []
+    for _ in range(1 + draws.below(3)):
+        tiles += orbit(draws.path(1 + draws.below(6)))
+    plot.tiles = ",".join(tiles)
+    return plot
+
+
+def some_plot(draws, with_laid):
+    """A random plot; its laid marks are arbitrary, or there are none."""
+    if with_laid and draws.one_in(8):
+        return open_plot(draws)
+    plot = Plot(*some_size(draws))
+    some_marks(draws, plot)
+    if not with_laid:
+        plot.laid = 0
+    plot.tiles = some_tiles(draws, plot)
+    return plot
+
+
+def stop(message):
+    sys.exit(f"{os.path.basename(sys.argv[0])}: {message}")
+
+
+def build_oracle(sources, folder):
+    """Builds the oracle in a folder outside the repository; its file."""
+    build = ROOT / "tools" / "oracle" / "build.sh"
+    subprocess.run([build, sources, folder], check=True, stdout=sys.stderr)
+    return os.path.join(folder, "oracle")
+
+
+def answers_of(program, commands):
+    """Runs a program on commands, one a line; its answers."""
+    run = subprocess.run(
+        [program],
+        input="".join(command + "\n" for command in commands),
+        stdout=subprocess.PIPE,
+        check=True,
+        encoding="ascii",
+        env={**os.environ, "RAYON_NUM_THREADS": "1"},
+    )
+    answers = run.stdout.splitlines()
+    if len(answers) != len(commands):
+        stop(f"{program}: {len(commands)} commands, {len(answers)} answers")
+    return answers
