@@ -1,4 +1,5 @@
--- Definitions that only contracts of private functions cite; nothing that is promised rests on reading them. Assumes nothing.
+-- Definitions that only contracts of private functions cite, and `walked`, which the law `walked-moved` compares with the definition of the fit.
+-- Assumes nothing.
 use mathlib.Core.Path.{_≡_}
 use mathlib.Core.Bool.{Bool, not, cond, _&&_}
 use mathlib.Core.List.{List, [], _∷_, _++_, flatMap}

@@ -1,4 +1,4 @@
--- Boards and their children. `Board` and `Children` are what a reader must believe; `Inner` serves private contracts only; the rest are laws.
+-- Boards and their children. `Board` and `Children` are what a reader must believe; `Inner` serves private contracts; the rest are laws.
 pub mod Board
 pub mod Children
 pub mod Inner
