@@ -107,6 +107,17 @@ module _ {A : Type 0} (same : A → A → Bool) where
   -- ---- where the test tells equal elements
 
   module _ (tells : Tells same) where
+    -- two elements are equal or not, and an element is in a list or not
+    pub same-false : (x y : A) → (x ≡ y → ⊥) → same x y ≡ false
+    same-false x y n = so-eq (same x y) false (λ e. absurd (n (tells x y .0 e))) (λ e. absurd (false≢true e))
+
+    pub same-cases : (x y : A) → (x ≡ y) ⊎ (x ≡ y → ⊥)
+    same-cases x y = go (same x y) refl
+      where
+        go : (b : Bool) → same x y ≡ b → (x ≡ y) ⊎ (x ≡ y → ⊥)
+        go true e = inl (tells x y .0 e)
+        go false e = inr (λ q. false≢true (sym e ∙ tells x y .1 q))
+
     pub holds-iff : (xs : List A) (y : A) → So (holds same xs y) ↔ Mem y xs
     unfolding holds
     holds-iff [] y = (λ e. absurd (false≢true e), λ m. absurd (not-nil m))
@@ -122,6 +133,13 @@ module _ {A : Type 0} (same : A → A → Bool) where
         go : (b : Bool) → holds same xs y ≡ b → holds same xs y ≡ false
         go true e = absurd (n (holds-iff xs y .0 e))
         go false e = e
+
+    pub mem-cases : (xs : List A) (y : A) → Mem y xs ⊎ (Mem y xs → ⊥)
+    mem-cases xs y = go (holds same xs y) refl
+      where
+        go : (b : Bool) → holds same xs y ≡ b → Mem y xs ⊎ (Mem y xs → ⊥)
+        go true e = inl (holds-iff xs y .0 e)
+        go false e = inr (λ m. false≢true (sym e ∙ holds-iff xs y .1 m))
 
     pub mem-addNew : (xs : List A) (y z : A) → Mem z (addNew same xs y) ↔ (Mem z xs ⊎ (z ≡ y))
     mem-addNew xs y z = go (holds same xs y) refl
@@ -180,6 +198,25 @@ module _ {A : Type 0} (same : A → A → Bool) where
         ∙ addFirsts-new (xs ++ y ∷ []) ys (o .1)
         (λ z m k. ⊎-elim (λ a. n z (there m) a) (λ a. o .0 (subst (λ w. Mem w ys) (eq-of-singleton a) m)) (append-cases xs k))
         ∙ append-assoc xs (y ∷ []) ys
+
+    -- what a list has none of is added behind it as it would be without it
+    addNew-apart : (xs ys : List A) (z : A) → (Mem z xs → ⊥) → addNew same (xs ++ ys) z ≡ xs ++ addNew same ys z
+    addNew-apart xs ys z n = go (holds same ys z) refl
+      where
+        go : (b : Bool) → holds same ys z ≡ b → addNew same (xs ++ ys) z ≡ xs ++ addNew same ys z
+        go true e =
+            addNew-old (xs ++ ys) z (holds-iff (xs ++ ys) z .1 (append-right xs (holds-iff ys z .0 e)))
+            ∙ ap (λ l. xs ++ l) (sym (addNew-old ys z e))
+        go false e =
+            addNew-new (xs ++ ys) z
+            (holds-false (xs ++ ys) z (λ m. ⊎-elim n (λ k. false≢true (sym e ∙ holds-iff ys z .1 k)) (append-cases xs m)))
+            ∙ append-assoc xs ys (z ∷ []) ∙ ap (λ l. xs ++ l) (sym (addNew-new ys z e))
+
+    pub addFirsts-apart : (xs ys zs : List A) → ((z : A) → Mem z zs → Mem z xs → ⊥) → addFirsts same (xs ++ ys) zs ≡ xs ++ addFirsts same ys zs
+    unfolding addFirsts
+    addFirsts-apart xs ys [] n = refl
+    addFirsts-apart xs ys (z ∷ zs) n =
+        ap (λ l. addFirsts same l zs) (addNew-apart xs ys z (n z (here refl))) ∙ addFirsts-apart xs (addNew same ys z) zs (λ w m. n w (there m))
 
 -- ---- the image under a map that keeps the tests
 

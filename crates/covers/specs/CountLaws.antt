@@ -1,0 +1,187 @@
+-- The two counts and the numbered cuttings (statement 7): where a setting meets its laws, prunes only boards without a cutting and takes as many free
+-- cells at each step, and the start has a free cell, the layer count and the graph count are both the number of cuttings, and the pieces of
+-- the tilings by number are the cuttings. Also what a full start counts. Rests on `SequenceLaws`, `ChildLaws` and `GraphLaws`. Assumes nothing.
+use mathlib.Core.Path.{_≡_, refl, sym, ap, ap₂, subst, _∙_}
+use mathlib.Core.Logic.{_⊎_, ⊎-elim}
+use mathlib.Core.Bool.{Bool, true, false, So, cond, false≢true}
+use mathlib.Core.Option.{Option, none, some, Option·none-ne-some, Option·some-injective}
+use mathlib.Core.List.{List, [], _∷_, _++_, map, flatMap, List·Memᴰ as Mem, List·Memᴰ·cases-cons as cases-cons, List·Memᴰ·not-nil as not-nil}
+use Prim.Native.Nat.{ℕ, zero, suc, _+_, _<_}
+use native.Mathlib.Nat.{add-zero}
+use native.Mathlib.Omega.{arith}
+use lib.ListN.{length, getD}
+use Rattle.cells.specs.Firsts.{Once, holds, addFirsts, firsts}
+use Rattle.cells.specs.FirstsLaws.{mem-getD, so-eq}
+use Rattle.covers.specs.Cuttings.{Numbering, Exactly, Setting, CuttingOf, childBoards, Laws, SoundPruning, EqualSteps}
+use Rattle.covers.specs.Counts.{Entry, boards, sumOf, shares, gather, weight, layer, layers, numberIn, tiling, fullCount, fullFrom, fullNode, atNode, entriesOf, nodesOf, countOf, graphOf, layerCount, graphCount, piecesOf, cuttingAt}
+use Rattle.covers.specs.NumberingLaws.{numbering-none}
+use Rattle.covers.specs.SumLaws.{sum-append, sum-ext, sum-zero}
+use Rattle.covers.specs.SequenceLaws.{full-pieces, cutting-sequence, cuttings-numbered}
+use Rattle.covers.specs.ChildLaws.{sequence-children, sequences-numbered}
+use Rattle.covers.specs.GatherLaws.{weight-entry}
+use Rattle.covers.specs.LayerLaws.{layers-first}
+use Rattle.covers.specs.GraphLaws.{once-layers, node-ok, tilings-numbered, reached-node}
+use Rattle.covers.specs.NodeLaws.{mem-boards, mem-entry, count-number, number-getD}
+
+-- ---- the full node
+
+module _ {B : Type 0} (full : B → Bool) where
+  fullFrom-some : (i v : ℕ) (ss : List B) (d : B) → fullFrom full i ss ≡ some v → (k : ℕ) × (v ≡ i + k) × (k < length ss) × So (full (getD ss k d))
+  unfolding fullFrom
+  fullFrom-some i v [] d e = absurd (Option·none-ne-some v e)
+  fullFrom-some i v (s ∷ ss) d e = go (full s) refl e (λ q. fullFrom-some (suc i) v ss d q)
+    where
+      go : (b : Bool) → full s ≡ b → cond b (some i) (fullFrom full (suc i) ss) ≡ some v
+          → (fullFrom full (suc i) ss ≡ some v → (k : ℕ) × (v ≡ suc i + k) × (k < length ss) × So (full (getD ss k d)))
+          → (k : ℕ) × (v ≡ i + k) × (k < length (s ∷ ss)) × So (full (getD (s ∷ ss) k d))
+      go true f q below = (0, sym (Option·some-injective i v q) ∙ sym (add-zero i), omega arith, f)
+      go false f q below = let r = below q in (suc (r .0), omega (arith, r .1), omega (arith, r .2), r .3)
+
+  fullFrom-none : (i : ℕ) (ss : List B) → fullFrom full i ss ≡ none → (t : B) → Mem t ss → full t ≡ false
+  unfolding fullFrom
+  fullFrom-none i [] e t m = absurd (not-nil m)
+  fullFrom-none i (s ∷ ss) e t m = go (full s) refl e (λ q. fullFrom-none (suc i) ss q t)
+    where
+      go : (b : Bool) → full s ≡ b → cond b (some i) (fullFrom full (suc i) ss) ≡ none → (fullFrom full (suc i) ss ≡ none → Mem t ss → full t ≡ false) → full t ≡ false
+      go true f q below = absurd (Option·none-ne-some i (sym q))
+      go false f q below = ⊎-elim (λ k. ap full k ∙ f) (below q) (cases-cons m)
+
+  -- the full node is a node behind the first, and full
+  pub fullNode-some : (s : B) (ss : List B) (v : ℕ) (d : B) → fullNode full (s ∷ ss) ≡ some v → (0 < v) × (v < length (s ∷ ss)) × So (full (getD (s ∷ ss) v d))
+  unfolding fullNode
+  fullNode-some s ss v d e =
+      let r = fullFrom-some 1 v ss d e in
+      let q : v ≡ suc (r .0) = omega (arith, r .1) in
+      (omega arith, omega (arith, r .2), subst (λ (w : ℕ). So (full (getD (s ∷ ss) w d))) (sym q) (r .3))
+
+  -- with none, no node behind the first is full
+  pub fullNode-none : (s : B) (ss : List B) → fullNode full (s ∷ ss) ≡ none → (t : B) → Mem t ss → full t ≡ false
+  unfolding fullNode
+  fullNode-none s ss e t m = fullFrom-none 1 ss e t m
+
+-- ---- a start that is full
+
+module _ {B P : Type 0} (G : Setting B P) (L : Laws G) (s : B) (ok : G .Ok s) (full : So (G .full s)) where
+  full-layer : (n : ℕ) → layer (G .sameBoard) (childBoards G) s (suc n) ≡ []
+  unfolding layer shares gather flatMap firsts addFirsts
+  full-layer zero = rw (full-pieces G L s ok full)
+  full-layer (suc n) = ap (λ es. gather (G .sameBoard) (shares (childBoards G) es)) (full-layer n)
+
+  full-layers : (n : ℕ) → layers (G .sameBoard) (childBoards G) s n ≡ (s, 1) ∷ []
+  unfolding layers layer
+  full-layers zero = refl
+  full-layers (suc n) = ap₂ _++_ (full-layers n) (full-layer n)
+
+  -- a full start counts 0, in as many layers as one likes
+  pub full-layerCount : (n : ℕ) → layerCount G s n ≡ 0
+  unfolding layerCount fullCount sumOf
+  full-layerCount zero = refl
+  full-layerCount (suc n) = ap₂ _+_ (full-layerCount n) (ap (fullCount (G .full)) (full-layer n))
+
+  pub full-graphCount : graphCount G s ≡ 0
+  unfolding graphCount fullNode fullFrom atNode
+  full-graphCount = ap (λ (es : List (Entry B)). atNode (countOf G s) (fullNode (G .full) (boards es))) (full-layers (G .freeCount s))
+
+-- ---- a start with a free cell
+
+module _ {B P : Type 0} (G : Setting B P) (L : Laws G) (a : ℕ) (E : EqualSteps G a) (s : B) (ok : G .Ok s) where
+  -- node 0 is the start
+  rest : List (Entry B)
+  rest = layers-first (G .sameBoard) (L .board-eq) (childBoards G) s (G .freeCount s) .0
+
+  entries : entriesOf G s ≡ (s, 1) ∷ rest
+  unfolding rest
+  entries = layers-first (G .sameBoard) (L .board-eq) (childBoards G) s (G .freeCount s) .1
+
+  nodes : nodesOf G s ≡ s ∷ boards rest
+  nodes = ap boards entries
+
+  once-nodes : Once (nodesOf G s)
+  once-nodes = once-layers G L a E s ok (G .freeCount s)
+
+  module _ (notFull : G .full s ≡ false) where
+    some-full : (v : ℕ) → fullNode (G .full) (nodesOf G s) ≡ some v → (v < length (nodesOf G s)) × So (G .full (getD (nodesOf G s) v s))
+    some-full v e =
+        let r = fullNode-some (G .full) s (boards rest) v s (ap (fullNode (G .full)) (sym nodes) ∙ e) in
+        (subst (λ (ss : List B). v < length ss) (sym nodes) (r .1), subst (λ (ss : List B). So (G .full (getD ss v s))) (sym nodes) (r .2))
+
+    none-full : fullNode (G .full) (nodesOf G s) ≡ none → (t : B) → Mem t (nodesOf G s) → G .full t ≡ false
+    none-full e t m =
+        ⊎-elim (λ q. ap (G .full) q ∙ notFull) (fullNode-none (G .full) s (boards rest) (ap (fullNode (G .full)) (sym nodes) ∙ e) t)
+        (cases-cons (subst (Mem t) nodes m))
+
+    -- ---- both counts agree
+
+    -- the full boards in the layers joined weigh as many as the layer count
+    sum-layers : (n : ℕ) → fullCount (G .full) (layers (G .sameBoard) (childBoards G) s n) ≡ layerCount G s n
+    unfolding layers layer layerCount fullCount sumOf
+    sum-layers zero = rw notFull
+    sum-layers (suc n) =
+        sum-append (λ e. cond (G .full (e .0)) (e .1) 0) (layers (G .sameBoard) (childBoards G) s n) (layer (G .sameBoard) (childBoards G) s (suc n))
+        ∙ ap (λ (k : ℕ). k + fullCount (G .full) (layer (G .sameBoard) (childBoards G) s (suc n))) (sum-layers n)
+
+    -- all full boards are one board
+    full-same : (t u : B) → G .Ok t → G .Ok u → So (G .full t) → G .full u ≡ G .sameBoard u t
+    full-same t u o k f = so-eq (G .full u) (G .sameBoard u t)
+        (λ g. L .board-eq u t .1 (L .full-one u t k o g f)) (λ e. ap (G .full) (L .board-eq u t .0 e) ∙ f)
+
+    full-weight : (v : ℕ) → v < length (nodesOf G s) → So (G .full (getD (nodesOf G s) v s)) → fullCount (G .full) (entriesOf G s) ≡ countOf G s v
+    unfolding fullCount weight
+    full-weight v h f =
+        let t = getD (nodesOf G s) v s in
+        let m : Mem t (nodesOf G s) = mem-getD (nodesOf G s) v s h in
+        let e = mem-entry (entriesOf G s) t m in
+        sum-ext (λ e. cond (G .full (e .0)) (e .1) 0) (λ e. cond (G .sameBoard (e .0) t) (e .1) 0) (entriesOf G s)
+        (λ x k. ap (λ (b : Bool). cond b (x .1) 0) (full-same t (x .0) (node-ok G L a E s ok t m) (node-ok G L a E s ok (x .0) (mem-boards (entriesOf G s) x k)) f))
+        ∙ ap (λ (u : B). weight (G .sameBoard) u (entriesOf G s)) (sym (e .2))
+        ∙ weight-entry (G .sameBoard) (L .board-eq) (entriesOf G s) (e .0) once-nodes (e .1)
+        ∙ sym (count-number (G .sameBoard) (L .board-eq) (entriesOf G s) (e .0) once-nodes (e .1))
+        ∙ ap (countOf G s) (ap (numberIn (G .sameBoard) (nodesOf G s)) (e .2) ∙ number-getD (G .sameBoard) (L .board-eq) (nodesOf G s) v s once-nodes h)
+
+    none-count : fullNode (G .full) (nodesOf G s) ≡ none → fullCount (G .full) (entriesOf G s) ≡ 0
+    unfolding fullCount
+    none-count e = sum-zero (λ e. cond (G .full (e .0)) (e .1) 0) (entriesOf G s)
+        (λ x k. ap (λ (b : Bool). cond b (x .1) 0) (none-full e (x .0) (mem-boards (entriesOf G s) x k)))
+
+    pub counts-agree : layerCount G s (G .freeCount s) ≡ graphCount G s
+    unfolding graphCount
+    counts-agree = sym (sum-layers (G .freeCount s)) ∙ go (fullNode (G .full) (nodesOf G s)) refl
+      where
+        go : (o : Option ℕ) → fullNode (G .full) (nodesOf G s) ≡ o → fullCount (G .full) (entriesOf G s) ≡ atNode (countOf G s) (fullNode (G .full) (nodesOf G s))
+        go none e = none-count e ∙ ap (atNode (countOf G s)) (sym e)
+        go (some v) e = let r = some-full v e in full-weight v (r .0) (r .1) ∙ ap (atNode (countOf G s)) (sym e)
+
+    -- ---- and are the number of cuttings
+
+    module _ (sound : SoundPruning G) where
+      -- the set of the pieces of the steps of the tiling with the number m to a node, or to node 0 with none
+      readTo : Option ℕ → ℕ → P → Bool
+      readTo o m = holds (G .samePiece) (piecesOf G (map (λ v. getD (nodesOf G s) v s) (tiling (graphOf G s) (countOf G s) (atNode (λ v. v) o) m)))
+
+      no-cutting : fullNode (G .full) (nodesOf G s) ≡ none → (X : P → Bool) → CuttingOf G s X → ⊥
+      no-cutting e X u =
+          let r = cutting-sequence G L sound s X ok u in
+          let k = sequence-children G L s (r .0) ok (r .1) in
+          let m = reached-node G L a E s ok (k .0) (k .1) (k .4) in
+          false≢true (sym (none-full e (k .0) m) ∙ k .3)
+
+      numbered-to : (o : Option ℕ) → fullNode (G .full) (nodesOf G s) ≡ o → Numbering (CuttingOf G s) (atNode (countOf G s) o) (readTo o)
+      unfolding atNode readTo
+      numbered-to none e = numbering-none (readTo none) (no-cutting e)
+      numbered-to (some v) e =
+          let r = some-full v e in
+          let o = node-ok G L a E s ok (getD (nodesOf G s) v s) (mem-getD (nodesOf G s) v s (r .0)) in
+          cuttings-numbered G L sound s ok
+          (sequences-numbered G L s (getD (nodesOf G s) v s) ok o (r .1)
+          (tilings-numbered G L a E s ok v (r .0)))
+
+      -- the numbers below the graph count number the cuttings: the set of pieces that the steps of a tiling mark
+      pub cuttings-by-number : Numbering (CuttingOf G s) (graphCount G s) (cuttingAt G s)
+      unfolding graphCount readTo
+      cuttings-by-number = numbered-to (fullNode (G .full) (nodesOf G s)) refl
+
+      pub graph-count : Exactly (graphCount G s) (CuttingOf G s)
+      graph-count = (cuttingAt G s, cuttings-by-number)
+
+      pub layer-count : Exactly (layerCount G s (G .freeCount s)) (CuttingOf G s)
+      layer-count = subst (λ (n : ℕ). Exactly n (CuttingOf G s)) (sym counts-agree) graph-count

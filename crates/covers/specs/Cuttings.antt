@@ -1,0 +1,102 @@
+-- Definitions, first page: how many there are; cuttings; a way of laying pieces, its sequences, and the laws that are asked of it.
+-- What stands in quotation marks is 01's. Boards and pieces are of any two types; a cell is a number. Assumes nothing.
+use mathlib.Core.Path.{_≡_}
+use mathlib.Core.Logic.{_⊎_, _↔_}
+use mathlib.Core.Bool.{Bool, false, So}
+use mathlib.Core.List.{List, [], _∷_, map, List·Memᴰ as Mem}
+use Prim.Native.Nat.{ℕ, _+_, _<_}
+use Rattle.cells.specs.Firsts.{Once, Tells}
+
+-- ---- how many
+
+module _ {A : Type 0} where
+  -- f numbers what is `Is` by the numbers below n: each number gives one, two numbers never give the same, and every one has its number
+  pub record Numbering (Is : A → Type 0) (n : ℕ) (f : ℕ → A) : Type 0 where
+    pub each : (m : ℕ) → m < n → Is (f m)
+    pub once : (m k : ℕ) → m < n → k < n → f m ≡ f k → m ≡ k
+    pub all : (a : A) → Is a → (m : ℕ) × (m < n) × (f m ≡ a)
+
+  -- there are exactly n
+  abbrev pub Exactly : ℕ → (A → Type 0) → Type 0
+  Exactly n Is = (f : ℕ → A) × Numbering Is n f
+
+-- ---- cuttings. `covers p c`: the piece p covers the cell c. `IsTile p`: p is "a tile's cells moved unturned". `free c`: the cell c is free
+
+module _ {P : Type 0} (covers : P → ℕ → Bool) (IsTile : P → Type 0) (free : ℕ → Bool) where
+  -- "a tile's cells moved unturned onto free cells"
+  pub record Fits (p : P) : Type 0 where
+    pub tile : IsTile p
+    pub onto : (c : ℕ) → So (covers p c) → So (free c)
+
+  -- "A cutting": a set X of pieces, each of which fits, "with every free cell in exactly one"
+  pub record Cutting (X : P → Bool) : Type 0 where
+    pub fits : (p : P) → So (X p) → Fits p
+    pub exact : (c : ℕ) → So (free c) → Exactly 1 (λ (p : P). So (X p) × So (covers p c))
+
+-- ---- a way of laying pieces
+
+pub record Setting (B P : Type 0) : Type 1 where
+  -- the boards that are accepted, and the pieces that are "a tile's cells moved unturned"
+  pub Ok : B → Type 0
+  pub IsTile : P → Type 0
+  -- whether a cell of a board is free, whether a piece covers a cell, and whether "a full board has no free cell" holds of a board
+  pub free : B → ℕ → Bool
+  pub covers : P → ℕ → Bool
+  pub full : B → Bool
+  -- the number of free cells
+  pub freeCount : B → ℕ
+  -- a board with a piece laid, and the piece of a step: "the cells marked in the later node and free in the earlier"
+  pub lay : B → P → B
+  pub stepPiece : B → B → P
+  -- "the chosen cell" of a board that is not full, and the pieces that are laid on the board, in order
+  pub chosen : B → ℕ
+  pub pieces : B → List P
+  -- tests of equality
+  pub sameBoard : B → B → Bool
+  pub samePiece : P → P → Bool
+
+module _ {B P : Type 0} (G : Setting B P) where
+  abbrev pub FitsOn : B → P → Type 0
+  FitsOn s = Fits (G .covers) (G .IsTile) (G .free s)
+
+  abbrev pub CuttingOf : B → (P → Bool) → Type 0
+  CuttingOf s = Cutting (G .covers) (G .IsTile) (G .free s)
+
+  -- the children: the boards with one of the pieces laid, in order
+  abbrev pub childBoards : B → List B
+  childBoards s = map (G .lay s) (G .pieces s)
+
+  -- a placing sequence: pieces laid one after another from s on, each one of the board that it is laid on, until no cell is free
+  abbrev pub PlacingSequence : B → List P → Type 0
+  PlacingSequence s [] = So (G .full s)
+  PlacingSequence s (p ∷ ps) = Mem p (G .pieces s) × PlacingSequence (G .lay s p) ps
+
+  -- what is asked of a setting
+  pub record Laws : Type 0 where
+    -- the tests tell equal boards and equal pieces
+    pub board-eq : Tells (G .sameBoard)
+    pub piece-eq : Tells (G .samePiece)
+    -- a board is full if no cell is free, all full boards are one board, and the chosen cell of any other is free
+    pub full-iff : (s : B) → G .Ok s → So (G .full s) ↔ ((c : ℕ) → So (G .free s c) → ⊥)
+    pub full-one : (s t : B) → G .Ok s → G .Ok t → So (G .full s) → So (G .full t) → s ≡ t
+    pub chosen-free : (s : B) → G .Ok s → G .full s ≡ false → So (G .free s (G .chosen s))
+    -- a tile has a cell
+    pub tile-cell : (p : P) → G .IsTile p → (c : ℕ) × So (G .covers p c)
+    -- to lay a piece that fits gives an accepted board, takes the piece's cells from the free ones and no others, and is a step with that piece
+    pub lay-ok : (s : B) (p : P) → G .Ok s → FitsOn s p → G .Ok (G .lay s p)
+    pub lay-free : (s : B) (p : P) → G .Ok s → FitsOn s p → (c : ℕ) → So (G .free (G .lay s p) c) ↔ (So (G .free s c) × (So (G .covers p c) → ⊥))
+    pub lay-count : (s : B) (p : P) → G .Ok s → FitsOn s p → G .freeCount (G .lay s p) < G .freeCount s
+    pub lay-step : (s : B) (p : P) → G .Ok s → FitsOn s p → G .stepPiece s (G .lay s p) ≡ p
+    -- the pieces of a board fit and cover its chosen cell, each once
+    pub piece-fits : (s : B) (p : P) → G .Ok s → Mem p (G .pieces s) → FitsOn s p
+    pub piece-chosen : (s : B) (p : P) → G .Ok s → Mem p (G .pieces s) → So (G .covers p (G .chosen s))
+    pub piece-once : (s : B) → G .Ok s → Once (G .pieces s)
+
+  -- the pruning condition: each piece that fits and covers the chosen cell is there, unless the board has no cutting at all
+  abbrev pub SoundPruning : Type 0
+  SoundPruning = (s : B) (p : P) → G .Ok s → FitsOn s p → So (G .covers p (G .chosen s)) → Mem p (G .pieces s) ⊎ ((X : P → Bool) → CuttingOf s X → ⊥)
+
+  -- tiles of equally many cells: each piece takes as many free cells, at least one
+  pub record EqualSteps (a : ℕ) : Type 0 where
+    pub positive : 0 < a
+    pub lay-equal : (s : B) (p : P) → G .Ok s → FitsOn s p → G .freeCount (G .lay s p) + a ≡ G .freeCount s

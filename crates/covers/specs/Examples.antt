@@ -1,0 +1,205 @@
+-- The definitions compute and the laws can be met: 2 by 2 with dominoes. And what is asked can't be left out: a full start, a plot whose pruning is
+-- not sound, two equal edges. Rests on `Search` and `Theorems`. Assumes nothing.
+use mathlib.Core.Path.{_≡_, refl, ap, subst}
+use mathlib.Core.Logic.{⊎-elim}
+use mathlib.Core.Bool.{Bool, false, cond, _&&_}
+use mathlib.Core.List.{List, [], _∷_, flatMap, List·Memᴰ·cases-cons as cases-cons, List·Memᴰ·eq-of-singleton as eq-of-singleton, List·Memᴰ·not-nil as not-nil}
+use Prim.Native.Nat.{ℕ, zero, suc, _+_, _-_, _%_, _^_, _<_}
+use native.Mathlib.Omega.{arith}
+use lib.Dec.{eqb}
+use lib.ListN.{getD}
+use Rattle.cells.specs.Set.{bit, hasCell, size}
+use Rattle.cells.specs.Firsts.{any, holds}
+use Rattle.cells.specs.FirstsLaws.{holds-iff}
+use Rattle.cells.specs.MemberLaws.{eqb-tells}
+use Rattle.covers.specs.Cuttings.{Exactly, CuttingOf, Laws, SoundPruning, EqualSteps}
+use Rattle.covers.specs.Counts.{counts, sumOf, layers, edgesOf, parentsOf, tiling, SumRule, fullNode, atNode, entriesOf, nodesOf, graphOf, layerCount, graphCount, tilingOf}
+use Rattle.covers.specs.Theorems.{number-unique, layer-count-is-cuttings}
+use Rattle.covers.specs.CellSets.{cellSetting}
+use Rattle.covers.specs.Search.{Plot, all, isWithin, settingOf, isPlot, cuts, plot-laws, plot-steps, plot-pruning, plot-ok, plot-cutting}
+
+-- ---- 2 by 2 with dominoes: the cells 0 and 1 above 2 and 3, the lowest free cell is chosen
+
+abbrev twoByTwo : Plot
+twoByTwo = record {
+  region = 15;
+  cells = 0 ∷ 1 ∷ 2 ∷ 3 ∷ [];
+  tiles = 3 ∷ 5 ∷ 10 ∷ 12 ∷ [];
+  rank = λ s c. 0;
+  prunes = λ s. false;
+}
+
+two-by-two : Laws (settingOf twoByTwo)
+unfolding isPlot
+two-by-two = plot-laws twoByTwo refl
+
+two-by-two-steps : EqualSteps (settingOf twoByTwo) 2
+unfolding isPlot all size
+two-by-two-steps = plot-steps twoByTwo refl 2 (omega arith) refl
+
+two-by-two-pruning : SoundPruning (settingOf twoByTwo)
+unfolding isPlot
+two-by-two-pruning = plot-pruning twoByTwo refl (λ s. refl)
+
+two-by-two-ok : settingOf twoByTwo .Ok 0
+unfolding isPlot isWithin
+two-by-two-ok = plot-ok twoByTwo refl 0 refl
+
+two-by-two-not-full : settingOf twoByTwo .full 0 ≡ false
+unfolding settingOf
+two-by-two-not-full = refl
+
+-- both counts are 2
+two-layers : layerCount (settingOf twoByTwo) 0 (settingOf twoByTwo .freeCount 0) ≡ 2
+unfolding settingOf size layerCount
+two-layers = refl
+
+two-graph : graphCount (settingOf twoByTwo) 0 ≡ 2
+unfolding settingOf size graphCount
+two-graph = refl
+
+-- so there are exactly two cuttings
+two-cuttings : Exactly 2 (CuttingOf (settingOf twoByTwo) 0)
+two-cuttings =
+    subst (λ (n : ℕ). Exactly n (CuttingOf (settingOf twoByTwo) 0)) two-layers
+    (layer-count-is-cuttings (settingOf twoByTwo) two-by-two 0 two-by-two-ok 2 two-by-two-steps two-by-two-pruning two-by-two-not-full)
+
+-- the graph: its boards, their path counts, its edges
+nodes : nodesOf (settingOf twoByTwo) 0 ≡ 0 ∷ 3 ∷ 5 ∷ 15 ∷ []
+unfolding settingOf size layers
+nodes = refl
+
+path-counts : counts (entriesOf (settingOf twoByTwo) 0) ≡ 1 ∷ 1 ∷ 1 ∷ 2 ∷ []
+unfolding settingOf size layers
+path-counts = refl
+
+edges : graphOf (settingOf twoByTwo) 0 ≡ (0, 1) ∷ (0, 2) ∷ (1, 3) ∷ (2, 3) ∷ []
+unfolding settingOf size layers edgesOf
+edges = refl
+
+tiling-0 : tilingOf (settingOf twoByTwo) 0 0 ≡ 0 ∷ 3 ∷ 15 ∷ []
+unfolding settingOf size layers edgesOf tiling fullNode atNode
+tiling-0 = refl
+
+tiling-1 : tilingOf (settingOf twoByTwo) 0 1 ≡ 0 ∷ 5 ∷ 15 ∷ []
+unfolding settingOf size layers edgesOf tiling fullNode atNode
+tiling-1 = refl
+
+-- a full start counts 0, though the empty set is a cutting
+full-layers : layerCount (settingOf twoByTwo) 15 0 ≡ 0
+unfolding settingOf layerCount
+full-layers = refl
+
+full-graph : graphCount (settingOf twoByTwo) 15 ≡ 0
+unfolding settingOf size graphCount
+full-graph = refl
+
+full-cutting : CuttingOf (settingOf twoByTwo) 15 (holds eqb [])
+unfolding isPlot cuts
+full-cutting = plot-cutting twoByTwo refl 15 [] (plot-ok twoByTwo refl 15 refl) refl
+
+-- ---- 01: "4 by 2 with tiles UpLeft and UpRight 0, though one cutting exists": the cells 0 to 3 above 4 to 7, all marks laid
+
+-- the neighbour count: 1, since every cell is in an outer row, and the marks left, right and above or below
+unfoldable beside : ℕ → ℕ → ℕ
+unfolding bit
+beside s c = 1 + cond (eqb (c % 4) 0) 0 (bit s (c - 1)) + cond (eqb (c % 4) 3) 0 (bit s (c + 1)) + bit s ((c + 4) % 8)
+
+abbrev columns : List ℕ
+columns = 0 ∷ 4 ∷ 1 ∷ 5 ∷ 2 ∷ 6 ∷ 3 ∷ 7 ∷ []
+
+-- "any free cell has count 4"
+unfoldable hasFour : ℕ → Bool
+unfolding any hasCell beside
+hasFour s = any (λ c. hasCell (255 - s) c && eqb (beside s c) 4) columns
+
+abbrev slantedWith : (ℕ → Bool) → Plot
+slantedWith prunes = record {
+  region = 255;
+  cells = columns;
+  tiles = flatMap (λ c. (2 ^ c + 2 ^ (c + 5)) ∷ (2 ^ (c + 1) + 2 ^ (c + 4)) ∷ []) (0 ∷ 1 ∷ 2 ∷ []);
+  rank = beside;
+  prunes = prunes;
+}
+
+abbrev slanted : Plot
+slanted = slantedWith hasFour
+
+slanted-laws : Laws (settingOf slanted)
+unfolding isPlot flatMap
+slanted-laws = plot-laws slanted refl
+
+slanted-steps : EqualSteps (settingOf slanted) 2
+unfolding isPlot flatMap all size
+slanted-steps = plot-steps slanted refl 2 (omega arith) refl
+
+slanted-layers : layerCount (settingOf slanted) 0 (settingOf slanted .freeCount 0) ≡ 0
+unfolding settingOf size layerCount flatMap beside hasFour
+slanted-layers = refl
+
+slanted-graph : graphCount (settingOf slanted) 0 ≡ 0
+unfolding settingOf size graphCount flatMap beside hasFour
+slanted-graph = refl
+
+-- one cutting exists: its pieces, and that there is no other, which the count with no pruning tells
+abbrev slantedPieces : List ℕ
+slantedPieces = 33 ∷ 18 ∷ 132 ∷ 72 ∷ []
+
+slanted-cutting : CuttingOf (settingOf slanted) 0 (holds eqb slantedPieces)
+unfolding isPlot flatMap cuts
+slanted-cutting = plot-cutting slanted refl 0 slantedPieces (plot-ok slanted refl 0 refl) refl
+
+abbrev unpruned : Plot
+unpruned = slantedWith (λ s. false)
+
+unpruned-layers : layerCount (settingOf unpruned) 0 (settingOf unpruned .freeCount 0) ≡ 1
+unfolding settingOf size layerCount flatMap beside
+unpruned-layers = refl
+
+slanted-one : Exactly 1 (CuttingOf (settingOf slanted) 0)
+unfolding isPlot flatMap all size settingOf
+slanted-one =
+    subst (λ (n : ℕ). Exactly n (CuttingOf (settingOf unpruned) 0)) unpruned-layers
+    (layer-count-is-cuttings (settingOf unpruned) (plot-laws unpruned refl) 0 (plot-ok unpruned refl 0 refl) 2
+    (plot-steps unpruned refl 2 (omega arith) refl) (plot-pruning unpruned refl (λ s. refl)) refl)
+
+-- without the pruning condition the layer count is not the number of cuttings
+slanted-unequal : Exactly (layerCount (settingOf slanted) 0 (settingOf slanted .freeCount 0)) (CuttingOf (settingOf slanted) 0) → ⊥
+slanted-unequal E = omega (arith, number-unique E slanted-one, slanted-layers)
+
+-- so the pruning is not sound: with the cells 3 and 6 free, 6 has count 4 and the board is pruned, but a tile covers both
+slanted-pruning : SoundPruning (settingOf slanted) → ⊥
+unfolding settingOf cellSetting isPlot flatMap beside hasFour cuts
+slanted-pruning sound =
+    let ok = plot-ok slanted refl 183 refl in
+    ⊎-elim (λ m. not-nil m) (λ none. none (holds eqb (72 ∷ [])) (plot-cutting slanted refl 183 (72 ∷ []) ok refl))
+    (sound 183 72 ok (record { tile = holds-iff eqb eqb-tells (slanted .tiles) 72 .0 refl; onto = λ c h. h }) refl)
+
+-- ---- two equal edges meet the rule of sums, but two numbers give one list: different lists need each edge once
+
+abbrev doubled : List (ℕ × ℕ)
+doubled = (0, 1) ∷ (0, 1) ∷ []
+
+abbrev doubledCount : ℕ → ℕ
+doubledCount v = getD (1 ∷ 2 ∷ []) v 0
+
+double-sums : (v : ℕ) → 0 < v → v < 2 → doubledCount v ≡ sumOf doubledCount (parentsOf doubled v)
+unfolding sumOf parentsOf
+double-sums zero a b = absurd (omega arith)
+double-sums (suc zero) a b = refl
+double-sums (suc (suc v)) a b = absurd (omega arith)
+
+double-edge : SumRule 2 doubled doubledCount
+double-edge = record {
+  rises = λ p c m.
+      let e : _≡_ {A = ℕ × ℕ} (p, c) (0, 1) = ⊎-elim (λ e. e) (λ k. eq-of-singleton k) (cases-cons m) in
+      let first : p ≡ 0 = ap (λ (x : ℕ × ℕ). x .0) e in
+      let second : c ≡ 1 = ap (λ (x : ℕ × ℕ). x .1) e in
+      (omega arith, omega arith);
+  first = refl;
+  sums = double-sums;
+}
+
+double-edge-same : (tiling doubled doubledCount 1 0 ≡ 0 ∷ 1 ∷ []) × (tiling doubled doubledCount 1 1 ≡ 0 ∷ 1 ∷ [])
+unfolding tiling
+double-edge-same = (refl, refl)

@@ -1,0 +1,19 @@
+-- The mathematics of cuttings: exact covers, and why counting child sequences counts them. `Cuttings` and `Counts` are what a reader must believe,
+-- `Theorems` is what is proved of them; the rest are laws, a setting of sets of cells that meets the laws, and examples.
+pub mod Cuttings
+pub mod Counts
+pub mod Theorems
+pub mod NumberingLaws
+pub mod SequenceLaws
+pub mod ChildLaws
+pub mod SumLaws
+pub mod GatherLaws
+pub mod NodeLaws
+pub mod LayerLaws
+pub mod OrderLaws
+pub mod WalkLaws
+pub mod GraphLaws
+pub mod CountLaws
+pub mod CellSets
+pub mod Search
+pub mod Examples

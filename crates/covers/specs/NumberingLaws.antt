@@ -1,0 +1,78 @@
+-- Laws of numberings: how many there are is unique; a numbering is carried along a map that is one-to-one onto; none, and exactly one.
+-- Rests on `Cuttings`. Assumes nothing.
+use mathlib.Core.Path.{_≡_, sym, ap, subst, _∙_}
+use mathlib.Core.List.{List·Memᴰ as Mem}
+use Prim.Native.Nat.{ℕ, _≤_, _<_}
+use native.Mathlib.Nat.{le-antisymm}
+use native.Mathlib.Omega.{arith}
+use Rattle.cells.specs.Firsts.{Once}
+use Rattle.cells.specs.Arrays.{listOf}
+use Rattle.cells.specs.ArrayLaws.{length-listOf}
+use Rattle.cells.specs.MemberLaws.{mem-listOf, once-listOf, once-length}
+use Rattle.covers.specs.Cuttings.{Numbering, Exactly}
+
+-- ---- the number is unique
+
+module _ {A B : Type 0} {Is : A → Type 0} {Has : B → Type 0} where
+  -- what goes one-to-one into something else is no more than it
+  pub exactly-le : {n k : ℕ} (g : A → B) → ((a : A) → Is a → Has (g a)) → ((a b : A) → Is a → Is b → g a ≡ g b → a ≡ b) → Exactly n Is
+      → Exactly k Has → n ≤ k
+  exactly-le {n} {k} g to inj F H =
+      let r = once-length (listOf (λ m. g (F .0 m)) n) (listOf (H .0) k) distinct within in
+      omega (arith, length-listOf (λ m. g (F .0 m)) n, length-listOf (H .0) k)
+    where
+      within : (y : B) → Mem y (listOf (λ m. g (F .0 m)) n) → Mem y (listOf (H .0) k)
+      within y m =
+          let r = mem-listOf (λ m. g (F .0 m)) n y .0 m in
+          let q = H .1 .all (g (F .0 (r .0))) (to (F .0 (r .0)) (F .1 .each (r .0) (r .1))) in
+          mem-listOf (H .0) k y .1 (q .0, q .1, r .2 ∙ sym (q .2))
+
+      distinct : Once (listOf (λ m. g (F .0 m)) n)
+      distinct = once-listOf (λ m. g (F .0 m)) n
+          (λ m k h i e. F .1 .once m k h i (inj (F .0 m) (F .0 k) (F .1 .each m h) (F .1 .each k i) e))
+
+  -- a numbering is carried along a map that is one-to-one onto
+  pub carry : {n : ℕ} {f : ℕ → A} (g : A → B) → ((a : A) → Is a → Has (g a)) → ((a b : A) → Is a → Is b → g a ≡ g b → a ≡ b)
+      → ((b : B) → Has b → (a : A) × Is a × (g a ≡ b)) → Numbering Is n f → Numbering Has n (λ m. g (f m))
+  carry {f = f} g to inj onto F = record {
+    each = λ m h. to (f m) (F .each m h);
+    once = λ m k h i e. F .once m k h i (inj (f m) (f k) (F .each m h) (F .each k i) e);
+    all = λ b h. let r = onto b h in let q = F .all (r .0) (r .1) in (q .0, q .1, ap g (q .2) ∙ r .2);
+  }
+
+module _ {A : Type 0} {Is : A → Type 0} where
+  pub exactly-unique : {n k : ℕ} → Exactly n Is → Exactly k Is → n ≡ k
+  exactly-unique F H = le-antisymm (exactly-le (λ a. a) (λ a h. h) (λ a b h i e. e) F H) (exactly-le (λ a. a) (λ a h. h) (λ a b h i e. e) H F)
+
+  -- the same numbering, told otherwise
+  pub renumber : {n k : ℕ} {f g : ℕ → A} → n ≡ k → ((m : ℕ) → m < k → g m ≡ f m) → Numbering Is n f → Numbering Is k g
+  renumber {f = f} {g = g} e same F = record {
+    each = λ m h. subst Is (sym (same m h)) (F .each m (omega arith));
+    once = λ m k h i p. F .once m k (omega arith) (omega arith) (sym (same m h) ∙ p ∙ same k i);
+    all = λ a h. let r = F .all a h in let l = r .1 in (r .0, omega arith, same (r .0) (omega arith) ∙ r .2);
+  }
+
+  -- there is none
+  pub numbering-none : (f : ℕ → A) → ((a : A) → Is a → ⊥) → Numbering Is 0 f
+  numbering-none f none = record {
+    each = λ m h. absurd (omega arith);
+    once = λ m k h i e. absurd (omega arith);
+    all = λ a h. absurd (none a h);
+  }
+
+  -- there is one: it is that one, and no other is
+  pub exactly-one : (a : A) → Is a → ((b : A) → Is b → b ≡ a) → Exactly 1 Is
+  exactly-one a h only = (
+    λ m. a,
+    record {
+      each = λ m i. h;
+      once = λ m k i j e. omega arith;
+      all = λ b i. (0, omega arith, sym (only b i));
+    },
+  )
+
+  pub one-is : (E : Exactly 1 Is) → Is (E .0 0)
+  one-is E = E .1 .each 0 (omega arith)
+
+  pub one-only : (E : Exactly 1 Is) (a : A) → Is a → a ≡ E .0 0
+  one-only E a h = let r = E .1 .all a h in let l = r .1 in let z : r .0 ≡ 0 = omega arith in sym (r .2) ∙ ap (E .0) z

@@ -1,0 +1,131 @@
+-- The theorem page: what is proved of the definitions of `Cuttings` and `Counts`, each statement with its words. A proof here is a citation.
+-- Assumes nothing.
+use mathlib.Core.Path.{_≡_}
+use mathlib.Core.Bool.{Bool, false, So, cond}
+use mathlib.Core.List.{List, [], _∷_, map, flatMap, List·Memᴰ as Mem}
+use Prim.Native.Nat.{ℕ, suc, _≤_, _<_}
+use lib.ListN.{length, getD}
+use Rattle.cells.specs.Firsts.{Once, Tells, holds, firsts}
+use Rattle.covers.specs.Cuttings.{Numbering, Exactly, Setting, CuttingOf, PlacingSequence, childBoards, Laws, SoundPruning, EqualSteps}
+use Rattle.covers.specs.Counts.{Chain, ChildSequence, Entry, boards, sumOf, shares, weight, gather, layer, tiling, SumRule, nodesOf, countOf, graphOf, layerCount, graphCount, cuttingAt}
+use Rattle.covers.specs.NumberingLaws.{exactly-unique, carry}
+use Rattle.covers.specs.SequenceLaws.{sequence-cutting, sequence-unique, one-sequence, full-cutting}
+use Rattle.covers.specs.ChildLaws.{child-once}
+use Rattle.covers.specs.LayerLaws.{recurrence, mem-layers}
+use Rattle.covers.specs.OrderLaws.{Alike, alike-next}
+use Rattle.covers.specs.WalkLaws.{tiling-numbers}
+use Rattle.covers.specs.GraphLaws.{layer-ok, layer-empty, layers-disjoint, nodes-found, sum-rule, once-graph, tilings-numbered, path-count, reached-node}
+use Rattle.covers.specs.CountLaws.{full-layerCount, full-graphCount, counts-agree, cuttings-by-number, layer-count}
+
+-- ---- 1. Numberings
+
+-- How many there are is one number.
+pub number-unique : {A : Type 0} {Is : A → Type 0} {n k : ℕ} → Exactly n Is → Exactly k Is → n ≡ k
+number-unique = exactly-unique
+
+-- A map that is one-to-one onto carries a numbering along.
+pub numbering-carried : {A B : Type 0} {Is : A → Type 0} {Has : B → Type 0} {n : ℕ} {f : ℕ → A} (g : A → B) → ((a : A) → Is a → Has (g a))
+    → ((a b : A) → Is a → Is b → g a ≡ g b → a ≡ b) → ((b : B) → Has b → (a : A) × Is a × (g a ≡ b)) → Numbering Is n f → Numbering Has n (λ m. g (f m))
+numbering-carried = carry
+
+-- ---- 2. Cuttings: `Cutting`, of the free cells, the tiles and what a piece covers, and of nothing else. What is known of a board with no free cell:
+
+module _ {B P : Type 0} (G : Setting B P) (L : Laws G) (s : B) (ok : G .Ok s) where
+  -- A full board has one cutting, the empty set, and both its counts are 0.
+  pub full-has-one : So (G .full s) → Numbering (CuttingOf G s) 1 (λ m p. false)
+  full-has-one = full-cutting G L s ok
+
+  pub full-counts-none : So (G .full s) → (layerCount G s (G .freeCount s) ≡ 0) × (graphCount G s ≡ 0)
+  full-counts-none f = (full-layerCount G L s ok f (G .freeCount s), full-graphCount G L s ok f)
+
+  -- ---- 3. Placing sequences
+
+  -- The pieces of a placing sequence are a cutting, whatever is pruned.
+  pub sequence-is-cutting : (ps : List P) → PlacingSequence G s ps → CuttingOf G s (holds (G .samePiece) ps)
+  sequence-is-cutting ps = sequence-cutting G L s ps ok
+
+  -- Two placing sequences with the same set of pieces are one, whatever is pruned.
+  pub sequence-by-pieces : (ps qs : List P) → PlacingSequence G s ps → PlacingSequence G s qs → holds (G .samePiece) ps ≡ holds (G .samePiece) qs → ps ≡ qs
+  sequence-by-pieces ps qs = sequence-unique G L s ps qs ok
+
+  -- Where only boards without a cutting are pruned, each cutting is the set of pieces of exactly one placing sequence.
+  pub cutting-has-one-sequence : SoundPruning G → (X : P → Bool) → CuttingOf G s X
+      → Exactly 1 (λ (ps : List P). PlacingSequence G s ps × (holds (G .samePiece) ps ≡ X))
+  cutting-has-one-sequence sound X = one-sequence G L sound s X ok
+
+  -- ---- 4. Layers, where every piece takes as many free cells
+
+  module _ (a : ℕ) (E : EqualSteps G a) where
+    -- A board's path count in a layer is the number of child sequences that reach it.
+    pub path-count-is-number : (n : ℕ) (e : Entry B) → Mem e (layer (G .sameBoard) (childBoards G) s n)
+        → Exactly (e .1) (ChildSequence (childBoards G) s (e .0))
+    path-count-is-number = path-count G L a E s ok
+
+    -- Every board that a child sequence reaches stands in a layer.
+    pub reached-in-layer : (t : B) (xs : List B) → ChildSequence (childBoards G) s t xs
+        → (n : ℕ) × (n ≤ G .freeCount s) × Mem t (boards (layer (G .sameBoard) (childBoards G) s n))
+    reached-in-layer t xs c = mem-layers (G .sameBoard) (L .board-eq) (childBoards G) s (G .freeCount s) t .0
+        (reached-node G L a E s ok t xs c)
+
+    -- A board's path count in the next layer is the sum of the path counts of its parents in this one.
+    pub path-count-recurrence : (n : ℕ) (t : B) → weight (G .sameBoard) t (layer (G .sameBoard) (childBoards G) s (suc n))
+        ≡ sumOf (λ e. cond (holds (G .sameBoard) (childBoards G (e .0)) t) (e .1) 0) (layer (G .sameBoard) (childBoards G) s n)
+    path-count-recurrence n t = recurrence (G .sameBoard) (L .board-eq) (childBoards G) s n t
+        (λ p m. child-once G L p (layer-ok G L s ok n p m))
+
+    -- Two layers have no board in common.
+    pub layers-apart : (n m : ℕ) (t : B) → Mem t (boards (layer (G .sameBoard) (childBoards G) s n))
+        → Mem t (boards (layer (G .sameBoard) (childBoards G) s m)) → n ≡ m
+    layers-apart = layers-disjoint G L a E s ok
+
+    -- After as many layers as free cells nothing is left.
+    pub layers-end : (n : ℕ) → G .freeCount s < n → layer (G .sameBoard) (childBoards G) s n ≡ []
+    layers-end = layer-empty G L s ok
+
+    -- ---- 5. The graph
+
+    -- The nodes are the boards found from the start on, parents in number order, children in order, first appearances kept.
+    pub nodes-by-first-finding : nodesOf G s ≡ firsts (G .sameBoard) (s ∷ flatMap (childBoards G) (nodesOf G s))
+    nodes-by-first-finding = nodes-found G L a E s ok
+
+    -- Parents stand before children, node 0 has count 1, and every other node's count is the sum of its parents' over the edges into it.
+    pub graph-sum-rule : SumRule (length (nodesOf G s)) (graphOf G s) (countOf G s)
+    graph-sum-rule = sum-rule G L a E s ok
+
+    -- Each edge stands once.
+    pub graph-edges-once : Once (graphOf G s)
+    graph-edges-once = once-graph G L a E s ok
+
+    -- The tilings by number to a node number the child sequences to its board.
+    pub graph-tilings : (v : ℕ) → v < length (nodesOf G s)
+        → Numbering (ChildSequence (childBoards G) s (getD (nodesOf G s) v s)) (countOf G s v) (λ m. map (λ u. getD (nodesOf G s) u s) (tiling (graphOf G s) (countOf G s) v m))
+    graph-tilings = tilings-numbered G L a E s ok
+
+    -- ---- 7. Joined: of a start that is not full
+
+    -- The layer count and the graph count are one number, whatever is pruned.
+    pub counts-are-equal : G .full s ≡ false → layerCount G s (G .freeCount s) ≡ graphCount G s
+    counts-are-equal = counts-agree G L a E s ok
+
+    module _ (sound : SoundPruning G) (notFull : G .full s ≡ false) where
+      -- The layer count is the number of cuttings.
+      pub layer-count-is-cuttings : Exactly (layerCount G s (G .freeCount s)) (CuttingOf G s)
+      layer-count-is-cuttings = layer-count G L a E s ok notFull sound
+
+      -- The graph count is the number of cuttings, and the pieces of the tilings by number are the cuttings, each once and all.
+      pub tilings-are-cuttings : Numbering (CuttingOf G s) (graphCount G s) (cuttingAt G s)
+      tilings-are-cuttings = cuttings-by-number G L a E s ok notFull sound
+
+-- ---- 6. The walk by turns, over any edges and counts
+
+-- The tilings by number to a node number the chains of edges from node 0 to it, where each edge stands once.
+pub walk-numbers-chains : (n : ℕ) (es : List (ℕ × ℕ)) (count : ℕ → ℕ) → SumRule n es count → Once es → (v : ℕ) → v < n
+    → Numbering (Chain (λ p c. Mem (p, c) es) 0 v) (count v) (tiling es count v)
+walk-numbers-chains = tiling-numbers
+
+-- ---- 8. The order of a layer
+
+-- The weights of the next layer are the same whatever the order of the layer: they follow from the layer's weights alone.
+pub next-layer-by-weights : {B : Type 0} (same : B → B → Bool) → Tells same → (children : B → List B) (es ds : List (Entry B)) → Alike same es ds
+    → Alike same (gather same (shares children es)) (gather same (shares children ds))
+next-layer-by-weights = alike-next
