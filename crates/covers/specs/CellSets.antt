@@ -168,6 +168,6 @@ module _ {region start : ℕ} {IsTile : ℕ → Type 0} {chosen : ℕ → ℕ} {
   pub cell-steps : (a : ℕ) → 0 < a → ((p : ℕ) → IsTile p → size p ≡ a) → EqualSteps (cellSetting region start IsTile chosen pieces) a
   unfolding cellSetting
   cell-steps a h same = record {
-    positive = h;
+    positive = omega arith;
     lay-equal = λ s p b f. ap (λ (n : ℕ). size (region - (s + p)) + n) (sym (same p (f .tile))) ∙ laid-size (L .region-lt) s p b (f .onto);
   }

@@ -1,6 +1,6 @@
--- The two counts and the numbered cuttings (statement 7): where a setting meets its laws, prunes only boards without a cutting and takes as many free
--- cells at each step, and the start has a free cell, the layer count and the graph count are both the number of cuttings, and the pieces of
--- the tilings by number are the cuttings. Also what a full start counts. Rests on `SequenceLaws`, `ChildLaws` and `GraphLaws`. Assumes nothing.
+-- Laws of the two counts and of the cuttings by number. Where a setting meets its laws and takes as many free cells at each step, and the start is not
+-- full, the layer count is the graph count, and the tilings by number number the placing sequences; where only boards without a cutting are
+-- pruned, they number the cuttings. And what a full start counts. Rests on `SequenceLaws`, `ChildLaws` and `GraphLaws`. Assumes nothing.
 use mathlib.Core.Path.{_≡_, refl, sym, ap, ap₂, subst, _∙_}
 use mathlib.Core.Logic.{_⊎_, ⊎-elim}
 use mathlib.Core.Bool.{Bool, true, false, So, cond, false≢true}
@@ -10,13 +10,13 @@ use Prim.Native.Nat.{ℕ, zero, suc, _+_, _<_}
 use native.Mathlib.Nat.{add-zero}
 use native.Mathlib.Omega.{arith}
 use lib.ListN.{length, getD}
-use Rattle.cells.specs.Firsts.{Once, holds, addFirsts, firsts}
+use Rattle.cells.specs.Firsts.{Once, addFirsts, firsts}
 use Rattle.cells.specs.FirstsLaws.{mem-getD, so-eq}
-use Rattle.covers.specs.Cuttings.{Numbering, Exactly, Setting, CuttingOf, childBoards, Laws, SoundPruning, EqualSteps}
-use Rattle.covers.specs.Counts.{Entry, boards, sumOf, shares, gather, weight, layer, layers, numberIn, tiling, fullCount, fullFrom, fullNode, atNode, entriesOf, nodesOf, countOf, graphOf, layerCount, graphCount, piecesOf, cuttingAt}
+use Rattle.covers.specs.Cuttings.{Numbering, Setting, CuttingOf, PlacingSequence, childBoards, Laws, SoundPruning, EqualSteps}
+use Rattle.covers.specs.Counts.{Entry, boards, sumOf, shares, gather, weight, layer, layers, numberIn, tiling, fullCount, fullFrom, fullNode, atNode, entriesOf, nodesOf, countOf, graphOf, layerCount, graphCount, piecesOf, tilingOf, cuttingAt}
 use Rattle.covers.specs.NumberingLaws.{numbering-none}
 use Rattle.covers.specs.SumLaws.{sum-append, sum-ext, sum-zero}
-use Rattle.covers.specs.SequenceLaws.{full-pieces, cutting-sequence, cuttings-numbered}
+use Rattle.covers.specs.SequenceLaws.{full-pieces, cuttings-numbered}
 use Rattle.covers.specs.ChildLaws.{sequence-children, sequences-numbered}
 use Rattle.covers.specs.GatherLaws.{weight-entry}
 use Rattle.covers.specs.LayerLaws.{layers-first}
@@ -151,37 +151,30 @@ module _ {B P : Type 0} (G : Setting B P) (L : Laws G) (a : ℕ) (E : EqualSteps
         go none e = none-count e ∙ ap (atNode (countOf G s)) (sym e)
         go (some v) e = let r = some-full v e in full-weight v (r .0) (r .1) ∙ ap (atNode (countOf G s)) (sym e)
 
-    -- ---- and are the number of cuttings
+    -- ---- and are the number of placing sequences, and of cuttings
 
-    module _ (sound : SoundPruning G) where
-      -- the set of the pieces of the steps of the tiling with the number m to a node, or to node 0 with none
-      readTo : Option ℕ → ℕ → P → Bool
-      readTo o m = holds (G .samePiece) (piecesOf G (map (λ v. getD (nodesOf G s) v s) (tiling (graphOf G s) (countOf G s) (atNode (λ v. v) o) m)))
+    -- the pieces of the steps of the tiling with the number m to a node, or to node 0 with none
+    readTo : Option ℕ → ℕ → List P
+    readTo o m = piecesOf G (map (λ v. getD (nodesOf G s) v s) (tiling (graphOf G s) (countOf G s) (atNode (λ v. v) o) m))
 
-      no-cutting : fullNode (G .full) (nodesOf G s) ≡ none → (X : P → Bool) → CuttingOf G s X → ⊥
-      no-cutting e X u =
-          let r = cutting-sequence G L sound s X ok u in
-          let k = sequence-children G L s (r .0) ok (r .1) in
-          let m = reached-node G L a E s ok (k .0) (k .1) (k .4) in
-          false≢true (sym (none-full e (k .0) m) ∙ k .3)
+    no-sequence : fullNode (G .full) (nodesOf G s) ≡ none → (ps : List P) → PlacingSequence G s ps → ⊥
+    no-sequence e ps r =
+        let k = sequence-children G L s ps ok r in
+        false≢true (sym (none-full e (k .0) (reached-node G L a E s ok (k .0) (k .1) (k .4))) ∙ k .3)
 
-      numbered-to : (o : Option ℕ) → fullNode (G .full) (nodesOf G s) ≡ o → Numbering (CuttingOf G s) (atNode (countOf G s) o) (readTo o)
-      unfolding atNode readTo
-      numbered-to none e = numbering-none (readTo none) (no-cutting e)
-      numbered-to (some v) e =
-          let r = some-full v e in
-          let o = node-ok G L a E s ok (getD (nodesOf G s) v s) (mem-getD (nodesOf G s) v s (r .0)) in
-          cuttings-numbered G L sound s ok
-          (sequences-numbered G L s (getD (nodesOf G s) v s) ok o (r .1)
-          (tilings-numbered G L a E s ok v (r .0)))
+    numbered-to : (o : Option ℕ) → fullNode (G .full) (nodesOf G s) ≡ o → Numbering (PlacingSequence G s) (atNode (countOf G s) o) (readTo o)
+    unfolding atNode readTo
+    numbered-to none e = numbering-none (readTo none) (no-sequence e)
+    numbered-to (some v) e =
+        let r = some-full v e in
+        let o = node-ok G L a E s ok (getD (nodesOf G s) v s) (mem-getD (nodesOf G s) v s (r .0)) in
+        sequences-numbered G L s (getD (nodesOf G s) v s) ok o (r .1) (tilings-numbered G L a E s ok v (r .0))
 
-      -- the numbers below the graph count number the cuttings: the set of pieces that the steps of a tiling mark
-      pub cuttings-by-number : Numbering (CuttingOf G s) (graphCount G s) (cuttingAt G s)
-      unfolding graphCount readTo
-      cuttings-by-number = numbered-to (fullNode (G .full) (nodesOf G s)) refl
+    -- the numbers below the graph count number the placing sequences: the pieces that the steps of a tiling mark, in order
+    pub sequences-by-number : Numbering (PlacingSequence G s) (graphCount G s) (λ m. piecesOf G (tilingOf G s m))
+    unfolding graphCount readTo
+    sequences-by-number = numbered-to (fullNode (G .full) (nodesOf G s)) refl
 
-      pub graph-count : Exactly (graphCount G s) (CuttingOf G s)
-      graph-count = (cuttingAt G s, cuttings-by-number)
-
-      pub layer-count : Exactly (layerCount G s (G .freeCount s)) (CuttingOf G s)
-      layer-count = subst (λ (n : ℕ). Exactly n (CuttingOf G s)) (sym counts-agree) graph-count
+    -- and, where only boards without a cutting are pruned, the cuttings: the set of those pieces
+    pub cuttings-by-number : SoundPruning G → Numbering (CuttingOf G s) (graphCount G s) (cuttingAt G s)
+    cuttings-by-number sound = cuttings-numbered G L sound s ok sequences-by-number

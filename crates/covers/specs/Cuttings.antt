@@ -20,7 +20,8 @@ module _ {A : Type 0} where
   abbrev pub Exactly : ℕ → (A → Type 0) → Type 0
   Exactly n Is = (f : ℕ → A) × Numbering Is n f
 
--- ---- cuttings. `covers p c`: the piece p covers the cell c. `IsTile p`: p is "a tile's cells moved unturned". `free c`: the cell c is free
+-- ---- cuttings, of what a piece covers, of the pieces that are "a tile's cells moved unturned" and of the free cells; and of nothing else. Pieces are "cell
+-- sets" where P is ℕ and `covers` is `hasCell` (`CellSets`)
 
 module _ {P : Type 0} (covers : P → ℕ → Bool) (IsTile : P → Type 0) (free : ℕ → Bool) where
   -- "a tile's cells moved unturned onto free cells"
@@ -35,15 +36,16 @@ module _ {P : Type 0} (covers : P → ℕ → Bool) (IsTile : P → Type 0) (fre
 
 -- ---- a way of laying pieces
 
+-- boards, pieces, and what is done with them
 pub record Setting (B P : Type 0) : Type 1 where
   -- the boards that are accepted, and the pieces that are "a tile's cells moved unturned"
   pub Ok : B → Type 0
   pub IsTile : P → Type 0
-  -- whether a cell of a board is free, whether a piece covers a cell, and whether "a full board has no free cell" holds of a board
+  -- whether a cell of a board is free, whether a piece covers a cell, and whether a board is "a full board"
   pub free : B → ℕ → Bool
   pub covers : P → ℕ → Bool
   pub full : B → Bool
-  -- the number of free cells
+  -- the number of free cells; all that is asked of it is that each piece makes it less
   pub freeCount : B → ℕ
   -- a board with a piece laid, and the piece of a step: "the cells marked in the later node and free in the earlier"
   pub lay : B → P → B

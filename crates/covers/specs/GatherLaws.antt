@@ -31,7 +31,7 @@ module _ {B : Type 0} (same : B → B → Bool) where
   pub boards-gather : (es : List (Entry B)) → boards (gather same es) ≡ firsts same (boards es)
   unfolding gather
   boards-gather es =
-      map-map (λ (e : Entry B). e .0) (λ (s : B). (s, weight same s es)) (firsts same (boards es)) ∙ map-id (firsts same (boards es))
+      map-map (λ (e : Entry B). e .0) _ (firsts same (boards es)) ∙ map-id (firsts same (boards es))
 
   pub boards-addPaths : (c : B) (k : ℕ) (es : List (Entry B)) → boards (addPaths c k es) ≡ addNew same (boards es) c
   unfolding addPaths addNew

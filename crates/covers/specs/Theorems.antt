@@ -1,21 +1,22 @@
 -- The theorem page: what is proved of the definitions of `Cuttings` and `Counts`, each statement with its words. A proof here is a citation.
 -- Assumes nothing.
-use mathlib.Core.Path.{_≡_}
+use mathlib.Core.Path.{_≡_, sym, subst}
 use mathlib.Core.Bool.{Bool, false, So, cond}
 use mathlib.Core.List.{List, [], _∷_, map, flatMap, List·Memᴰ as Mem}
 use Prim.Native.Nat.{ℕ, suc, _≤_, _<_}
 use lib.ListN.{length, getD}
 use Rattle.cells.specs.Firsts.{Once, Tells, holds, firsts}
 use Rattle.covers.specs.Cuttings.{Numbering, Exactly, Setting, CuttingOf, PlacingSequence, childBoards, Laws, SoundPruning, EqualSteps}
-use Rattle.covers.specs.Counts.{Chain, ChildSequence, Entry, boards, sumOf, shares, weight, gather, layer, tiling, SumRule, nodesOf, countOf, graphOf, layerCount, graphCount, cuttingAt}
+use Rattle.covers.specs.Counts.{Chain, ChildSequence, Entry, boards, sumOf, shares, weight, gather, layer, tiling, SumRule, nodesOf, countOf, graphOf, layerCount, graphCount, piecesOf, tilingOf, cuttingAt}
 use Rattle.covers.specs.NumberingLaws.{exactly-unique, carry}
-use Rattle.covers.specs.SequenceLaws.{sequence-cutting, sequence-unique, one-sequence, full-cutting}
+use Rattle.covers.specs.SequenceLaws.{sequence-cutting, sequence-unique, sequences-at-most, one-sequence, full-cutting}
 use Rattle.covers.specs.ChildLaws.{child-once}
-use Rattle.covers.specs.LayerLaws.{recurrence, mem-layers}
-use Rattle.covers.specs.OrderLaws.{Alike, alike-next}
+use Rattle.covers.specs.LayerLaws.{recurrence, shares-positive, mem-layers}
+use Rattle.covers.specs.GatherLaws.{Nonzero, once-gather, gather-positive}
+use Rattle.covers.specs.OrderLaws.{Alike, alike-next, alike-length}
 use Rattle.covers.specs.WalkLaws.{tiling-numbers}
 use Rattle.covers.specs.GraphLaws.{layer-ok, layer-empty, layers-disjoint, nodes-found, sum-rule, once-graph, tilings-numbered, path-count, reached-node}
-use Rattle.covers.specs.CountLaws.{full-layerCount, full-graphCount, counts-agree, cuttings-by-number, layer-count}
+use Rattle.covers.specs.CountLaws.{full-layerCount, full-graphCount, counts-agree, sequences-by-number, cuttings-by-number}
 
 -- ---- 1. Numberings
 
@@ -47,6 +48,10 @@ module _ {B P : Type 0} (G : Setting B P) (L : Laws G) (s : B) (ok : G .Ok s) wh
   -- Two placing sequences with the same set of pieces are one, whatever is pruned.
   pub sequence-by-pieces : (ps qs : List P) → PlacingSequence G s ps → PlacingSequence G s qs → holds (G .samePiece) ps ≡ holds (G .samePiece) qs → ps ≡ qs
   sequence-by-pieces ps qs = sequence-unique G L s ps qs ok
+
+  -- So there are no more placing sequences than cuttings, whatever is pruned.
+  pub sequences-no-more : {n k : ℕ} → Exactly n (PlacingSequence G s) → Exactly k (CuttingOf G s) → n ≤ k
+  sequences-no-more = sequences-at-most G L s ok
 
   -- Where only boards without a cutting are pruned, each cutting is the set of pieces of exactly one placing sequence.
   pub cutting-has-one-sequence : SoundPruning G → (X : P → Bool) → CuttingOf G s X
@@ -103,18 +108,25 @@ module _ {B P : Type 0} (G : Setting B P) (L : Laws G) (s : B) (ok : G .Ok s) wh
 
     -- ---- 7. Joined: of a start that is not full
 
-    -- The layer count and the graph count are one number, whatever is pruned.
-    pub counts-are-equal : G .full s ≡ false → layerCount G s (G .freeCount s) ≡ graphCount G s
-    counts-are-equal = counts-agree G L a E s ok
+    module _ (notFull : G .full s ≡ false) where
+      -- The layer count and the graph count are one number, whatever is pruned.
+      pub counts-are-equal : layerCount G s (G .freeCount s) ≡ graphCount G s
+      counts-are-equal = counts-agree G L a E s ok notFull
 
-    module _ (sound : SoundPruning G) (notFull : G .full s ≡ false) where
-      -- The layer count is the number of cuttings.
-      pub layer-count-is-cuttings : Exactly (layerCount G s (G .freeCount s)) (CuttingOf G s)
-      layer-count-is-cuttings = layer-count G L a E s ok notFull sound
+      -- The graph count is the number of placing sequences, whatever is pruned: the pieces of the tilings by number, in order.
+      pub tilings-are-sequences : Numbering (PlacingSequence G s) (graphCount G s) (λ m. piecesOf G (tilingOf G s m))
+      tilings-are-sequences = sequences-by-number G L a E s ok notFull
 
-      -- The graph count is the number of cuttings, and the pieces of the tilings by number are the cuttings, each once and all.
-      pub tilings-are-cuttings : Numbering (CuttingOf G s) (graphCount G s) (cuttingAt G s)
-      tilings-are-cuttings = cuttings-by-number G L a E s ok notFull sound
+      -- Where only boards without a cutting are pruned, the pieces of the tilings by number are the cuttings, each once and all.
+      pub tilings-are-cuttings : SoundPruning G → Numbering (CuttingOf G s) (graphCount G s) (cuttingAt G s)
+      tilings-are-cuttings = cuttings-by-number G L a E s ok notFull
+
+      -- So the graph count and the layer count are both the number of cuttings.
+      pub graph-count-is-cuttings : SoundPruning G → Exactly (graphCount G s) (CuttingOf G s)
+      graph-count-is-cuttings sound = (cuttingAt G s, tilings-are-cuttings sound)
+
+      pub layer-count-is-cuttings : SoundPruning G → Exactly (layerCount G s (G .freeCount s)) (CuttingOf G s)
+      layer-count-is-cuttings sound = subst (λ (n : ℕ). Exactly n (CuttingOf G s)) (sym counts-are-equal) (graph-count-is-cuttings sound)
 
 -- ---- 6. The walk by turns, over any edges and counts
 
@@ -129,3 +141,11 @@ walk-numbers-chains = tiling-numbers
 pub next-layer-by-weights : {B : Type 0} (same : B → B → Bool) → Tells same → (children : B → List B) (es ds : List (Entry B)) → Alike same es ds
     → Alike same (gather same (shares children es)) (gather same (shares children ds))
 next-layer-by-weights = alike-next
+
+-- And so has the next layer equally many boards, where no path count is 0.
+pub next-layer-length : {B : Type 0} (same : B → B → Bool) → Tells same → (children : B → List B) (es ds : List (Entry B)) → Nonzero es → Nonzero ds
+    → Alike same es ds → length (gather same (shares children es)) ≡ length (gather same (shares children ds))
+next-layer-length same tells children es ds x y a = alike-length same tells (gather same (shares children es)) (gather same (shares children ds))
+    (once-gather same tells (shares children es)) (once-gather same tells (shares children ds))
+    (gather-positive same tells (shares children es) (shares-positive same tells children es x))
+    (gather-positive same tells (shares children ds) (shares-positive same tells children ds y)) (alike-next same tells children es ds a)

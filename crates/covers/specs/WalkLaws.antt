@@ -15,6 +15,15 @@ use Rattle.covers.specs.NumberingLaws.{carry, renumber}
 
 -- ---- parents
 
+pub sum-parentsOf : (count : ℕ → ℕ) (es : List (ℕ × ℕ)) (v : ℕ) → sumOf count (parentsOf es v) ≡ sumOf (λ e. cond (eqb (e .1) v) (count (e .0)) 0) es
+unfolding parentsOf sumOf
+sum-parentsOf count [] v = refl
+sum-parentsOf count (e ∷ es) v = go (eqb (e .1) v) ∙ ap (λ (n : ℕ). cond (eqb (e .1) v) (count (e .0)) 0 + n) (sum-parentsOf count es v)
+  where
+    go : (b : Bool) → sumOf count (cond b (e .0 ∷ parentsOf es v) (parentsOf es v)) ≡ cond b (count (e .0)) 0 + sumOf count (parentsOf es v)
+    go true = refl
+    go false = omega arith
+
 pub mem-parentsOf : (es : List (ℕ × ℕ)) (p v : ℕ) → Mem p (parentsOf es v) ↔ Mem (p, v) es
 unfolding parentsOf
 mem-parentsOf [] p v = (λ m. absurd (not-nil m), λ m. absurd (not-nil m))
@@ -38,15 +47,6 @@ once-parentsOf (e ∷ es) v o = go (eqb (e .1) v) refl (once-parentsOf es v (o .
     go true t rest = (λ m. o .0 (cast (ap (λ x. (e .0, x)) (eqb-true (e .1) v t)) (mem-parentsOf es (e .0) v .0 m)), rest)
     go false t rest = rest
 
-pub sum-parentsOf : (count : ℕ → ℕ) (es : List (ℕ × ℕ)) (v : ℕ) → sumOf count (parentsOf es v) ≡ sumOf (λ e. cond (eqb (e .1) v) (count (e .0)) 0) es
-unfolding parentsOf sumOf
-sum-parentsOf count [] v = refl
-sum-parentsOf count (e ∷ es) v = go (eqb (e .1) v) ∙ ap (λ (n : ℕ). cond (eqb (e .1) v) (count (e .0)) 0 + n) (sum-parentsOf count es v)
-  where
-    go : (b : Bool) → sumOf count (cond b (e .0 ∷ parentsOf es v) (parentsOf es v)) ≡ cond b (count (e .0)) 0 + sumOf count (parentsOf es v)
-    go true = refl
-    go false = omega arith
-
 -- ---- turns
 
 lt-or-le : (m n : ℕ) → (m < n) ⊎ (n ≤ m)
@@ -57,14 +57,14 @@ lt-or-le m n = go (ltb m n) refl
     go false e = inr (ltb-false m n e)
 
 module _ (count : ℕ → ℕ) where
-  -- the turn holds m, or it is passed
-  pub turn-hit : (p : ℕ) (ps : List ℕ) (m : ℕ) → m < count p → turn count (p ∷ ps) m ≡ (p, m)
-  unfolding turn
-  turn-hit p ps m h = rw (lt-ltb m (count p) h)
-
+  -- the turn is passed, or it holds m
   pub turn-pass : (p : ℕ) (ps : List ℕ) (m : ℕ) → count p ≤ m → turn count (p ∷ ps) m ≡ turn count ps (m - count p)
   unfolding turn
   turn-pass p ps m h = rw (le-ltb m (count p) h)
+
+  pub turn-hit : (p : ℕ) (ps : List ℕ) (m : ℕ) → m < count p → turn count (p ∷ ps) m ≡ (p, m)
+  unfolding turn
+  turn-hit p ps m h = rw (lt-ltb m (count p) h)
 
   -- a number below the sum gives one of ps and a number below its count, and each of these is given
   pub turn-in : (ps : List ℕ) (m : ℕ) → m < sumOf count ps → Mem (turn count ps m .0) ps × (turn count ps m .1 < count (turn count ps m .0))
