@@ -13,7 +13,7 @@ use lib.ListN.{length, getD}
 use Rattle.cells.specs.Firsts.{Once, addFirsts, firsts}
 use Rattle.cells.specs.FirstsLaws.{mem-getD, so-eq}
 use Rattle.covers.specs.Cuttings.{Numbering, Setting, CuttingOf, PlacingSequence, childBoards, Laws, SoundPruning, EqualSteps}
-use Rattle.covers.specs.Counts.{Entry, boards, sumOf, shares, gather, weight, layer, layers, numberIn, tiling, fullCount, fullFrom, fullNode, atNode, entriesOf, nodesOf, countOf, graphOf, layerCount, graphCount, piecesOf, tilingOf, cuttingAt}
+use Rattle.covers.specs.Counts.{Entry, boards, sumOf, shares, gather, weight, layer, layers, numberIn, tiling, fullCount, fullFrom, fullNode, atNode, layerOf, entriesOf, nodesOf, countOf, graphOf, layerCount, graphCount, piecesOf, tilingOf, cuttingAt}
 use Rattle.covers.specs.NumberingLaws.{numbering-none}
 use Rattle.covers.specs.SumLaws.{sum-append, sum-ext, sum-zero}
 use Rattle.covers.specs.SequenceLaws.{full-pieces, cuttings-numbered}
@@ -62,7 +62,7 @@ module _ {B : Type 0} (full : B → Bool) where
 -- ---- a start that is full
 
 module _ {B P : Type 0} (G : Setting B P) (L : Laws G) (s : B) (ok : G .Ok s) (full : So (G .full s)) where
-  full-layer : (n : ℕ) → layer (G .sameBoard) (childBoards G) s (suc n) ≡ []
+  full-layer : (n : ℕ) → layerOf G s (suc n) ≡ []
   unfolding layer shares gather flatMap firsts addFirsts
   full-layer zero = rw (full-pieces G L s ok full)
   full-layer (suc n) = ap (λ es. gather (G .sameBoard) (shares (childBoards G) es)) (full-layer n)
@@ -117,8 +117,8 @@ module _ {B P : Type 0} (G : Setting B P) (L : Laws G) (a : ℕ) (E : EqualSteps
     unfolding layers layer layerCount fullCount sumOf
     sum-layers zero = rw notFull
     sum-layers (suc n) =
-        sum-append (λ e. cond (G .full (e .0)) (e .1) 0) (layers (G .sameBoard) (childBoards G) s n) (layer (G .sameBoard) (childBoards G) s (suc n))
-        ∙ ap (λ (k : ℕ). k + fullCount (G .full) (layer (G .sameBoard) (childBoards G) s (suc n))) (sum-layers n)
+        sum-append (λ e. cond (G .full (e .0)) (e .1) 0) (layers (G .sameBoard) (childBoards G) s n) (layerOf G s (suc n))
+        ∙ ap (λ (k : ℕ). k + fullCount (G .full) (layerOf G s (suc n))) (sum-layers n)
 
     -- all full boards are one board
     full-same : (t u : B) → G .Ok t → G .Ok u → So (G .full t) → G .full u ≡ G .sameBoard u t

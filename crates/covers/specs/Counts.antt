@@ -148,6 +148,9 @@ module _ {B P : Type 0} (G : Setting B P) where
   piecesOf (t ∷ ts) = piecesFrom t ts
 
 module _ {B P : Type 0} (G : Setting B P) (s : B) where
+  abbrev pub layerOf : ℕ → List (Entry B)
+  layerOf n = layer (G .sameBoard) (childBoards G) s n
+
   -- the layers' boards as nodes, "numbered by first finding", with their path counts and their edges. There are as many layers as free cells
   abbrev pub entriesOf : List (Entry B)
   entriesOf = layers (G .sameBoard) (childBoards G) s (G .freeCount s)
@@ -165,7 +168,7 @@ module _ {B P : Type 0} (G : Setting B P) (s : B) where
   unfoldable pub layerCount : ℕ → ℕ
   unfolding fullCount layer
   layerCount zero = 0
-  layerCount (suc n) = layerCount n + fullCount (G .full) (layer (G .sameBoard) (childBoards G) s (suc n))
+  layerCount (suc n) = layerCount n + fullCount (G .full) (layerOf (suc n))
 
   -- "The graph count is that node's path count, 0 with none"
   unfoldable pub graphCount : ℕ

@@ -62,7 +62,7 @@ two-graph = refl
 two-cuttings : Exactly 2 (CuttingOf (settingOf twoByTwo) 0)
 two-cuttings =
     subst (λ (n : ℕ). Exactly n (CuttingOf (settingOf twoByTwo) 0)) two-layers
-    (layer-count-is-cuttings (settingOf twoByTwo) two-by-two 0 two-by-two-ok 2 two-by-two-steps two-by-two-not-full two-by-two-pruning)
+    (layer-count-is-cuttings (settingOf twoByTwo) two-by-two 2 two-by-two-steps 0 two-by-two-ok two-by-two-not-full two-by-two-pruning)
 
 -- the graph: its boards, their path counts, its edges
 nodes : nodesOf (settingOf twoByTwo) 0 ≡ 0 ∷ 3 ∷ 5 ∷ 15 ∷ []
@@ -160,8 +160,8 @@ slanted-one : Exactly 1 (CuttingOf (settingOf slanted) 0)
 unfolding isPlot flatMap all size settingOf
 slanted-one =
     subst (λ (n : ℕ). Exactly n (CuttingOf (settingOf unpruned) 0)) unpruned-layers
-    (layer-count-is-cuttings (settingOf unpruned) (plot-laws unpruned refl) 0 (plot-ok unpruned refl 0 refl) 2
-    (plot-steps unpruned refl 2 (omega arith) refl) refl (plot-pruning unpruned refl (λ s. refl)))
+    (layer-count-is-cuttings (settingOf unpruned) (plot-laws unpruned refl) 2 (plot-steps unpruned refl 2 (omega arith) refl) 0
+    (plot-ok unpruned refl 0 refl) refl (plot-pruning unpruned refl (λ s. refl)))
 
 -- without the pruning condition the layer count is not the number of cuttings
 slanted-unequal : Exactly (layerCount (settingOf slanted) 0 (settingOf slanted .freeCount 0)) (CuttingOf (settingOf slanted) 0) → ⊥

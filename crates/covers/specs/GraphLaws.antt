@@ -14,7 +14,7 @@ use Rattle.cells.specs.Firsts.{Once, Tells, any, holds, addNew, addFirsts, firs
 use Rattle.cells.specs.FirstsLaws.{mem-getD, addFirsts-append, addFirsts-apart}
 use Rattle.cells.specs.MemberLaws.{no-member, mem-flatMap, flatMap-append, map-back, once-append}
 use Rattle.covers.specs.Cuttings.{Numbering, Exactly, Setting, childBoards, Laws, EqualSteps}
-use Rattle.covers.specs.Counts.{Chain, ChildSequence, Entry, boards, counts, sumOf, shares, weight, layer, layers, numberIn, parentsOf, tiling, SumRule, nodesOf, countOf, graphOf}
+use Rattle.covers.specs.Counts.{Chain, ChildSequence, Entry, boards, counts, sumOf, shares, weight, layer, layers, numberIn, parentsOf, tiling, SumRule, layerOf, nodesOf, countOf, graphOf}
 use Rattle.covers.specs.NumberingLaws.{carry}
 use Rattle.covers.specs.NodeLaws.{chain-good, chain-end-good, chain-map, number-lt, getD-number, number-getD, number-left, number-right, mem-boards, mem-entry, count-number, mem-edges, edge-mem, once-edges, sum-edges}
 use Rattle.covers.specs.GatherLaws.{weight-none, weight-entry}
@@ -25,13 +25,13 @@ use Rattle.covers.specs.WalkLaws.{sum-parentsOf, tiling-numbers}
 -- ---- the layers of a setting
 
 module _ {B P : Type 0} (G : Setting B P) (L : Laws G) (s : B) (ok : G .Ok s) where
-  pub layer-ok : (n : ℕ) (t : B) → Mem t (boards (layer (G .sameBoard) (childBoards G) s n)) → G .Ok t
+  pub layer-ok : (n : ℕ) (t : B) → Mem t (boards (layerOf G s n)) → G .Ok t
   unfolding layer
   layer-ok zero t m = subst (G .Ok) (sym (eq-of-singleton m)) ok
   layer-ok (suc n) t m = let r = mem-layer (G .sameBoard) (L .board-eq) (childBoards G) s n t .0 m in child-ok G L (r .0) t (layer-ok n (r .0) (r .1)) (r .2)
 
   -- each layer has one free cell fewer at least
-  layer-fewer : (n : ℕ) (t : B) → Mem t (boards (layer (G .sameBoard) (childBoards G) s n)) → G .freeCount t + n ≤ G .freeCount s
+  layer-fewer : (n : ℕ) (t : B) → Mem t (boards (layerOf G s n)) → G .freeCount t + n ≤ G .freeCount s
   unfolding layer
   layer-fewer zero t m = omega (arith, ap (G .freeCount) (eq-of-singleton m))
   layer-fewer (suc n) t m =
@@ -39,9 +39,9 @@ module _ {B P : Type 0} (G : Setting B P) (L : Laws G) (s : B) (ok : G .Ok s) wh
       omega (arith, child-cell G L (r .0) t (layer-ok n (r .0) (r .1)) (r .2), layer-fewer n (r .0) (r .1))
 
   -- after as many layers as free cells nothing is left
-  pub layer-empty : (n : ℕ) → G .freeCount s < n → layer (G .sameBoard) (childBoards G) s n ≡ []
-  layer-empty n h = no-member (layer (G .sameBoard) (childBoards G) s n)
-      (λ e m. let l = layer-fewer n (e .0) (mem-boards (layer (G .sameBoard) (childBoards G) s n) e m) in omega arith)
+  pub layer-empty : (n : ℕ) → G .freeCount s < n → layerOf G s n ≡ []
+  layer-empty n h = no-member (layerOf G s n)
+      (λ e m. let l = layer-fewer n (e .0) (mem-boards (layerOf G s n) e m) in omega arith)
 
 -- ---- where every piece takes as many free cells
 
@@ -56,7 +56,7 @@ module _ {B P : Type 0} (G : Setting B P) (L : Laws G) (a : ℕ) (E : EqualSteps
   children = childBoards G
 
   abbrev at : ℕ → List (Entry B)
-  at n = layer (G .sameBoard) (childBoards G) s n
+  at = layerOf G s
 
   abbrev upTo : ℕ → List (Entry B)
   upTo n = layers (G .sameBoard) (childBoards G) s n

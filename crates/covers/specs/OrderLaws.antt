@@ -13,8 +13,8 @@ use Rattle.cells.specs.FirstsLaws.{mem-cases, mem-firsts, once-firsts}
 use Rattle.cells.specs.MemberLaws.{once-length}
 use Rattle.covers.specs.Counts.{Entry, boards, sumOf, shares, weight, gather}
 use Rattle.covers.specs.SumLaws.{sum-ext, sum-zero, sum-single, sum-plus, sum-times}
-use Rattle.covers.specs.GatherLaws.{Nonzero, cond-same, cond-other, weight-none, weight-least, weight-gather}
-use Rattle.covers.specs.LayerLaws.{weight-shares}
+use Rattle.covers.specs.GatherLaws.{Nonzero, once-gather, gather-positive, cond-same, cond-other, weight-none, weight-least, weight-gather}
+use Rattle.covers.specs.LayerLaws.{weight-shares, shares-positive}
 
 cond-times : (b : Bool) (k : ℕ) → cond b k 0 ≡ k * cond b 1 0
 cond-times true k = sym (mul-one k)
@@ -94,3 +94,12 @@ module _ {B : Type 0} (same : B → B → Bool) where
         let l = once-length (boards es) (boards ds) o (alike-mem es ds z a) in
         let r = once-length (boards ds) (boards es) p (alike-mem ds es y (λ t. sym (a t))) in
         omega (arith, length-map es (λ e. e .0), length-map ds (λ e. e .0))
+
+    -- and so the next layer has equally many boards
+    pub alike-next-length : (children : B → List B) (es ds : List (Entry B)) → Nonzero es → Nonzero ds → Alike es ds
+        → length (gather same (shares children es)) ≡ length (gather same (shares children ds))
+    alike-next-length children es ds x y a =
+        alike-length (gather same (shares children es)) (gather same (shares children ds))
+        (once-gather same tells (shares children es)) (once-gather same tells (shares children ds))
+        (gather-positive same tells (shares children es) (shares-positive same tells children es x))
+        (gather-positive same tells (shares children ds) (shares-positive same tells children ds y)) (alike-next children es ds a)

@@ -7,13 +7,13 @@ use Prim.Native.Nat.{ℕ, suc, _≤_, _<_}
 use lib.ListN.{length, getD}
 use Rattle.cells.specs.Firsts.{Once, Tells, holds, firsts}
 use Rattle.covers.specs.Cuttings.{Numbering, Exactly, Setting, CuttingOf, PlacingSequence, childBoards, Laws, SoundPruning, EqualSteps}
-use Rattle.covers.specs.Counts.{Chain, ChildSequence, Entry, boards, sumOf, shares, weight, gather, layer, tiling, SumRule, nodesOf, countOf, graphOf, layerCount, graphCount, piecesOf, tilingOf, cuttingAt}
+use Rattle.covers.specs.Counts.{Chain, ChildSequence, Entry, boards, sumOf, shares, weight, gather, layerOf, tiling, SumRule, nodesOf, countOf, graphOf, layerCount, graphCount, piecesOf, tilingOf, cuttingAt}
 use Rattle.covers.specs.NumberingLaws.{exactly-unique, carry}
 use Rattle.covers.specs.SequenceLaws.{sequence-cutting, sequence-unique, sequences-at-most, one-sequence, full-cutting}
 use Rattle.covers.specs.ChildLaws.{child-once}
-use Rattle.covers.specs.LayerLaws.{recurrence, shares-positive, mem-layers}
-use Rattle.covers.specs.GatherLaws.{Nonzero, once-gather, gather-positive}
-use Rattle.covers.specs.OrderLaws.{Alike, alike-next, alike-length}
+use Rattle.covers.specs.LayerLaws.{recurrence, mem-layers}
+use Rattle.covers.specs.GatherLaws.{Nonzero}
+use Rattle.covers.specs.OrderLaws.{Alike, alike-next, alike-next-length}
 use Rattle.covers.specs.WalkLaws.{tiling-numbers}
 use Rattle.covers.specs.GraphLaws.{layer-ok, layer-empty, layers-disjoint, nodes-found, sum-rule, once-graph, tilings-numbered, path-count, reached-node}
 use Rattle.covers.specs.CountLaws.{full-layerCount, full-graphCount, counts-agree, sequences-by-number, cuttings-by-number}
@@ -58,36 +58,32 @@ module _ {B P : Type 0} (G : Setting B P) (L : Laws G) (s : B) (ok : G .Ok s) wh
       → Exactly 1 (λ (ps : List P). PlacingSequence G s ps × (holds (G .samePiece) ps ≡ X))
   cutting-has-one-sequence sound X = one-sequence G L sound s X ok
 
-  -- ---- 4. Layers, where every piece takes as many free cells
+  -- ---- 4. Layers
 
+  -- A board's path count in the next layer is the sum of the path counts of its parents in this one.
+  pub path-count-recurrence : (n : ℕ) (t : B) → weight (G .sameBoard) t (layerOf G s (suc n))
+      ≡ sumOf (λ e. cond (holds (G .sameBoard) (childBoards G (e .0)) t) (e .1) 0) (layerOf G s n)
+  path-count-recurrence n t = recurrence (G .sameBoard) (L .board-eq) (childBoards G) s n t (λ p m. child-once G L p (layer-ok G L s ok n p m))
+
+  -- After as many layers as free cells nothing is left.
+  pub layers-end : (n : ℕ) → G .freeCount s < n → layerOf G s n ≡ []
+  layers-end = layer-empty G L s ok
+
+  -- Where every piece takes as many free cells, two layers have no board in common,
   module _ (a : ℕ) (E : EqualSteps G a) where
-    -- A board's path count in a layer is the number of child sequences that reach it.
-    pub path-count-is-number : (n : ℕ) (e : Entry B) → Mem e (layer (G .sameBoard) (childBoards G) s n)
-        → Exactly (e .1) (ChildSequence (childBoards G) s (e .0))
-    path-count-is-number = path-count G L a E s ok
-
-    -- Every board that a child sequence reaches stands in a layer.
-    pub reached-in-layer : (t : B) (xs : List B) → ChildSequence (childBoards G) s t xs
-        → (n : ℕ) × (n ≤ G .freeCount s) × Mem t (boards (layer (G .sameBoard) (childBoards G) s n))
-    reached-in-layer t xs c = mem-layers (G .sameBoard) (L .board-eq) (childBoards G) s (G .freeCount s) t .0
-        (reached-node G L a E s ok t xs c)
-
-    -- A board's path count in the next layer is the sum of the path counts of its parents in this one.
-    pub path-count-recurrence : (n : ℕ) (t : B) → weight (G .sameBoard) t (layer (G .sameBoard) (childBoards G) s (suc n))
-        ≡ sumOf (λ e. cond (holds (G .sameBoard) (childBoards G (e .0)) t) (e .1) 0) (layer (G .sameBoard) (childBoards G) s n)
-    path-count-recurrence n t = recurrence (G .sameBoard) (L .board-eq) (childBoards G) s n t
-        (λ p m. child-once G L p (layer-ok G L s ok n p m))
-
-    -- Two layers have no board in common.
-    pub layers-apart : (n m : ℕ) (t : B) → Mem t (boards (layer (G .sameBoard) (childBoards G) s n))
-        → Mem t (boards (layer (G .sameBoard) (childBoards G) s m)) → n ≡ m
+    pub layers-apart : (n m : ℕ) (t : B) → Mem t (boards (layerOf G s n)) → Mem t (boards (layerOf G s m)) → n ≡ m
     layers-apart = layers-disjoint G L a E s ok
 
-    -- After as many layers as free cells nothing is left.
-    pub layers-end : (n : ℕ) → G .freeCount s < n → layer (G .sameBoard) (childBoards G) s n ≡ []
-    layers-end = layer-empty G L s ok
+    -- a board's path count in its layer is the number of child sequences that reach it,
+    pub path-count-is-number : (n : ℕ) (e : Entry B) → Mem e (layerOf G s n) → Exactly (e .1) (ChildSequence (childBoards G) s (e .0))
+    path-count-is-number = path-count G L a E s ok
 
-    -- ---- 5. The graph
+    -- and every board that a child sequence reaches stands in a layer.
+    pub reached-in-layer : (t : B) (xs : List B) → ChildSequence (childBoards G) s t xs
+        → (n : ℕ) × (n ≤ G .freeCount s) × Mem t (boards (layerOf G s n))
+    reached-in-layer t xs c = mem-layers (G .sameBoard) (L .board-eq) (childBoards G) s (G .freeCount s) t .0 (reached-node G L a E s ok t xs c)
+
+    -- ---- 5. The graph, where every piece takes as many free cells
 
     -- The nodes are the boards found from the start on, parents in number order, children in order, first appearances kept.
     pub nodes-by-first-finding : nodesOf G s ≡ firsts (G .sameBoard) (s ∷ flatMap (childBoards G) (nodesOf G s))
@@ -103,30 +99,9 @@ module _ {B P : Type 0} (G : Setting B P) (L : Laws G) (s : B) (ok : G .Ok s) wh
 
     -- The tilings by number to a node number the child sequences to its board.
     pub graph-tilings : (v : ℕ) → v < length (nodesOf G s)
-        → Numbering (ChildSequence (childBoards G) s (getD (nodesOf G s) v s)) (countOf G s v) (λ m. map (λ u. getD (nodesOf G s) u s) (tiling (graphOf G s) (countOf G s) v m))
+        → Numbering (ChildSequence (childBoards G) s (getD (nodesOf G s) v s)) (countOf G s v)
+        (λ m. map (λ u. getD (nodesOf G s) u s) (tiling (graphOf G s) (countOf G s) v m))
     graph-tilings = tilings-numbered G L a E s ok
-
-    -- ---- 7. Joined: of a start that is not full
-
-    module _ (notFull : G .full s ≡ false) where
-      -- The layer count and the graph count are one number, whatever is pruned.
-      pub counts-are-equal : layerCount G s (G .freeCount s) ≡ graphCount G s
-      counts-are-equal = counts-agree G L a E s ok notFull
-
-      -- The graph count is the number of placing sequences, whatever is pruned: the pieces of the tilings by number, in order.
-      pub tilings-are-sequences : Numbering (PlacingSequence G s) (graphCount G s) (λ m. piecesOf G (tilingOf G s m))
-      tilings-are-sequences = sequences-by-number G L a E s ok notFull
-
-      -- Where only boards without a cutting are pruned, the pieces of the tilings by number are the cuttings, each once and all.
-      pub tilings-are-cuttings : SoundPruning G → Numbering (CuttingOf G s) (graphCount G s) (cuttingAt G s)
-      tilings-are-cuttings = cuttings-by-number G L a E s ok notFull
-
-      -- So the graph count and the layer count are both the number of cuttings.
-      pub graph-count-is-cuttings : SoundPruning G → Exactly (graphCount G s) (CuttingOf G s)
-      graph-count-is-cuttings sound = (cuttingAt G s, tilings-are-cuttings sound)
-
-      pub layer-count-is-cuttings : SoundPruning G → Exactly (layerCount G s (G .freeCount s)) (CuttingOf G s)
-      layer-count-is-cuttings sound = subst (λ (n : ℕ). Exactly n (CuttingOf G s)) (sym counts-are-equal) (graph-count-is-cuttings sound)
 
 -- ---- 6. The walk by turns, over any edges and counts
 
@@ -135,17 +110,36 @@ pub walk-numbers-chains : (n : ℕ) (es : List (ℕ × ℕ)) (count : ℕ → �
     → Numbering (Chain (λ p c. Mem (p, c) es) 0 v) (count v) (tiling es count v)
 walk-numbers-chains = tiling-numbers
 
--- ---- 8. The order of a layer
+-- ---- 7. Joined: a start that is not full, where every piece takes as many free cells
 
--- The weights of the next layer are the same whatever the order of the layer: they follow from the layer's weights alone.
-pub next-layer-by-weights : {B : Type 0} (same : B → B → Bool) → Tells same → (children : B → List B) (es ds : List (Entry B)) → Alike same es ds
-    → Alike same (gather same (shares children es)) (gather same (shares children ds))
-next-layer-by-weights = alike-next
+module _ {B P : Type 0} (G : Setting B P) (L : Laws G) (a : ℕ) (E : EqualSteps G a) (s : B) (ok : G .Ok s) (notFull : G .full s ≡ false) where
+  -- The layer count and the graph count are one number, whatever is pruned.
+  pub counts-are-equal : layerCount G s (G .freeCount s) ≡ graphCount G s
+  counts-are-equal = counts-agree G L a E s ok notFull
 
--- And so has the next layer equally many boards, where no path count is 0.
-pub next-layer-length : {B : Type 0} (same : B → B → Bool) → Tells same → (children : B → List B) (es ds : List (Entry B)) → Nonzero es → Nonzero ds
-    → Alike same es ds → length (gather same (shares children es)) ≡ length (gather same (shares children ds))
-next-layer-length same tells children es ds x y a = alike-length same tells (gather same (shares children es)) (gather same (shares children ds))
-    (once-gather same tells (shares children es)) (once-gather same tells (shares children ds))
-    (gather-positive same tells (shares children es) (shares-positive same tells children es x))
-    (gather-positive same tells (shares children ds) (shares-positive same tells children ds y)) (alike-next same tells children es ds a)
+  -- It is the number of placing sequences, whatever is pruned: the pieces of the tilings by number, in order.
+  pub tilings-are-sequences : Numbering (PlacingSequence G s) (graphCount G s) (λ m. piecesOf G (tilingOf G s m))
+  tilings-are-sequences = sequences-by-number G L a E s ok notFull
+
+  -- Where only boards without a cutting are pruned, the pieces of the tilings by number are the cuttings, each once and all.
+  pub tilings-are-cuttings : SoundPruning G → Numbering (CuttingOf G s) (graphCount G s) (cuttingAt G s)
+  tilings-are-cuttings = cuttings-by-number G L a E s ok notFull
+
+  -- So the graph count and the layer count are both the number of cuttings.
+  pub graph-count-is-cuttings : SoundPruning G → Exactly (graphCount G s) (CuttingOf G s)
+  graph-count-is-cuttings sound = (cuttingAt G s, tilings-are-cuttings sound)
+
+  pub layer-count-is-cuttings : SoundPruning G → Exactly (layerCount G s (G .freeCount s)) (CuttingOf G s)
+  layer-count-is-cuttings sound = subst (λ (n : ℕ). Exactly n (CuttingOf G s)) (sym counts-are-equal) (graph-count-is-cuttings sound)
+
+-- ---- 8. The order of a layer makes no difference
+
+module _ {B : Type 0} (same : B → B → Bool) (tells : Tells same) (children : B → List B) (es ds : List (Entry B)) where
+  -- The weights of the next layer follow from the weights of the layer, whatever its order,
+  pub next-layer-by-weights : Alike same es ds → Alike same (gather same (shares children es)) (gather same (shares children ds))
+  next-layer-by-weights = alike-next same tells children es ds
+
+  -- and so does its number of boards, where no path count is 0.
+  pub next-layer-length : Nonzero es → Nonzero ds → Alike same es ds
+      → length (gather same (shares children es)) ≡ length (gather same (shares children ds))
+  next-layer-length = alike-next-length same tells children es ds
