@@ -2,7 +2,7 @@
 -- come one behind the other. Rests on `Inner`, `cells` and the laws of children. Assumes nothing.
 use mathlib.Core.Path.{_≡_, refl, sym, ap, ap₂, _∙_, subst}
 use mathlib.Core.Bool.{Bool, true, false, So, not, cond, _&&_, and-eq-true-iff}
-use mathlib.Core.List.{List, [], _∷_, _++_, map, flatMap}
+use mathlib.Core.List.{List, [], _∷_, _++_, map, map-append, flatMap}
 use Prim.Native.Nat.{ℕ, _+_, _-_, _*_, _/_, _^_, _≤_, _<_}
 use native.Mathlib.Decide.{ℕ-discrete}
 use native.Mathlib.Omega.{arith}
@@ -16,7 +16,7 @@ use Rattle.cells.specs.Arrays.{listFrom, listOf, allBelow}
 use Rattle.cells.specs.Lists.{setsIn, withSet, storedIn}
 use Rattle.cells.specs.FirstsLaws.{addFirsts-append, addNew-old, addNew-new}
 use Rattle.cells.specs.ArrayLaws.{getD-snoc, listOf-snoc, allBelow-at}
-use Rattle.cells.specs.MemberLaws.{map-append, flatMap-snoc}
+use Rattle.cells.specs.MemberLaws.{flatMap-snoc}
 use Rattle.cells.specs.ListLaws.{length-storedIn, storedIn-none, setsIn-storedIn, storedIn-snoc}
 use Rattle.cells.specs.Set.{hasCell}
 use Rattle.tile.specs.declared.Tiles.{Tiles}

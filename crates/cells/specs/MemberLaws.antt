@@ -83,10 +83,6 @@ module _ {A B : Type 0} where
 -- ---- lists joined
 
 module _ {A B : Type 0} where
-  pub map-append : (f : A → B) (xs ys : List A) → map f (xs ++ ys) ≡ map f xs ++ map f ys
-  map-append f [] ys = refl
-  map-append f (x ∷ xs) ys = ap (λ (l : List B). f x ∷ l) (map-append f xs ys)
-
   pub flatMap-append : (f : A → List B) (xs ys : List A) → flatMap f (xs ++ ys) ≡ flatMap f xs ++ flatMap f ys
   unfolding flatMap
   flatMap-append f [] ys = refl
@@ -117,10 +113,10 @@ module _ {A : Type 0} where
       (λ m. let r = mem-listOf f n (f n) .0 m in let h = r .1 in let e = inj n (r .0) (omega arith) (omega arith) (r .2) in omega arith))
 
   -- a list in which x stands, cut there
-  pub cut : (x : A) (xs : List A) → Mem x xs → (s : List A) × (t : List A) × (xs ≡ s ++ x ∷ t)
-  cut x [] m = absurd (not-nil m)
-  cut x (y ∷ xs) m =
-      ⊎-elim (λ e. ([], xs, ap (λ (z : A). z ∷ xs) (sym e))) (λ k. let r = cut x xs k in (y ∷ r .0, r .1, ap (λ (l : List A). y ∷ l) (r .2)))
+  pub mem-split : (x : A) (xs : List A) → Mem x xs → (s : List A) × (t : List A) × (xs ≡ s ++ x ∷ t)
+  mem-split x [] m = absurd (not-nil m)
+  mem-split x (y ∷ xs) m =
+      ⊎-elim (λ e. ([], xs, ap (λ (z : A). z ∷ xs) (sym e))) (λ k. let r = mem-split x xs k in (y ∷ r .0, r .1, ap (λ (l : List A). y ∷ l) (r .2)))
       (cases-cons m)
 
   -- what is in a list cut at x and is not x is in the rest
@@ -132,7 +128,7 @@ module _ {A : Type 0} where
   pub once-length : (xs ys : List A) → Once xs → ((x : A) → Mem x xs → Mem x ys) → length xs ≤ length ys
   once-length [] ys o h = omega arith
   once-length (x ∷ xs) ys o h =
-      let c = cut x ys (h x (here refl)) in
+      let c = mem-split x ys (h x (here refl)) in
       let r = once-length xs (c .0 ++ c .1) (o .1)
       (λ y m. mem-rest x y (c .0) (c .1) (λ e. o .0 (cast (sym e) m)) (subst (Mem y) (c .2) (h y (there m)))) in
       omega (arith, r, ap length (c .2), length-append (c .0) (c .1), length-append (c .0) (x ∷ c .1))

@@ -1,5 +1,5 @@
--- Laws of sets of cells: the bits and the size of a set with one cell more, of a union and of an intersection; when two sets share a cell;
--- how many cells a set has. Rests on `BitLaws`. Assumes nothing.
+-- Laws of sets of cells: a set within another; the bits and the size of a set with one cell more, of a union and of an intersection; when two
+-- sets share a cell; how many cells a set has. Rests on `BitLaws`. Assumes nothing.
 use mathlib.Core.Path.{_≡_, refl, sym, ap, _∙_, subst}
 use mathlib.Core.Logic.{_≢_, _↔_}
 use mathlib.Core.Bool.{Bool, true, false, So, cond}
@@ -23,6 +23,27 @@ hasCell-iff n c = (λ e. eqb-true (bit n c) 1 e, λ e. eq-eqb (bit n c) 1 e)
 pub hasCell-false : (n c : ℕ) → bit n c ≡ 0 → hasCell n c ≡ false
 unfolding hasCell
 hasCell-false n c e = ne-eqb (bit n c) 1 (λ q. omega arith)
+
+-- ---- a set within another: by its cells, and its number is no greater
+
+pub within-iff : (n m : ℕ) → Within n m ↔ ((c : ℕ) → So (hasCell n c) → So (hasCell m c))
+within-iff n m = (λ w c h. hasCell-iff m c .1 (omega (arith, w c, hasCell-iff n c .0 h, bit-le m c)), from)
+  where
+    from : ((c : ℕ) → So (hasCell n c) → So (hasCell m c)) → Within n m
+    from onto c = go (ℕ-discrete (bit n c) 1)
+      where
+        go : Dec (bit n c ≡ 1) → bit n c ≤ bit m c
+        go (yes e) = omega (arith, hasCell-iff m c .0 (onto c (hasCell-iff n c .1 e)))
+        go (no e) = omega (arith, bit-le n c)
+
+within-le-upto : (k n m : ℕ) → n ≤ k → Within n m → n ≤ m
+within-le-upto zero n m h w = omega arith
+within-le-upto (suc k) n m h w =
+    let halves = within-le-upto k (n / 2) (m / 2) (omega arith) (λ c. omega (arith, w (suc c), bit-suc n c, bit-suc m c)) in
+    omega (arith, w 0, bit-zero n, bit-zero m)
+
+pub within-le : (n m : ℕ) → Within n m → n ≤ m
+within-le n m w = within-le-upto n n m (omega arith) w
 
 -- ---- one cell more
 

@@ -41,7 +41,7 @@ module _ {B P : Type 0} (G : Setting B P) (L : Laws G) where
 
   pub child-equal : (a : ℕ) → EqualSteps G a → (s t : B) → G .Ok s → Mem t (childBoards G s) → G .freeCount t + a ≡ G .freeCount s
   child-equal a E s t ok m =
-      let r = child-fits s t ok m in subst (λ (u : B). G .freeCount u + a ≡ G .freeCount s) (r .1) (E .lay-equal s (G .stepPiece s t) ok (r .0))
+      let r = child-fits s t ok m in subst (λ (u : B). G .freeCount u + a ≡ G .freeCount s) (r .1) (E s (G .stepPiece s t) ok (r .0))
 
   -- ---- sequences
 

@@ -1,6 +1,7 @@
--- Laws of the two counts and of the cuttings by number. Where a setting meets its laws and takes as many free cells at each step, and the start is not
--- full, the layer count is the graph count, and the tilings by number number the placing sequences; where only boards without a cutting are
--- pruned, they number the cuttings. And what a full start counts. Rests on `SequenceLaws`, `ChildLaws` and `GraphLaws`. Assumes nothing.
+-- Laws of the two counts and of the cuttings by number. Where a setting meets its laws and takes equally many free cells
+-- at each step, the layer count is the graph count; if the start is not full, the tilings by number number the placing sequences, and where only
+-- boards without a cutting are pruned, the cuttings. And what a full start counts. Rests on `SequenceLaws` and `GraphLaws`.
+-- Assumes nothing.
 use mathlib.Core.Path.{_≡_, refl, sym, ap, ap₂, subst, _∙_}
 use mathlib.Core.Logic.{_⊎_, ⊎-elim}
 use mathlib.Core.Bool.{Bool, true, false, So, cond, false≢true}
@@ -13,15 +14,16 @@ use lib.ListN.{length, getD}
 use Rattle.cells.specs.Firsts.{Once, addFirsts, firsts}
 use Rattle.cells.specs.FirstsLaws.{mem-getD, so-eq}
 use Rattle.covers.specs.Cuttings.{Numbering, Setting, CuttingOf, PlacingSequence, childBoards, Laws, SoundPruning, EqualSteps}
-use Rattle.covers.specs.Counts.{Entry, boards, sumOf, shares, gather, weight, layer, layers, numberIn, tiling, fullCount, fullFrom, fullNode, atNode, layerOf, entriesOf, nodesOf, countOf, graphOf, layerCount, graphCount, piecesOf, tilingOf, cuttingAt}
+use Rattle.covers.specs.Counts.{Entry, boards, sumOf, shares, gather, weight, layer, layers, numberIn, tiling, fullCount, fullFrom, fullNode, atNode, layerOf, entriesOf, nodesOf, pathCountOf, graphEdges, layerCountTo, layerCount, graphCount, piecesOf, tilingOf, cuttingAt}
 use Rattle.covers.specs.NumberingLaws.{numbering-none}
 use Rattle.covers.specs.SumLaws.{sum-append, sum-ext, sum-zero}
 use Rattle.covers.specs.SequenceLaws.{full-pieces, cuttings-numbered}
 use Rattle.covers.specs.ChildLaws.{sequence-children, sequences-numbered}
-use Rattle.covers.specs.GatherLaws.{weight-entry}
+use Rattle.covers.specs.GatherLaws.{mem-boards, mem-entry, weight-entry}
 use Rattle.covers.specs.LayerLaws.{layers-first}
-use Rattle.covers.specs.GraphLaws.{once-layers, node-ok, tilings-numbered, reached-node}
-use Rattle.covers.specs.NodeLaws.{mem-boards, mem-entry, count-number, number-getD}
+use Rattle.covers.specs.SettingLaws.{once-layers}
+use Rattle.covers.specs.GraphLaws.{node-ok, tilings-numbered, reached-node}
+use Rattle.covers.specs.NodeLaws.{count-number, number-getD}
 
 -- ---- the full node
 
@@ -42,12 +44,14 @@ module _ {B : Type 0} (full : B → Bool) where
   fullFrom-none i [] e t m = absurd (not-nil m)
   fullFrom-none i (s ∷ ss) e t m = go (full s) refl e (λ q. fullFrom-none (suc i) ss q t)
     where
-      go : (b : Bool) → full s ≡ b → cond b (some i) (fullFrom full (suc i) ss) ≡ none → (fullFrom full (suc i) ss ≡ none → Mem t ss → full t ≡ false) → full t ≡ false
+      go : (b : Bool) → full s ≡ b → cond b (some i) (fullFrom full (suc i) ss) ≡ none
+          → (fullFrom full (suc i) ss ≡ none → Mem t ss → full t ≡ false) → full t ≡ false
       go true f q below = absurd (Option·none-ne-some i (sym q))
       go false f q below = ⊎-elim (λ k. ap full k ∙ f) (below q) (cases-cons m)
 
   -- the full node is a node behind the first, and full
-  pub fullNode-some : (s : B) (ss : List B) (v : ℕ) (d : B) → fullNode full (s ∷ ss) ≡ some v → (0 < v) × (v < length (s ∷ ss)) × So (full (getD (s ∷ ss) v d))
+  pub fullNode-some : (s : B) (ss : List B) (v : ℕ) (d : B) → fullNode full (s ∷ ss) ≡ some v
+      → (0 < v) × (v < length (s ∷ ss)) × So (full (getD (s ∷ ss) v d))
   unfolding fullNode
   fullNode-some s ss v d e =
       let r = fullFrom-some 1 v ss d e in
@@ -72,15 +76,19 @@ module _ {B P : Type 0} (G : Setting B P) (L : Laws G) (s : B) (ok : G .Ok s) (f
   full-layers zero = refl
   full-layers (suc n) = ap₂ _++_ (full-layers n) (full-layer n)
 
-  -- a full start counts 0, in as many layers as one likes
-  pub full-layerCount : (n : ℕ) → layerCount G s n ≡ 0
-  unfolding layerCount fullCount sumOf
-  full-layerCount zero = refl
-  full-layerCount (suc n) = ap₂ _+_ (full-layerCount n) (ap (fullCount (G .full)) (full-layer n))
+  -- a full start counts 0
+  full-layers-count : (n : ℕ) → layerCountTo G s n ≡ 0
+  unfolding layerCountTo fullCount sumOf
+  full-layers-count zero = refl
+  full-layers-count (suc n) = ap₂ _+_ (full-layers-count n) (ap (fullCount (G .full)) (full-layer n))
+
+  pub full-layerCount : layerCount G s ≡ 0
+  unfolding layerCount
+  full-layerCount = full-layers-count (G .freeCount s)
 
   pub full-graphCount : graphCount G s ≡ 0
   unfolding graphCount fullNode fullFrom atNode
-  full-graphCount = ap (λ (es : List (Entry B)). atNode (countOf G s) (fullNode (G .full) (boards es))) (full-layers (G .freeCount s))
+  full-graphCount = ap (λ (es : List (Entry B)). atNode (pathCountOf G s) (fullNode (G .full) (boards es))) (full-layers (G .freeCount s))
 
 -- ---- a start with a free cell
 
@@ -113,8 +121,8 @@ module _ {B P : Type 0} (G : Setting B P) (L : Laws G) (a : ℕ) (E : EqualSteps
     -- ---- both counts agree
 
     -- the full boards in the layers joined weigh as many as the layer count
-    sum-layers : (n : ℕ) → fullCount (G .full) (layers (G .sameBoard) (childBoards G) s n) ≡ layerCount G s n
-    unfolding layers layer layerCount fullCount sumOf
+    sum-layers : (n : ℕ) → fullCount (G .full) (layers (G .sameBoard) (childBoards G) s n) ≡ layerCountTo G s n
+    unfolding layers layer layerCountTo fullCount sumOf
     sum-layers zero = rw notFull
     sum-layers (suc n) =
         sum-append (λ e. cond (G .full (e .0)) (e .1) 0) (layers (G .sameBoard) (childBoards G) s n) (layerOf G s (suc n))
@@ -125,44 +133,48 @@ module _ {B P : Type 0} (G : Setting B P) (L : Laws G) (a : ℕ) (E : EqualSteps
     full-same t u o k f = so-eq (G .full u) (G .sameBoard u t)
         (λ g. L .board-eq u t .1 (L .full-one u t k o g f)) (λ e. ap (G .full) (L .board-eq u t .0 e) ∙ f)
 
-    full-weight : (v : ℕ) → v < length (nodesOf G s) → So (G .full (getD (nodesOf G s) v s)) → fullCount (G .full) (entriesOf G s) ≡ countOf G s v
+    full-weight : (v : ℕ) → v < length (nodesOf G s) → So (G .full (getD (nodesOf G s) v s)) → fullCount (G .full) (entriesOf G s) ≡ pathCountOf G s v
     unfolding fullCount weight
     full-weight v h f =
         let t = getD (nodesOf G s) v s in
         let m : Mem t (nodesOf G s) = mem-getD (nodesOf G s) v s h in
         let e = mem-entry (entriesOf G s) t m in
         sum-ext (λ e. cond (G .full (e .0)) (e .1) 0) (λ e. cond (G .sameBoard (e .0) t) (e .1) 0) (entriesOf G s)
-        (λ x k. ap (λ (b : Bool). cond b (x .1) 0) (full-same t (x .0) (node-ok G L a E s ok t m) (node-ok G L a E s ok (x .0) (mem-boards (entriesOf G s) x k)) f))
+        (λ x k.
+        let o = node-ok G L a E s ok (x .0) (mem-boards (entriesOf G s) x k) in
+        ap (λ (b : Bool). cond b (x .1) 0) (full-same t (x .0) (node-ok G L a E s ok t m) o f))
         ∙ ap (λ (u : B). weight (G .sameBoard) u (entriesOf G s)) (sym (e .2))
         ∙ weight-entry (G .sameBoard) (L .board-eq) (entriesOf G s) (e .0) once-nodes (e .1)
         ∙ sym (count-number (G .sameBoard) (L .board-eq) (entriesOf G s) (e .0) once-nodes (e .1))
-        ∙ ap (countOf G s) (ap (numberIn (G .sameBoard) (nodesOf G s)) (e .2) ∙ number-getD (G .sameBoard) (L .board-eq) (nodesOf G s) v s once-nodes h)
+        ∙ ap (pathCountOf G s)
+        (ap (numberIn (G .sameBoard) (nodesOf G s)) (e .2) ∙ number-getD (G .sameBoard) (L .board-eq) (nodesOf G s) v s once-nodes h)
 
     none-count : fullNode (G .full) (nodesOf G s) ≡ none → fullCount (G .full) (entriesOf G s) ≡ 0
     unfolding fullCount
     none-count e = sum-zero (λ e. cond (G .full (e .0)) (e .1) 0) (entriesOf G s)
         (λ x k. ap (λ (b : Bool). cond b (x .1) 0) (none-full e (x .0) (mem-boards (entriesOf G s) x k)))
 
-    pub counts-agree : layerCount G s (G .freeCount s) ≡ graphCount G s
-    unfolding graphCount
-    counts-agree = sym (sum-layers (G .freeCount s)) ∙ go (fullNode (G .full) (nodesOf G s)) refl
+    counts-agree-free : layerCount G s ≡ graphCount G s
+    unfolding layerCount graphCount
+    counts-agree-free = sym (sum-layers (G .freeCount s)) ∙ go (fullNode (G .full) (nodesOf G s)) refl
       where
-        go : (o : Option ℕ) → fullNode (G .full) (nodesOf G s) ≡ o → fullCount (G .full) (entriesOf G s) ≡ atNode (countOf G s) (fullNode (G .full) (nodesOf G s))
-        go none e = none-count e ∙ ap (atNode (countOf G s)) (sym e)
-        go (some v) e = let r = some-full v e in full-weight v (r .0) (r .1) ∙ ap (atNode (countOf G s)) (sym e)
+        go : (o : Option ℕ) → fullNode (G .full) (nodesOf G s) ≡ o
+            → fullCount (G .full) (entriesOf G s) ≡ atNode (pathCountOf G s) (fullNode (G .full) (nodesOf G s))
+        go none e = none-count e ∙ ap (atNode (pathCountOf G s)) (sym e)
+        go (some v) e = let r = some-full v e in full-weight v (r .0) (r .1) ∙ ap (atNode (pathCountOf G s)) (sym e)
 
     -- ---- and are the number of placing sequences, and of cuttings
 
     -- the pieces of the steps of the tiling with the number m to a node, or to node 0 with none
     readTo : Option ℕ → ℕ → List P
-    readTo o m = piecesOf G (map (λ v. getD (nodesOf G s) v s) (tiling (graphOf G s) (countOf G s) (atNode (λ v. v) o) m))
+    readTo o m = piecesOf G (map (λ v. getD (nodesOf G s) v s) (tiling (graphEdges G s) (pathCountOf G s) (atNode (λ v. v) o) m))
 
     no-sequence : fullNode (G .full) (nodesOf G s) ≡ none → (ps : List P) → PlacingSequence G s ps → ⊥
     no-sequence e ps r =
         let k = sequence-children G L s ps ok r in
         false≢true (sym (none-full e (k .0) (reached-node G L a E s ok (k .0) (k .1) (k .4))) ∙ k .3)
 
-    numbered-to : (o : Option ℕ) → fullNode (G .full) (nodesOf G s) ≡ o → Numbering (PlacingSequence G s) (atNode (countOf G s) o) (readTo o)
+    numbered-to : (o : Option ℕ) → fullNode (G .full) (nodesOf G s) ≡ o → Numbering (PlacingSequence G s) (atNode (pathCountOf G s) o) (readTo o)
     unfolding atNode readTo
     numbered-to none e = numbering-none (readTo none) (no-sequence e)
     numbered-to (some v) e =
@@ -178,3 +190,11 @@ module _ {B P : Type 0} (G : Setting B P) (L : Laws G) (a : ℕ) (E : EqualSteps
     -- and, where only boards without a cutting are pruned, the cuttings: the set of those pieces
     pub cuttings-by-number : SoundPruning G → Numbering (CuttingOf G s) (graphCount G s) (cuttingAt G s)
     cuttings-by-number sound = cuttings-numbered G L sound s ok sequences-by-number
+
+  -- a start that is full counts 0 both ways, so that the counts agree of any start
+  pub counts-agree : layerCount G s ≡ graphCount G s
+  counts-agree = go (G .full s) refl
+    where
+      go : (b : Bool) → G .full s ≡ b → layerCount G s ≡ graphCount G s
+      go true f = full-layerCount G L s ok f ∙ sym (full-graphCount G L s ok f)
+      go false f = counts-agree-free f

@@ -151,33 +151,38 @@ module _ {B P : Type 0} (G : Setting B P) (s : B) where
   abbrev pub layerOf : ℕ → List (Entry B)
   layerOf n = layer (G .sameBoard) (childBoards G) s n
 
-  -- the layers' boards as nodes, "numbered by first finding", with their path counts and their edges. There are as many layers as free cells
+  -- the nodes, "numbered by first finding", with their path counts, and their edges: the boards of the layers 0 to the number of free cells
   abbrev pub entriesOf : List (Entry B)
   entriesOf = layers (G .sameBoard) (childBoards G) s (G .freeCount s)
 
   abbrev pub nodesOf : List B
   nodesOf = boards entriesOf
 
-  abbrev pub countOf : ℕ → ℕ
-  countOf v = getD (counts entriesOf) v 0
+  abbrev pub pathCountOf : ℕ → ℕ
+  pathCountOf v = getD (counts entriesOf) v 0
 
-  abbrev pub graphOf : List (ℕ × ℕ)
-  graphOf = edgesOf (G .sameBoard) (childBoards G) nodesOf
+  abbrev pub graphEdges : List (ℕ × ℕ)
+  graphEdges = edgesOf (G .sameBoard) (childBoards G) nodesOf
+
+  -- the path count of the full board in the layers 1 to n
+  unfoldable pub layerCountTo : ℕ → ℕ
+  unfolding fullCount layer
+  layerCountTo zero = 0
+  layerCountTo (suc n) = layerCountTo n + fullCount (G .full) (layerOf (suc n))
 
   -- "The answer is the path count of the full board, 0 if none is reached after at least one piece"
-  unfoldable pub layerCount : ℕ → ℕ
-  unfolding fullCount layer
-  layerCount zero = 0
-  layerCount (suc n) = layerCount n + fullCount (G .full) (layerOf (suc n))
+  unfoldable pub layerCount : ℕ
+  unfolding layerCountTo
+  layerCount = layerCountTo (G .freeCount s)
 
   -- "The graph count is that node's path count, 0 with none"
   unfoldable pub graphCount : ℕ
   unfolding layers fullNode atNode
-  graphCount = atNode countOf (fullNode (G .full) nodesOf)
+  graphCount = atNode pathCountOf (fullNode (G .full) nodesOf)
 
-  -- the node list with the number m to the full node, and "the set of pieces that its steps mark"
+  -- the boards of the node list with the number m to the full node, and "the set of pieces that its steps mark"
   abbrev pub tilingOf : ℕ → List B
-  tilingOf m = map (λ v. getD nodesOf v s) (tiling graphOf countOf (atNode (λ v. v) (fullNode (G .full) nodesOf)) m)
+  tilingOf m = map (λ v. getD nodesOf v s) (tiling graphEdges pathCountOf (atNode (λ v. v) (fullNode (G .full) nodesOf)) m)
 
   abbrev pub cuttingAt : ℕ → P → Bool
   cuttingAt m = holds (G .samePiece) (piecesOf G (tilingOf m))

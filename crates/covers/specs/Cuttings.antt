@@ -20,8 +20,8 @@ module _ {A : Type 0} where
   abbrev pub Exactly : ℕ → (A → Type 0) → Type 0
   Exactly n Is = (f : ℕ → A) × Numbering Is n f
 
--- ---- cuttings, of what a piece covers, of the pieces that are "a tile's cells moved unturned" and of the free cells; and of nothing else. Pieces are "cell
--- sets" where P is ℕ and `covers` is `hasCell` (`CellSets`)
+-- ---- cuttings, of what a piece covers, of the pieces that are "a tile's cells moved unturned", and of the free cells; of nothing else. Pieces
+-- are 01's "cell sets" where P is ℕ and `covers` is `hasCell` (`CellSets`)
 
 module _ {P : Type 0} (covers : P → ℕ → Bool) (IsTile : P → Type 0) (free : ℕ → Bool) where
   -- "a tile's cells moved unturned onto free cells"
@@ -45,12 +45,12 @@ pub record Setting (B P : Type 0) : Type 1 where
   pub free : B → ℕ → Bool
   pub covers : P → ℕ → Bool
   pub full : B → Bool
-  -- the number of free cells; all that is asked of it is that each piece makes it less
+  -- the number of free cells; what is asked of it is that each piece makes it less (`lay-count`, and `EqualSteps` where it says so)
   pub freeCount : B → ℕ
   -- a board with a piece laid, and the piece of a step: "the cells marked in the later node and free in the earlier"
   pub lay : B → P → B
   pub stepPiece : B → B → P
-  -- "the chosen cell" of a board that is not full, and the pieces that are laid on the board, in order
+  -- "the chosen cell" of a board that is not full, and the pieces that make the board's children, in order
   pub chosen : B → ℕ
   pub pieces : B → List P
   -- tests of equality
@@ -68,7 +68,7 @@ module _ {B P : Type 0} (G : Setting B P) where
   abbrev pub childBoards : B → List B
   childBoards s = map (G .lay s) (G .pieces s)
 
-  -- a placing sequence: pieces laid one after another from s on, each one of the board that it is laid on, until no cell is free
+  -- a placing sequence: pieces laid one after another from s on, each one of the pieces of the board that it is laid on, until no cell is free
   abbrev pub PlacingSequence : B → List P → Type 0
   PlacingSequence s [] = So (G .full s)
   PlacingSequence s (p ∷ ps) = Mem p (G .pieces s) × PlacingSequence (G .lay s p) ps
@@ -78,7 +78,7 @@ module _ {B P : Type 0} (G : Setting B P) where
     -- the tests tell equal boards and equal pieces
     pub board-eq : Tells (G .sameBoard)
     pub piece-eq : Tells (G .samePiece)
-    -- a board is full if no cell is free, all full boards are one board, and the chosen cell of any other is free
+    -- a board is full exactly if no cell is free, all full boards are one board, and the chosen cell of any other is free
     pub full-iff : (s : B) → G .Ok s → So (G .full s) ↔ ((c : ℕ) → So (G .free s c) → ⊥)
     pub full-one : (s t : B) → G .Ok s → G .Ok t → So (G .full s) → So (G .full t) → s ≡ t
     pub chosen-free : (s : B) → G .Ok s → G .full s ≡ false → So (G .free s (G .chosen s))
@@ -98,7 +98,6 @@ module _ {B P : Type 0} (G : Setting B P) where
   abbrev pub SoundPruning : Type 0
   SoundPruning = (s : B) (p : P) → G .Ok s → FitsOn s p → So (G .covers p (G .chosen s)) → Mem p (G .pieces s) ⊎ ((X : P → Bool) → CuttingOf s X → ⊥)
 
-  -- tiles of equally many cells: each piece takes as many free cells, at least one
-  pub record EqualSteps (a : ℕ) : Type 0 where
-    pub positive : 0 < a
-    pub lay-equal : (s : B) (p : P) → G .Ok s → FitsOn s p → G .freeCount (G .lay s p) + a ≡ G .freeCount s
+  -- tiles of equally many cells: each piece that fits takes a free cells
+  abbrev pub EqualSteps : ℕ → Type 0
+  EqualSteps a = (s : B) (p : P) → G .Ok s → FitsOn s p → G .freeCount (G .lay s p) + a ≡ G .freeCount s

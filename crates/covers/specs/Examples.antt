@@ -1,5 +1,5 @@
 -- The definitions compute and the laws can be met: 2 by 2 with dominoes. And what is asked can't be left out: a full start, a plot whose pruning is
--- not sound, two equal edges. Rests on `Search` and `Theorems`. Assumes nothing.
+-- not sound, tiles of unequal size, two equal edges. Rests on `ExamplePlots` and `Theorems`. Assumes nothing.
 use mathlib.Core.Path.{_≡_, refl, ap, subst}
 use mathlib.Core.Logic.{⊎-elim}
 use mathlib.Core.Bool.{Bool, false, cond, _&&_}
@@ -13,10 +13,10 @@ use Rattle.cells.specs.Firsts.{any, holds}
 use Rattle.cells.specs.FirstsLaws.{holds-iff}
 use Rattle.cells.specs.MemberLaws.{eqb-tells}
 use Rattle.covers.specs.Cuttings.{Exactly, CuttingOf, Laws, SoundPruning, EqualSteps}
-use Rattle.covers.specs.Counts.{counts, sumOf, layers, edgesOf, parentsOf, tiling, SumRule, fullNode, atNode, entriesOf, nodesOf, graphOf, layerCount, graphCount, tilingOf}
+use Rattle.covers.specs.Counts.{counts, sumOf, layers, edgesOf, parentsOf, tiling, SumRule, fullNode, atNode, entriesOf, nodesOf, graphEdges, layerCount, graphCount, tilingOf}
 use Rattle.covers.specs.Theorems.{number-unique, layer-count-is-cuttings}
 use Rattle.covers.specs.CellSets.{cellSetting}
-use Rattle.covers.specs.Search.{Plot, all, isWithin, settingOf, isPlot, cuts, plot-laws, plot-steps, plot-pruning, plot-ok, plot-cutting}
+use Rattle.covers.specs.ExamplePlots.{Plot, all, isWithin, settingOf, isPlot, cuts, plot-laws, plot-steps, plot-pruning, plot-ok, plot-cutting}
 
 -- ---- 2 by 2 with dominoes: the cells 0 and 1 above 2 and 3, the lowest free cell is chosen
 
@@ -35,7 +35,7 @@ two-by-two = plot-laws twoByTwo refl
 
 two-by-two-steps : EqualSteps (settingOf twoByTwo) 2
 unfolding isPlot all size
-two-by-two-steps = plot-steps twoByTwo refl 2 (omega arith) refl
+two-by-two-steps = plot-steps twoByTwo refl 2 refl
 
 two-by-two-pruning : SoundPruning (settingOf twoByTwo)
 unfolding isPlot
@@ -50,7 +50,7 @@ unfolding settingOf
 two-by-two-not-full = refl
 
 -- both counts are 2
-two-layers : layerCount (settingOf twoByTwo) 0 (settingOf twoByTwo .freeCount 0) ≡ 2
+two-layers : layerCount (settingOf twoByTwo) 0 ≡ 2
 unfolding settingOf size layerCount
 two-layers = refl
 
@@ -73,7 +73,7 @@ path-counts : counts (entriesOf (settingOf twoByTwo) 0) ≡ 1 ∷ 1 ∷ 1 ∷ 2 
 unfolding settingOf size layers
 path-counts = refl
 
-edges : graphOf (settingOf twoByTwo) 0 ≡ (0, 1) ∷ (0, 2) ∷ (1, 3) ∷ (2, 3) ∷ []
+edges : graphEdges (settingOf twoByTwo) 0 ≡ (0, 1) ∷ (0, 2) ∷ (1, 3) ∷ (2, 3) ∷ []
 unfolding settingOf size layers edgesOf
 edges = refl
 
@@ -86,8 +86,8 @@ unfolding settingOf size layers edgesOf tiling fullNode atNode
 tiling-1 = refl
 
 -- a full start counts 0, though the empty set is a cutting
-full-layers : layerCount (settingOf twoByTwo) 15 0 ≡ 0
-unfolding settingOf layerCount
+full-layers : layerCount (settingOf twoByTwo) 15 ≡ 0
+unfolding settingOf size layerCount
 full-layers = refl
 
 full-graph : graphCount (settingOf twoByTwo) 15 ≡ 0
@@ -131,9 +131,9 @@ slanted-laws = plot-laws slanted refl
 
 slanted-steps : EqualSteps (settingOf slanted) 2
 unfolding isPlot flatMap all size
-slanted-steps = plot-steps slanted refl 2 (omega arith) refl
+slanted-steps = plot-steps slanted refl 2 refl
 
-slanted-layers : layerCount (settingOf slanted) 0 (settingOf slanted .freeCount 0) ≡ 0
+slanted-layers : layerCount (settingOf slanted) 0 ≡ 0
 unfolding settingOf size layerCount flatMap beside hasFour
 slanted-layers = refl
 
@@ -152,7 +152,7 @@ slanted-cutting = plot-cutting slanted refl 0 slantedPieces (plot-ok slanted ref
 abbrev unpruned : Plot
 unpruned = slantedWith (λ s. false)
 
-unpruned-layers : layerCount (settingOf unpruned) 0 (settingOf unpruned .freeCount 0) ≡ 1
+unpruned-layers : layerCount (settingOf unpruned) 0 ≡ 1
 unfolding settingOf size layerCount flatMap beside
 unpruned-layers = refl
 
@@ -160,11 +160,11 @@ slanted-one : Exactly 1 (CuttingOf (settingOf slanted) 0)
 unfolding isPlot flatMap all size settingOf
 slanted-one =
     subst (λ (n : ℕ). Exactly n (CuttingOf (settingOf unpruned) 0)) unpruned-layers
-    (layer-count-is-cuttings (settingOf unpruned) (plot-laws unpruned refl) 2 (plot-steps unpruned refl 2 (omega arith) refl) 0
+    (layer-count-is-cuttings (settingOf unpruned) (plot-laws unpruned refl) 2 (plot-steps unpruned refl 2 refl) 0
     (plot-ok unpruned refl 0 refl) refl (plot-pruning unpruned refl (λ s. refl)))
 
 -- without the pruning condition the layer count is not the number of cuttings
-slanted-unequal : Exactly (layerCount (settingOf slanted) 0 (settingOf slanted .freeCount 0)) (CuttingOf (settingOf slanted) 0) → ⊥
+slanted-unequal : Exactly (layerCount (settingOf slanted) 0) (CuttingOf (settingOf slanted) 0) → ⊥
 slanted-unequal E = omega (arith, number-unique E slanted-one, slanted-layers)
 
 -- so the pruning is not sound: with the cells 3 and 6 free, 6 has count 4 and the board is pruned, but a tile covers both
@@ -174,6 +174,34 @@ slanted-pruning sound =
     let ok = plot-ok slanted refl 183 refl in
     ⊎-elim (λ m. not-nil m) (λ none. none (holds eqb (72 ∷ [])) (plot-cutting slanted refl 183 (72 ∷ []) ok refl))
     (sound 183 72 ok (record { tile = holds-iff eqb eqb-tells (slanted .tiles) 72 .0 refl; onto = λ c h. h }) refl)
+
+-- ---- tiles of unequal size: 2 by 1 with the single tile and the domino, which 01 refuses by 7. The full board stands in two layers, so that the
+-- graph has it twice and its count is not the layer count
+
+abbrev mixed : Plot
+mixed = record {
+  region = 3;
+  cells = 0 ∷ 1 ∷ [];
+  tiles = 1 ∷ 2 ∷ 3 ∷ [];
+  rank = λ s c. 0;
+  prunes = λ s. false;
+}
+
+mixed-laws : Laws (settingOf mixed)
+unfolding isPlot
+mixed-laws = plot-laws mixed refl
+
+mixed-pruning : SoundPruning (settingOf mixed)
+unfolding isPlot
+mixed-pruning = plot-pruning mixed refl (λ s. refl)
+
+mixed-counts : (layerCount (settingOf mixed) 0 ≡ 2) × (graphCount (settingOf mixed) 0 ≡ 1)
+unfolding settingOf size layerCount graphCount
+mixed-counts = (refl, refl)
+
+mixed-nodes : nodesOf (settingOf mixed) 0 ≡ 0 ∷ 1 ∷ 3 ∷ 3 ∷ []
+unfolding settingOf size layers
+mixed-nodes = refl
 
 -- ---- two equal edges meet the rule of sums, but two numbers give one list: different lists need each edge once
 

@@ -3,14 +3,23 @@
 use mathlib.Core.Path.{_≡_, refl, sym, ap, subst, _∙_}
 use mathlib.Core.Logic.{_⊎_, _↔_, ⊎-elim}
 use mathlib.Core.Bool.{Bool, true, false, cond, _||_}
-use mathlib.Core.List.{List, [], _∷_, _++_, map, map-map, map-id, List·Memᴰ as Mem, List·Memᴰ·cases-cons as cases-cons, List·Memᴰ·not-nil as not-nil, Memᴰ·cast as cast, Memᴰ·map as mem-map, Memᴰ·of-map as of-map}
+use mathlib.Core.List.{List, [], _∷_, _++_, map, map-append, map-map, map-id, List·Memᴰ as Mem, List·Memᴰ·cases-cons as cases-cons, List·Memᴰ·not-nil as not-nil, Memᴰ·cast as cast, Memᴰ·map as mem-map, Memᴰ·of-map as of-map}
 use Prim.Native.Nat.{ℕ, _+_, _≤_, _<_}
 use native.Mathlib.Omega.{arith}
 use Rattle.cells.specs.Firsts.{Once, Tells, holds, addNew, firsts}
 use Rattle.cells.specs.FirstsLaws.{same-false, mem-cases, addFirsts-append, mem-firsts, once-firsts}
-use Rattle.cells.specs.MemberLaws.{cut, map-ext, map-append}
+use Rattle.cells.specs.MemberLaws.{mem-split, map-ext}
 use Rattle.covers.specs.Counts.{Entry, boards, weight, gather}
 use Rattle.covers.specs.SumLaws.{sum-append, sum-zero}
+
+-- ---- an entry and its board
+
+module _ {B : Type 0} where
+  pub mem-boards : (es : List (Entry B)) (e : Entry B) → Mem e es → Mem (e .0) (boards es)
+  mem-boards es e m = mem-map (λ (e : Entry B). e .0) m
+
+  pub mem-entry : (es : List (Entry B)) (t : B) → Mem t (boards es) → (e : Entry B) × Mem e es × (e .0 ≡ t)
+  mem-entry es t m = of-map (λ (e : Entry B). e .0) es m
 
 -- ---- weights
 
@@ -56,7 +65,7 @@ module _ {B : Type 0} (same : B → B → Bool) where
     pub weight-none : (t : B) (es : List (Entry B)) → (Mem t (boards es) → ⊥) → weight same t es ≡ 0
     unfolding weight
     weight-none t es n =
-        sum-zero (λ e. cond (same (e .0) t) (e .1) 0) es (λ e m. cond-other (e .0) t (e .1) (λ q. n (cast (sym q) (mem-map (λ e. e .0) m))))
+        sum-zero (λ e. cond (same (e .0) t) (e .1) 0) es (λ e m. cond-other (e .0) t (e .1) (λ q. n (cast (sym q) (mem-boards es e m))))
 
     pub weight-entry : (es : List (Entry B)) (e : Entry B) → Once (boards es) → Mem e es → weight same (e .0) es ≡ e .1
     unfolding weight
@@ -67,14 +76,14 @@ module _ {B : Type 0} (same : B → B → Bool) where
         let r : d .0 ≡ e .0 = ap (λ (x : Entry B). x .0) (sym q) in
         let c : d .1 ≡ e .1 = ap (λ (x : Entry B). x .1) (sym q) in
         omega (arith, cond-same (d .0) (e .0) (d .1) r, weight-none (e .0) es (λ k. o .0 (cast r k))))
-        (λ k. omega (arith, cond-other (d .0) (e .0) (d .1) (λ r. o .0 (cast r (mem-map (λ e. e .0) k))), weight-entry es e (o .1) k))
+        (λ k. omega (arith, cond-other (d .0) (e .0) (d .1) (λ r. o .0 (cast r (mem-boards es e k))), weight-entry es e (o .1) k))
         (cases-cons m)
 
     -- a weight is no less than one of the counts
     pub weight-least : (es : List (Entry B)) (e : Entry B) → Mem e es → e .1 ≤ weight same (e .0) es
     unfolding weight
     weight-least es e m =
-        let r = cut e es m in
+        let r = mem-split e es m in
         omega (arith, ap (weight same (e .0)) (r .2), weight-append (e .0) (r .0) (e ∷ r .1), cond-same (e .0) (e .0) (e .1) refl)
 
     -- ---- equal boards joined
@@ -99,7 +108,7 @@ module _ {B : Type 0} (same : B → B → Bool) where
 
     pub gather-positive : (es : List (Entry B)) → Nonzero es → Nonzero (gather same es)
     gather-positive es z e m =
-        let r = of-map (λ e. e .0) es (mem-gather es (e .0) .0 (mem-map (λ e. e .0) m)) in
+        let r = mem-entry es (e .0) (mem-gather es (e .0) .0 (mem-boards (gather same es) e m)) in
         let w : e .1 ≡ weight same (e .0) es = sym (weight-entry (gather same es) e (once-gather es) m) ∙ weight-gather (e .0) es in
         omega (arith, z (r .0) (r .1), weight-least es (r .0) (r .1), ap (λ t. weight same t es) (r .2))
 
@@ -120,7 +129,7 @@ module _ {B : Type 0} (same : B → B → Bool) where
         go false q ih = omega arith
 
     -- entries of the same boards in the same order, each once, with the same weights, are the same
-    pub entries-ext : (es ds : List (Entry B)) → boards es ≡ boards ds → Once (boards es) → ((t : B) → weight same t es ≡ weight same t ds) → es ≡ ds
+    entries-ext : (es ds : List (Entry B)) → boards es ≡ boards ds → Once (boards es) → ((t : B) → weight same t es ≡ weight same t ds) → es ≡ ds
     entries-ext es ds e o w =
         weighted es o
         ∙ ap (map (λ (s : B). (s, weight same s es))) e

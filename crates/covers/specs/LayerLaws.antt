@@ -3,16 +3,15 @@
 use mathlib.Core.Path.{_≡_, refl, sym, ap, ap₂, subst, _∙_}
 use mathlib.Core.Logic.{_⊎_, _↔_, ⊎-elim}
 use mathlib.Core.Bool.{Bool, true, false, cond, false≢true}
-use mathlib.Core.List.{List, [], _∷_, _++_, map, flatMap, List·Memᴰ as Mem, List·Memᴰ·head as here, List·Memᴰ·eq-of-singleton as eq-of-singleton, List·Memᴰ·not-nil as not-nil, List·Memᴰ·append-cases as append-cases, Memᴰ·cast as cast, Memᴰ·append-left as append-left, Memᴰ·append-right as append-right, Memᴰ·map as mem-map, Memᴰ·of-map as of-map}
+use mathlib.Core.List.{List, [], _∷_, _++_, map, map-append, flatMap, List·Memᴰ as Mem, List·Memᴰ·head as here, List·Memᴰ·eq-of-singleton as eq-of-singleton, List·Memᴰ·not-nil as not-nil, List·Memᴰ·append-cases as append-cases, Memᴰ·cast as cast, Memᴰ·append-left as append-left, Memᴰ·append-right as append-right, Memᴰ·of-map as of-map}
 use Prim.Native.Nat.{ℕ, zero, suc, _+_, _≤_, _<_}
 use native.Mathlib.Nat.{le-refl}
 use native.Mathlib.Decide.{decLt}
 use native.Mathlib.Omega.{arith}
 use Rattle.cells.specs.Firsts.{Once, Tells, holds, firsts}
 use Rattle.cells.specs.FirstsLaws.{holds-iff}
-use Rattle.cells.specs.MemberLaws.{map-back, flatMap-append, mem-flatMap, map-append}
-use Rattle.covers.specs.GatherLaws.{Nonzero, weight-append, boards-gather, cond-same, cond-other, once-gather, mem-gather, weight-gather, gather-positive}
-use Rattle.covers.specs.NodeLaws.{mem-boards, mem-entry}
+use Rattle.cells.specs.MemberLaws.{map-back, flatMap-append, mem-flatMap}
+use Rattle.covers.specs.GatherLaws.{Nonzero, mem-boards, mem-entry, weight-append, boards-gather, cond-same, cond-other, once-gather, mem-gather, weight-gather, gather-positive}
 use Rattle.covers.specs.Counts.{layers, Entry, boards, sumOf, shares, weight, layer}
 use Rattle.covers.specs.SumLaws.{sum-single, sum-ext, sum-zero, sum-map, sum-flatMap}
 
@@ -27,6 +26,14 @@ module _ {B : Type 0} (same : B → B → Bool) (tells : Tells same) (children :
       (λ e. sumOf (λ c. cond (same c t) (e .1) 0) (children (e .0))) es
       (λ e m. sum-map (λ d. cond (same (d .0) t) (d .1) 0) (λ c. (c, e .1)) (children (e .0)))
 
+  -- the children of a layer's boards, in order
+  pub boards-shares : (es : List (Entry B)) → boards (shares children es) ≡ flatMap children (boards es)
+  unfolding shares flatMap
+  boards-shares [] = refl
+  boards-shares (e ∷ es) =
+      map-append (λ (x : Entry B). x .0) (map (λ c. (c, e .1)) (children (e .0))) (shares children es)
+      ∙ ap₂ _++_ (map-back (λ (c : B). (c, e .1)) (λ (x : Entry B). x .0) (children (e .0)) (λ c m. refl)) (boards-shares es)
+
   -- an entry of the shares is a child of one of the boards, with its count
   share-of : (es : List (Entry B)) (d : Entry B) → Mem d (shares children es)
       → (e : Entry B) × Mem e es × Mem (d .0) (children (e .0)) × (d .1 ≡ e .1)
@@ -36,18 +43,8 @@ module _ {B : Type 0} (same : B → B → Bool) (tells : Tells same) (children :
       let q = of-map (λ c. (c, r .0 .1)) (children (r .0 .0)) (r .2) in
       (r .0, r .1, cast (ap (λ (x : Entry B). x .0) (sym (q .2))) (q .1), ap (λ (x : Entry B). x .1) (sym (q .2)))
 
-  pub mem-shares : (es : List (Entry B)) (t : B) → Mem t (boards (shares children es)) ↔ ((s : B) × Mem s (boards es) × Mem t (children s))
-  unfolding shares
-  mem-shares es t = (
-    λ m.
-        let r = of-map (λ e. e .0) (shares children es) m in
-        let q = share-of es (r .0) (r .1) in
-        (q .0 .0, mem-map (λ e. e .0) (q .1), cast (sym (r .2)) (q .2)),
-    λ r.
-        let q = of-map (λ e. e .0) es (r .1) in
-        let k = mem-map {B = Entry B} (λ (c : B). (c, q .0 .1)) (subst (λ (s : B). Mem t (children s)) (sym (q .2)) (r .2)) in
-        mem-map (λ e. e .0) (mem-flatMap {B = Entry B} (λ e. map (λ c. (c, e .1)) (children (e .0))) es (t, q .0 .1) .1 (q .0, q .1, k)),
-  )
+  mem-shares : (es : List (Entry B)) (t : B) → Mem t (boards (shares children es)) ↔ ((s : B) × Mem s (boards es) × Mem t (children s))
+  mem-shares es t = rw (boards-shares es) (mem-flatMap children (boards es) t)
 
   pub once-layer : (s : B) (n : ℕ) → Once (boards (layer same children s n))
   unfolding layer
@@ -74,7 +71,8 @@ module _ {B : Type 0} (same : B → B → Bool) (tells : Tells same) (children :
     where
       go : (b : Bool) → holds same cs t ≡ b → sumOf (λ c. cond (same c t) k 0) cs ≡ cond b k 0
       go true e =
-          sum-single (λ c. cond (same c t) k 0) cs t o (holds-iff same tells cs t .0 e) (λ c n. cond-other same tells c t k n) ∙ cond-same same tells t t k refl
+          sum-single (λ c. cond (same c t) k 0) cs t o (holds-iff same tells cs t .0 e) (λ c n. cond-other same tells c t k n)
+          ∙ cond-same same tells t t k refl
       go false e =
           sum-zero (λ c. cond (same c t) k 0) cs
           (λ c m. cond-other same tells c t k (λ q. false≢true (sym e ∙ holds-iff same tells cs t .1 (cast (sym q) m))))
@@ -86,7 +84,7 @@ module _ {B : Type 0} (same : B → B → Bool) (tells : Tells same) (children :
       weight-layer s n t
       ∙ weight-shares t (layer same children s n)
       ∙ sum-ext (λ e. sumOf (λ c. cond (same c t) (e .1) 0) (children (e .0))) (λ e. cond (holds same (children (e .0)) t) (e .1) 0)
-      (layer same children s n) (λ e m. sum-holds t (e .1) (children (e .0)) (once (e .0) (mem-map (λ e. e .0) m)))
+      (layer same children s n) (λ e m. sum-holds t (e .1) (children (e .0)) (once (e .0) (mem-boards (layer same children s n) e m)))
 
   pub shares-positive : (es : List (Entry B)) → Nonzero es → Nonzero (shares children es)
   shares-positive es z d m = let r = share-of es d m in omega (arith, z (r .0) (r .1), r .3)
@@ -110,13 +108,6 @@ module _ {B : Type 0} (same : B → B → Bool) (tells : Tells same) (children :
   unfolding layers
   boards-suc n = map-append (λ (e : Entry B). e .0) (upTo n) (at (suc n))
 
-  boards-shares : (es : List (Entry B)) → boards (shares children es) ≡ flatMap children (boards es)
-  unfolding shares flatMap
-  boards-shares [] = refl
-  boards-shares (e ∷ es) =
-      map-append (λ (x : Entry B). x .0) (map (λ c. (c, e .1)) (children (e .0))) (shares children es)
-      ∙ ap₂ _++_ (map-back (λ (c : B). (c, e .1)) (λ (x : Entry B). x .0) (children (e .0)) (λ c m. refl)) (boards-shares es)
-
   -- the start is the first entry
   pub layers-first : (n : ℕ) → (es : List (Entry B)) × (upTo n ≡ (s, 1) ∷ es)
   unfolding layers layer
@@ -131,7 +122,7 @@ module _ {B : Type 0} (same : B → B → Bool) (tells : Tells same) (children :
   unfolding layer
   start-layer t m = eq-of-singleton m
 
-  pub entry-layer : (n : ℕ) (e : Entry B) → Mem e (upTo n) → (j : ℕ) × (j ≤ n) × Mem e (at j)
+  entry-layer : (n : ℕ) (e : Entry B) → Mem e (upTo n) → (j : ℕ) × (j ≤ n) × Mem e (at j)
   unfolding layers
   entry-layer zero e m = (0, le-refl 0, m)
   entry-layer (suc n) e m =
@@ -149,14 +140,16 @@ module _ {B : Type 0} (same : B → B → Bool) (tells : Tells same) (children :
   -- the boards of the layers joined are those of the layers
   pub mem-layers : (n : ℕ) (t : B) → Mem t (boards (upTo n)) ↔ ((j : ℕ) × (j ≤ n) × Mem t (boards (at j)))
   mem-layers n t = (
-    λ m. let e = mem-entry (upTo n) t m in let j = entry-layer n (e .0) (e .1) in (j .0, j .1, cast (sym (e .2)) (mem-boards (at (j .0)) (e .0) (j .2))),
+    λ m. let e = mem-entry (upTo n) t m in
+        let j = entry-layer n (e .0) (e .1) in
+        (j .0, j .1, cast (sym (e .2)) (mem-boards (at (j .0)) (e .0) (j .2))),
     λ r. let e = mem-entry (at (r .0)) t (r .2) in cast (sym (e .2)) (mem-boards (upTo n) (e .0) (layer-entry n (r .0) (e .0) (r .1) (e .1))),
   )
 
   -- the boards of the next layer: the first appearances of the children of a layer's boards
   pub layer-found : (n : ℕ) → boards (at (suc n)) ≡ firsts same (flatMap children (boards (at n)))
   unfolding layer
-  layer-found n = boards-gather same (shares children (at n)) ∙ ap (firsts same) (boards-shares (at n))
+  layer-found n = boards-gather same (shares children (at n)) ∙ ap (firsts same) (boards-shares same tells children (at n))
 
   -- the weight of a board among the children of the layers joined is the sum of its weights in the next layers
   pub shares-suc : (n : ℕ) (t : B)

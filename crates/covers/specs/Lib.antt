@@ -12,8 +12,10 @@ pub mod NodeLaws
 pub mod LayerLaws
 pub mod OrderLaws
 pub mod WalkLaws
+pub mod SettingLaws
 pub mod GraphLaws
 pub mod CountLaws
 pub mod CellSets
-pub mod Search
+pub mod CellSetLaws
+pub mod ExamplePlots
 pub mod Examples

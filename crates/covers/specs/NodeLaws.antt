@@ -1,6 +1,6 @@
 -- Laws of a list of entries as nodes: the number of a board is its place; the count at that number is the board's; edges are the steps from a board
 -- to its children; the counts over the edges into a node add up to the board's weight among the children. And chains carried along a map.
--- Rests on `Counts` and `SumLaws`. Assumes nothing.
+-- Rests on `GatherLaws`. Assumes nothing.
 use mathlib.Core.Path.{_≡_, refl, sym, ap, ap₂, subst, _∙_}
 use mathlib.Core.Logic.{_⊎_, ⊎-elim}
 use mathlib.Core.Bool.{Bool, cond}
@@ -14,6 +14,7 @@ use Rattle.cells.specs.Firsts.{Once, Tells}
 use Rattle.cells.specs.FirstsLaws.{mem-getD, so-eq, same-false, same-cases}
 use Rattle.cells.specs.MemberLaws.{eqb-tells, mem-flatMap, once-map, once-flatMap}
 use Rattle.covers.specs.Counts.{Steps, Chain, Entry, boards, counts, sumOf, shares, weight, numberIn, edgesOf}
+use Rattle.covers.specs.GatherLaws.{mem-boards}
 use Rattle.covers.specs.SumLaws.{sum-ext, sum-map, sum-flatMap}
 
 -- ---- chains carried along a map that takes steps to steps, on elements that a step does not leave
@@ -47,15 +48,6 @@ module _ {A : Type 0} (R : A → A → Type 0) (Good : A → Type 0) (stays : (x
     chain-map a b [] g c = c
     chain-map a b (y ∷ ys) g c = (ap f (c .0), steps-map y b ys (subst Good (sym (c .0)) g) (c .1))
 
--- ---- an entry and its board
-
-module _ {B : Type 0} where
-  pub mem-boards : (es : List (Entry B)) (e : Entry B) → Mem e es → Mem (e .0) (boards es)
-  mem-boards es e m = to-map (λ (e : Entry B). e .0) m
-
-  pub mem-entry : (es : List (Entry B)) (t : B) → Mem t (boards es) → (e : Entry B) × Mem e es × (e .0 ≡ t)
-  mem-entry es t m = of-map (λ (e : Entry B). e .0) es m
-
 -- ---- the number of a board among the nodes
 
 module _ {B : Type 0} (same : B → B → Bool) (tells : Tells same) where
@@ -73,7 +65,8 @@ module _ {B : Type 0} (same : B → B → Bool) (tells : Tells same) where
   pub number-lt : (ss : List B) (t : B) → Mem t ss → numberIn same ss t < length ss
   number-lt [] t m = absurd (not-nil m)
   number-lt (s ∷ ss) t m =
-      ⊎-elim (λ e. omega (arith, number-here s t ss e)) (λ n. omega (arith, number-there s t ss n, number-lt ss t (mem-rest s t ss n m))) (same-cases same tells s t)
+      ⊎-elim (λ e. omega (arith, number-here s t ss e)) (λ n. omega (arith, number-there s t ss n, number-lt ss t (mem-rest s t ss n m)))
+      (same-cases same tells s t)
 
   pub getD-number : (ss : List B) (t d : B) → Mem t ss → getD ss (numberIn same ss t) d ≡ t
   getD-number [] t d m = absurd (not-nil m)
@@ -92,7 +85,8 @@ module _ {B : Type 0} (same : B → B → Bool) (tells : Tells same) where
   number-left [] ts t m = absurd (not-nil m)
   number-left (s ∷ ss) ts t m =
       ⊎-elim (λ e. number-here s t (ss ++ ts) e ∙ sym (number-here s t ss e))
-      (λ n. number-there s t (ss ++ ts) n ∙ ap suc (number-left ss ts t (mem-rest s t ss n m)) ∙ sym (number-there s t ss n)) (same-cases same tells s t)
+      (λ n. number-there s t (ss ++ ts) n ∙ ap suc (number-left ss ts t (mem-rest s t ss n m)) ∙ sym (number-there s t ss n))
+      (same-cases same tells s t)
 
   pub number-right : (ss ts : List B) (t : B) → (Mem t ss → ⊥) → numberIn same (ss ++ ts) t ≡ length ss + numberIn same ts t
   number-right [] ts t n = sym (zero-add (numberIn same ts t))
@@ -103,7 +97,7 @@ module _ {B : Type 0} (same : B → B → Bool) (tells : Tells same) where
   number-inj : (ss : List B) (s t : B) → Mem s ss → Mem t ss → numberIn same ss s ≡ numberIn same ss t → s ≡ t
   number-inj ss s t m k e = sym (getD-number ss s s m) ∙ ap (λ (v : ℕ). getD ss v s) e ∙ getD-number ss t s k
 
-  pub eqb-number : (ss : List B) (s t : B) → Mem s ss → Mem t ss → eqb (numberIn same ss s) (numberIn same ss t) ≡ same s t
+  eqb-number : (ss : List B) (s t : B) → Mem s ss → Mem t ss → eqb (numberIn same ss s) (numberIn same ss t) ≡ same s t
   eqb-number ss s t m k = so-eq (eqb (numberIn same ss s) (numberIn same ss t)) (same s t)
       (λ e. tells s t .1 (number-inj ss s t m k (eqb-tells (numberIn same ss s) (numberIn same ss t) .0 e)))
       (λ e. eqb-tells (numberIn same ss s) (numberIn same ss t) .1 (ap (numberIn same ss) (tells s t .0 e)))
@@ -114,7 +108,9 @@ module _ {B : Type 0} (same : B → B → Bool) (tells : Tells same) where
   count-number [] e o m = absurd (not-nil m)
   count-number (f ∷ es) e o m =
       ⊎-elim
-      (λ q. ap (λ (v : ℕ). getD (counts (f ∷ es)) v 0) (number-here (f .0) (e .0) (boards es) (ap (λ (x : Entry B). x .0) (sym q))) ∙ ap (λ (x : Entry B). x .1) (sym q))
+      (λ q.
+      ap (λ (v : ℕ). getD (counts (f ∷ es)) v 0) (number-here (f .0) (e .0) (boards es) (ap (λ (x : Entry B). x .0) (sym q)))
+      ∙ ap (λ (x : Entry B). x .1) (sym q))
       (λ k. ap (λ (v : ℕ). getD (counts (f ∷ es)) v 0) (number-there (f .0) (e .0) (boards es) (λ q. o .0 (cast q (mem-boards es e k))))
       ∙ count-number es e (o .1) k)
       (cases-cons m)
@@ -173,5 +169,7 @@ module _ {B : Type 0} (same : B → B → Bool) (tells : Tells same) where
         each e k =
             sum-map into (λ c. (numberIn same (boards es) (e .0), numberIn same (boards es) c)) (children (e .0))
             ∙ sum-ext (λ c. into (numberIn same (boards es) (e .0), numberIn same (boards es) c)) (λ c. at (c, e .1)) (children (e .0))
-            (λ c j. ap₂ (λ (b : Bool) (n : ℕ). cond b n 0) (eqb-number (boards es) c t (closed (e .0) c (mem-boards es e k) j) m) (count-number es e o k))
+            (λ c j.
+            let n = closed (e .0) c (mem-boards es e k) j in
+            ap₂ (λ (b : Bool) (n : ℕ). cond b n 0) (eqb-number (boards es) c t n m) (count-number es e o k))
             ∙ sym (sum-map at (λ c. (c, e .1)) (children (e .0)))

@@ -1,9 +1,9 @@
 -- Laws of the order of a layer, which makes no difference: two lists of entries in which every board has the same weight have the same sums, the
 -- same next layer and, where no count is 0 and each board stands once, the same boards, equally many. Rests on `LayerLaws`. Assumes nothing.
 use mathlib.Core.Path.{_≡_, refl, sym, ap, ap₂, _∙_}
-use mathlib.Core.Logic.{⊎-elim}
+use mathlib.Core.Logic.{_↔_, ⊎-elim}
 use mathlib.Core.Bool.{Bool, true, false, cond}
-use mathlib.Core.List.{List, [], _∷_, _++_, List·Memᴰ as Mem, List·Memᴰ·head as here, List·Memᴰ·tail as there, Memᴰ·append-left as append-left, Memᴰ·append-right as append-right, Memᴰ·of-map as of-map}
+use mathlib.Core.List.{List, [], _∷_, _++_, List·Memᴰ as Mem, List·Memᴰ·head as here, List·Memᴰ·tail as there, Memᴰ·cast as cast, Memᴰ·append-left as append-left, Memᴰ·append-right as append-right}
 use Prim.Native.Nat.{ℕ, _+_, _*_, _<_}
 use native.Mathlib.Nat.{zero-mul, mul-zero, mul-one, add-mul}
 use native.Mathlib.Omega.{arith}
@@ -11,9 +11,9 @@ use lib.ListN.{length, length-map}
 use Rattle.cells.specs.Firsts.{Once, Tells, firsts}
 use Rattle.cells.specs.FirstsLaws.{mem-cases, mem-firsts, once-firsts}
 use Rattle.cells.specs.MemberLaws.{once-length}
-use Rattle.covers.specs.Counts.{Entry, boards, sumOf, shares, weight, gather}
+use Rattle.covers.specs.Counts.{fullCount, Entry, boards, sumOf, shares, weight, gather}
 use Rattle.covers.specs.SumLaws.{sum-ext, sum-zero, sum-single, sum-plus, sum-times}
-use Rattle.covers.specs.GatherLaws.{Nonzero, once-gather, gather-positive, cond-same, cond-other, weight-none, weight-least, weight-gather}
+use Rattle.covers.specs.GatherLaws.{Nonzero, mem-boards, mem-entry, once-gather, gather-positive, cond-same, cond-other, weight-none, weight-entry, weight-least, weight-gather}
 use Rattle.covers.specs.LayerLaws.{weight-shares, shares-positive}
 
 cond-times : (b : Bool) (k : ℕ) → cond b k 0 ≡ k * cond b 1 0
@@ -69,6 +69,30 @@ module _ {B : Type 0} (same : B → B → Bool) where
         sum-ext (λ c. cond (same c t) (e .1) 0) (λ c. e .1 * cond (same c t) 1 0) (children (e .0)) (λ c i. cond-times (same c t) (e .1))
         ∙ sum-times (e .1) (λ c. cond (same c t) 1 0) (children (e .0)))
 
+    -- lists with the same entries, whatever their order, where each board stands once
+    pub alike-order : (es ds : List (Entry B)) → Once (boards es) → Once (boards ds) → ((e : Entry B) → Mem e es ↔ Mem e ds) → Alike es ds
+    alike-order es ds o u h t =
+        ⊎-elim
+        (λ m.
+        let r = mem-entry es t m in
+        ap (λ (x : B). weight same x es) (sym (r .2))
+        ∙ weight-entry same tells es (r .0) o (r .1)
+        ∙ sym (weight-entry same tells ds (r .0) u (h (r .0) .0 (r .1)))
+        ∙ ap (λ (x : B). weight same x ds) (r .2))
+        (λ n. weight-none same tells t es n ∙ sym (weight-none same tells t ds (λ m. n (back m))))
+        (mem-cases same tells (boards es) t)
+      where
+        back : Mem t (boards ds) → Mem t (boards es)
+        back m = let r = mem-entry ds t m in cast (sym (r .2)) (mem-boards es (r .0) (h (r .0) .1 (r .1)))
+
+    -- the full board's path count is a sum that is linear in the counts
+    pub alike-fullCount : (full : B → Bool) (es ds : List (Entry B)) → Alike es ds → fullCount full es ≡ fullCount full ds
+    unfolding fullCount
+    alike-fullCount full es ds a = linear es ∙ alike-sum (λ s. cond (full s) 1 0) es ds a ∙ sym (linear ds)
+      where
+        linear : (es : List (Entry B)) → sumOf (λ e. cond (full (e .0)) (e .1) 0) es ≡ sumOf (λ e. e .1 * cond (full (e .0)) 1 0) es
+        linear es = sum-ext (λ e. cond (full (e .0)) (e .1) 0) (λ e. e .1 * cond (full (e .0)) 1 0) es (λ e m. cond-times (full (e .0)) (e .1))
+
     pub alike-next : (children : B → List B) (es ds : List (Entry B)) → Alike es ds
         → Alike (gather same (shares children es)) (gather same (shares children ds))
     alike-next children es ds a t =
@@ -85,11 +109,12 @@ module _ {B : Type 0} (same : B → B → Bool) where
     -- the boards are the same where no count is 0, and equally many where each stands once
     pub alike-mem : (es ds : List (Entry B)) → Nonzero es → Alike es ds → (t : B) → Mem t (boards es) → Mem t (boards ds)
     alike-mem es ds z a t m =
-        let r = of-map (λ e. e .0) es m in
+        let r = mem-entry es t m in
         weight-mem t ds
         (omega (arith, z (r .0) (r .1), weight-least same tells es (r .0) (r .1), ap (λ s. weight same s es) (r .2), a t))
 
-    pub alike-length : (es ds : List (Entry B)) → Once (boards es) → Once (boards ds) → Nonzero es → Nonzero ds → Alike es ds → length es ≡ length ds
+    pub alike-length : (es ds : List (Entry B)) → Once (boards es) → Once (boards ds) → Nonzero es → Nonzero ds → Alike es ds
+        → length es ≡ length ds
     alike-length es ds o p z y a =
         let l = once-length (boards es) (boards ds) o (alike-mem es ds z a) in
         let r = once-length (boards ds) (boards es) p (alike-mem ds es y (λ t. sym (a t))) in

@@ -7,7 +7,7 @@ use mathlib.Core.Bool.{Bool, true, false, So, cond, false≢true}
 use mathlib.Core.List.{List, [], _∷_, List·Memᴰ as Mem, List·Memᴰ·head as here, List·Memᴰ·tail as there, List·Memᴰ·cases-cons as cases-cons}
 use Prim.Native.Nat.{ℕ, zero, suc, _≤_, _<_}
 use native.Mathlib.Omega.{arith}
-use Rattle.cells.specs.Firsts.{Tells, holds}
+use Rattle.cells.specs.Firsts.{Once, Tells, holds}
 use Rattle.cells.specs.FirstsLaws.{so-eq, holds-iff}
 use Rattle.cells.specs.MemberLaws.{no-member}
 use Rattle.covers.specs.Cuttings.{Numbering, Exactly, Setting, Laws, FitsOn, CuttingOf, PlacingSequence, SoundPruning}
@@ -55,6 +55,10 @@ module _ {B P : Type 0} (G : Setting B P) (L : Laws G) where
   -- on a board with no free cell nothing fits
   full-none : (s : B) (p : P) → G .Ok s → So (G .full s) → FitsOn G s p → ⊥
   full-none s p ok h f = let c = L .tile-cell p (f .tile) in L .full-iff s ok .0 h (c .0) (f .onto (c .0) (c .1))
+
+  -- a board with a free cell is not full
+  pub free-not-full : (s : B) (c : ℕ) → G .Ok s → So (G .free s c) → G .full s ≡ false
+  free-not-full s c ok h = so-eq (G .full s) false (λ f. absurd (L .full-iff s ok .0 f c h)) (λ e. absurd (false≢true e))
 
   module _ (s : B) (p : P) (ok : G .Ok s) (f : FitsOn G s p) where
     -- what fits with p laid fits without p, and shares no cell with p
@@ -146,6 +150,14 @@ module _ {B P : Type 0} (G : Setting B P) (L : Laws G) where
   first-once : (s : B) (p : P) (ps : List P) → G .Ok s → PlacingSequence G s (p ∷ ps) → So (set ps p) → ⊥
   first-once s p ps ok r x =
       let f = L .piece-fits s p ok (r .0) in fits-once s p ok f (sequence-cutting (G .lay s p) ps (L .lay-ok s p ok f) (r .1) .fits p x)
+
+  -- no piece of a placing sequence stands twice
+  pub sequence-once : (s : B) (ps : List P) → G .Ok s → PlacingSequence G s ps → Once ps
+  sequence-once s [] ok r = tt
+  sequence-once s (p ∷ ps) ok r = (
+    λ m. first-once s p ps ok r (in-set ps p .1 m),
+    sequence-once (G .lay s p) ps (L .lay-ok s p ok (L .piece-fits s p ok (r .0))) (r .1),
+  )
 
   -- the first piece is the one that covers the chosen cell
   first-same : (s : B) (p q : P) (ps qs : List P) → G .Ok s → PlacingSequence G s (p ∷ ps) → PlacingSequence G s (q ∷ qs)

@@ -1,21 +1,22 @@
 -- The theorem page: what is proved of the definitions of `Cuttings` and `Counts`, each statement with its words. A proof here is a citation.
 -- Assumes nothing.
 use mathlib.Core.Path.{_≡_, sym, subst}
+use mathlib.Core.Logic.{_↔_}
 use mathlib.Core.Bool.{Bool, false, So, cond}
 use mathlib.Core.List.{List, [], _∷_, map, flatMap, List·Memᴰ as Mem}
 use Prim.Native.Nat.{ℕ, suc, _≤_, _<_}
 use lib.ListN.{length, getD}
 use Rattle.cells.specs.Firsts.{Once, Tells, holds, firsts}
 use Rattle.covers.specs.Cuttings.{Numbering, Exactly, Setting, CuttingOf, PlacingSequence, childBoards, Laws, SoundPruning, EqualSteps}
-use Rattle.covers.specs.Counts.{Chain, ChildSequence, Entry, boards, sumOf, shares, weight, gather, layerOf, tiling, SumRule, nodesOf, countOf, graphOf, layerCount, graphCount, piecesOf, tilingOf, cuttingAt}
+use Rattle.covers.specs.Counts.{fullCount, Chain, ChildSequence, Entry, boards, sumOf, shares, weight, gather, layerOf, tiling, SumRule, nodesOf, pathCountOf, graphEdges, layerCount, graphCount, piecesOf, tilingOf, cuttingAt}
 use Rattle.covers.specs.NumberingLaws.{exactly-unique, carry}
 use Rattle.covers.specs.SequenceLaws.{sequence-cutting, sequence-unique, sequences-at-most, one-sequence, full-cutting}
 use Rattle.covers.specs.ChildLaws.{child-once}
-use Rattle.covers.specs.LayerLaws.{recurrence, mem-layers}
-use Rattle.covers.specs.GatherLaws.{Nonzero}
-use Rattle.covers.specs.OrderLaws.{Alike, alike-next, alike-next-length}
-use Rattle.covers.specs.WalkLaws.{tiling-numbers}
-use Rattle.covers.specs.GraphLaws.{layer-ok, layer-empty, layers-disjoint, nodes-found, sum-rule, once-graph, tilings-numbered, path-count, reached-node}
+use Rattle.covers.specs.LayerLaws.{recurrence}
+use Rattle.covers.specs.OrderLaws.{alike-order, alike-next, alike-next-length, alike-fullCount}
+use Rattle.covers.specs.WalkLaws.{tiling-numbers, tiling-chain, chain-tiling}
+use Rattle.covers.specs.SettingLaws.{layer-ok, layer-empty, layers-disjoint, reached-layer}
+use Rattle.covers.specs.GraphLaws.{nodes-found, sum-rule, once-graph, tilings-numbered, path-count, reached-node, node-reached}
 use Rattle.covers.specs.CountLaws.{full-layerCount, full-graphCount, counts-agree, sequences-by-number, cuttings-by-number}
 
 -- ---- 1. Numberings
@@ -25,8 +26,9 @@ pub number-unique : {A : Type 0} {Is : A → Type 0} {n k : ℕ} → Exactly n I
 number-unique = exactly-unique
 
 -- A map that is one-to-one onto carries a numbering along.
-pub numbering-carried : {A B : Type 0} {Is : A → Type 0} {Has : B → Type 0} {n : ℕ} {f : ℕ → A} (g : A → B) → ((a : A) → Is a → Has (g a))
-    → ((a b : A) → Is a → Is b → g a ≡ g b → a ≡ b) → ((b : B) → Has b → (a : A) × Is a × (g a ≡ b)) → Numbering Is n f → Numbering Has n (λ m. g (f m))
+pub numbering-carried : {A B : Type 0} {Is : A → Type 0} {Has : B → Type 0} {n : ℕ} {f : ℕ → A} (g : A → B)
+    → ((a : A) → Is a → Has (g a)) → ((a b : A) → Is a → Is b → g a ≡ g b → a ≡ b) → ((b : B) → Has b → (a : A) × Is a × (g a ≡ b))
+    → Numbering Is n f → Numbering Has n (λ m. g (f m))
 numbering-carried = carry
 
 -- ---- 2. Cuttings: `Cutting`, of the free cells, the tiles and what a piece covers, and of nothing else. What is known of a board with no free cell:
@@ -36,8 +38,8 @@ module _ {B P : Type 0} (G : Setting B P) (L : Laws G) (s : B) (ok : G .Ok s) wh
   pub full-has-one : So (G .full s) → Numbering (CuttingOf G s) 1 (λ m p. false)
   full-has-one = full-cutting G L s ok
 
-  pub full-counts-none : So (G .full s) → (layerCount G s (G .freeCount s) ≡ 0) × (graphCount G s ≡ 0)
-  full-counts-none f = (full-layerCount G L s ok f (G .freeCount s), full-graphCount G L s ok f)
+  pub full-counts-none : So (G .full s) → (layerCount G s ≡ 0) × (graphCount G s ≡ 0)
+  full-counts-none f = (full-layerCount G L s ok f, full-graphCount G L s ok f)
 
   -- ---- 3. Placing sequences
 
@@ -46,7 +48,8 @@ module _ {B P : Type 0} (G : Setting B P) (L : Laws G) (s : B) (ok : G .Ok s) wh
   sequence-is-cutting ps = sequence-cutting G L s ps ok
 
   -- Two placing sequences with the same set of pieces are one, whatever is pruned.
-  pub sequence-by-pieces : (ps qs : List P) → PlacingSequence G s ps → PlacingSequence G s qs → holds (G .samePiece) ps ≡ holds (G .samePiece) qs → ps ≡ qs
+  pub sequence-by-pieces : (ps qs : List P) → PlacingSequence G s ps → PlacingSequence G s qs
+      → holds (G .samePiece) ps ≡ holds (G .samePiece) qs → ps ≡ qs
   sequence-by-pieces ps qs = sequence-unique G L s ps qs ok
 
   -- So there are no more placing sequences than cuttings, whatever is pruned.
@@ -69,38 +72,42 @@ module _ {B P : Type 0} (G : Setting B P) (L : Laws G) (s : B) (ok : G .Ok s) wh
   pub layers-end : (n : ℕ) → G .freeCount s < n → layerOf G s n ≡ []
   layers-end = layer-empty G L s ok
 
-  -- Where every piece takes as many free cells, two layers have no board in common,
+  -- Every board that a child sequence reaches stands in a layer.
+  pub reached-in-layer : (t : B) (xs : List B) → ChildSequence (childBoards G) s t xs
+      → (n : ℕ) × (n ≤ G .freeCount s) × Mem t (boards (layerOf G s n))
+  reached-in-layer = reached-layer G L s ok
+
+  -- Where every piece takes equally many free cells, two layers have no board in common,
   module _ (a : ℕ) (E : EqualSteps G a) where
     pub layers-apart : (n m : ℕ) (t : B) → Mem t (boards (layerOf G s n)) → Mem t (boards (layerOf G s m)) → n ≡ m
     layers-apart = layers-disjoint G L a E s ok
 
-    -- a board's path count in its layer is the number of child sequences that reach it,
+    -- and a board's path count in its layer is the number of child sequences that reach it.
     pub path-count-is-number : (n : ℕ) (e : Entry B) → Mem e (layerOf G s n) → Exactly (e .1) (ChildSequence (childBoards G) s (e .0))
     path-count-is-number = path-count G L a E s ok
 
-    -- and every board that a child sequence reaches stands in a layer.
-    pub reached-in-layer : (t : B) (xs : List B) → ChildSequence (childBoards G) s t xs
-        → (n : ℕ) × (n ≤ G .freeCount s) × Mem t (boards (layerOf G s n))
-    reached-in-layer t xs c = mem-layers (G .sameBoard) (L .board-eq) (childBoards G) s (G .freeCount s) t .0 (reached-node G L a E s ok t xs c)
+    -- ---- 5. The graph, where every piece takes equally many free cells
 
-    -- ---- 5. The graph, where every piece takes as many free cells
+    -- The nodes are the boards that child sequences reach,
+    pub nodes-are-reached : (t : B) → Mem t (nodesOf G s) ↔ ((xs : List B) × ChildSequence (childBoards G) s t xs)
+    nodes-are-reached t = (node-reached G L a E s ok t, λ r. reached-node G L a E s ok t (r .0) (r .1))
 
-    -- The nodes are the boards found from the start on, parents in number order, children in order, first appearances kept.
+    -- in the order of first finding: they are the first appearances among the start and the children of the nodes, in number order and child order.
     pub nodes-by-first-finding : nodesOf G s ≡ firsts (G .sameBoard) (s ∷ flatMap (childBoards G) (nodesOf G s))
     nodes-by-first-finding = nodes-found G L a E s ok
 
     -- Parents stand before children, node 0 has count 1, and every other node's count is the sum of its parents' over the edges into it.
-    pub graph-sum-rule : SumRule (length (nodesOf G s)) (graphOf G s) (countOf G s)
+    pub graph-sum-rule : SumRule (length (nodesOf G s)) (graphEdges G s) (pathCountOf G s)
     graph-sum-rule = sum-rule G L a E s ok
 
     -- Each edge stands once.
-    pub graph-edges-once : Once (graphOf G s)
+    pub graph-edges-once : Once (graphEdges G s)
     graph-edges-once = once-graph G L a E s ok
 
     -- The tilings by number to a node number the child sequences to its board.
     pub graph-tilings : (v : ℕ) → v < length (nodesOf G s)
-        → Numbering (ChildSequence (childBoards G) s (getD (nodesOf G s) v s)) (countOf G s v)
-        (λ m. map (λ u. getD (nodesOf G s) u s) (tiling (graphOf G s) (countOf G s) v m))
+        → Numbering (ChildSequence (childBoards G) s (getD (nodesOf G s) v s)) (pathCountOf G s v)
+        (λ m. map (λ u. getD (nodesOf G s) u s) (tiling (graphEdges G s) (pathCountOf G s) v m))
     graph-tilings = tilings-numbered G L a E s ok
 
 -- ---- 6. The walk by turns, over any edges and counts
@@ -110,14 +117,23 @@ pub walk-numbers-chains : (n : ℕ) (es : List (ℕ × ℕ)) (count : ℕ → �
     → Numbering (Chain (λ p c. Mem (p, c) es) 0 v) (count v) (tiling es count v)
 walk-numbers-chains = tiling-numbers
 
--- ---- 7. Joined: a start that is not full, where every piece takes as many free cells
+-- Where an edge may stand twice, still every number gives a chain, and every chain has a number.
+pub walk-gives-chain : (n : ℕ) (es : List (ℕ × ℕ)) (count : ℕ → ℕ) → SumRule n es count → (v m : ℕ) → v < n → m < count v
+    → Chain (λ p c. Mem (p, c) es) 0 v (tiling es count v m)
+walk-gives-chain = tiling-chain
+
+pub chain-has-number : (n : ℕ) (es : List (ℕ × ℕ)) (count : ℕ → ℕ) → SumRule n es count → (v : ℕ) → v < n → (xs : List ℕ)
+    → Chain (λ p c. Mem (p, c) es) 0 v xs → (m : ℕ) × (m < count v) × (tiling es count v m ≡ xs)
+chain-has-number = chain-tiling
+
+-- ---- 7. Joined, where every piece takes equally many free cells
+
+-- The layer count and the graph count are one number, whatever is pruned and also of a full start.
+pub counts-are-equal : {B P : Type 0} (G : Setting B P) → Laws G → (a : ℕ) → EqualSteps G a → (s : B) → G .Ok s → layerCount G s ≡ graphCount G s
+counts-are-equal = counts-agree
 
 module _ {B P : Type 0} (G : Setting B P) (L : Laws G) (a : ℕ) (E : EqualSteps G a) (s : B) (ok : G .Ok s) (notFull : G .full s ≡ false) where
-  -- The layer count and the graph count are one number, whatever is pruned.
-  pub counts-are-equal : layerCount G s (G .freeCount s) ≡ graphCount G s
-  counts-are-equal = counts-agree G L a E s ok notFull
-
-  -- It is the number of placing sequences, whatever is pruned: the pieces of the tilings by number, in order.
+  -- Of a start that is not full it is the number of placing sequences, whatever is pruned: the pieces of the tilings by number, in order.
   pub tilings-are-sequences : Numbering (PlacingSequence G s) (graphCount G s) (λ m. piecesOf G (tilingOf G s m))
   tilings-are-sequences = sequences-by-number G L a E s ok notFull
 
@@ -129,17 +145,26 @@ module _ {B P : Type 0} (G : Setting B P) (L : Laws G) (a : ℕ) (E : EqualSteps
   pub graph-count-is-cuttings : SoundPruning G → Exactly (graphCount G s) (CuttingOf G s)
   graph-count-is-cuttings sound = (cuttingAt G s, tilings-are-cuttings sound)
 
-  pub layer-count-is-cuttings : SoundPruning G → Exactly (layerCount G s (G .freeCount s)) (CuttingOf G s)
-  layer-count-is-cuttings sound = subst (λ (n : ℕ). Exactly n (CuttingOf G s)) (sym counts-are-equal) (graph-count-is-cuttings sound)
+  pub layer-count-is-cuttings : SoundPruning G → Exactly (layerCount G s) (CuttingOf G s)
+  layer-count-is-cuttings sound = subst (λ (n : ℕ). Exactly n (CuttingOf G s)) (sym (counts-are-equal G L a E s ok)) (graph-count-is-cuttings sound)
 
 -- ---- 8. The order of a layer makes no difference
 
 module _ {B : Type 0} (same : B → B → Bool) (tells : Tells same) (children : B → List B) (es ds : List (Entry B)) where
-  -- The weights of the next layer follow from the weights of the layer, whatever its order,
-  pub next-layer-by-weights : Alike same es ds → Alike same (gather same (shares children es)) (gather same (shares children ds))
+  -- Two lists with the same entries, each board once, have the same weights, whatever their order.
+  pub same-entries-same-weights : Once (boards es) → Once (boards ds) → ((e : Entry B) → Mem e es ↔ Mem e ds) → (t : B) → weight same t es ≡ weight same t ds
+  same-entries-same-weights = alike-order same tells es ds
+
+  -- Where two layers have the same weights, so have the next layers,
+  pub next-layer-by-weights : ((t : B) → weight same t es ≡ weight same t ds)
+      → (t : B) → weight same t (gather same (shares children es)) ≡ weight same t (gather same (shares children ds))
   next-layer-by-weights = alike-next same tells children es ds
 
-  -- and so does its number of boards, where no path count is 0.
-  pub next-layer-length : Nonzero es → Nonzero ds → Alike same es ds
-      → length (gather same (shares children es)) ≡ length (gather same (shares children ds))
+  -- these have equally many boards, where no path count is 0,
+  pub next-layer-length : ((e : Entry B) → Mem e es → 0 < e .1) → ((e : Entry B) → Mem e ds → 0 < e .1)
+      → ((t : B) → weight same t es ≡ weight same t ds) → length (gather same (shares children es)) ≡ length (gather same (shares children ds))
   next-layer-length = alike-next-length same tells children es ds
+
+  -- and the full board has the same path count in both layers.
+  pub full-count-by-weights : (full : B → Bool) → ((t : B) → weight same t es ≡ weight same t ds) → fullCount full es ≡ fullCount full ds
+  full-count-by-weights full = alike-fullCount same tells full es ds

@@ -1,5 +1,5 @@
 -- Small plots for examples: a choice by rank, the tiles of a list that fit, and a test that prunes, as a setting of `CellSets`. Its laws, and a
--- cutting given by a list, follow from tests that compute. Rests on `CellSets` and `SequenceLaws`. Assumes nothing.
+-- cutting given by a list, follow from tests that compute. Rests on `CellSetLaws` and `SequenceLaws`. Assumes nothing.
 use mathlib.Core.Path.{_≡_, refl, sym, ap, _∙_, subst}
 use mathlib.Core.Logic.{_⊎_, inl, _↔_, ⊎-elim}
 use mathlib.Core.Bool.{Bool, true, false, So, cond, _&&_, and-eq-true-iff, false≢true}
@@ -12,7 +12,7 @@ use borrow.Author.Tests.{eqb-true, eq-eqb, ltb-true}
 use lib.Dec.{eqb, ltb}
 use Rattle.cells.specs.Set.{bit, hasCell, intersectionOf, size, Within}
 use Rattle.cells.specs.BitLaws.{bit-le, zero-bit, bit-ext, bit-high}
-use Rattle.cells.specs.SetLaws.{hasCell-iff, bit-intersectionOf, intersectionOf-lt}
+use Rattle.cells.specs.SetLaws.{within-iff, within-le, hasCell-iff, bit-intersectionOf, intersectionOf-lt}
 use Rattle.cells.specs.Firsts.{any, holds, firsts, Once}
 use Rattle.cells.specs.FirstsLaws.{any-some, holds-iff, mem-firsts, once-firsts}
 use Rattle.cells.specs.Arrays.{allBelow}
@@ -20,7 +20,8 @@ use Rattle.cells.specs.ArrayLaws.{allBelow-at}
 use Rattle.cells.specs.MemberLaws.{eqb-tells}
 use Rattle.covers.specs.Cuttings.{Setting, FitsOn, CuttingOf, Laws, SoundPruning, EqualSteps}
 use Rattle.covers.specs.SequenceLaws.{sequence-cutting, cutting-add}
-use Rattle.covers.specs.CellSets.{within-iff, within-le, Between, cellSetting, CellLaws, bit-free, none-free, cell-laws, cell-steps}
+use Rattle.covers.specs.CellSets.{Between, cellSetting, CellLaws}
+use Rattle.covers.specs.CellSetLaws.{bit-region, none-free, cell-laws, cell-steps}
 
 -- ---- definitions
 
@@ -188,7 +189,7 @@ module _ (t : Plot) (ok : So (isPlot t)) where
     where
       there-too : (c : ℕ) → So (hasCell (t .region - s) c) → Mem c (keep (hasCell (t .region - s)) (t .cells))
       there-too c h =
-          let one : bit (t .region) c ≡ 1 = omega (arith, hasCell-iff (t .region - s) c .0 h, bit-free small s b c, bit-le (t .region) c) in
+          let one : bit (t .region) c ≡ 1 = omega (arith, hasCell-iff (t .region - s) c .0 h, bit-region small s b c, bit-le (t .region) c) in
           mem-keep (hasCell (t .region - s)) (t .cells) c .1 (cell-listed c one, h)
 
       go : (l : List ℕ) → keep (hasCell (t .region - s)) (t .cells) ≡ l → So (hasCell (t .region - s) (best (t .rank s) l))
@@ -225,9 +226,9 @@ module _ (t : Plot) (ok : So (isPlot t)) where
   plot-laws = cell-laws plot-cells
 
   -- tiles of one size
-  pub plot-steps : (a : ℕ) → 0 < a → So (all (λ p. eqb (size p) a) (t .tiles)) → EqualSteps (settingOf t) a
+  pub plot-steps : (a : ℕ) → So (all (λ p. eqb (size p) a) (t .tiles)) → EqualSteps (settingOf t) a
   unfolding settingOf
-  plot-steps a h e = cell-steps plot-cells a h (λ p m. eqb-true (size p) a (all-at (λ q. eqb (size q) a) (t .tiles) p e m))
+  plot-steps a e = cell-steps plot-cells a (λ p m. eqb-true (size p) a (all-at (λ q. eqb (size q) a) (t .tiles) p e m))
 
   -- where nothing is pruned, every piece that fits and covers the chosen cell is there
   pub plot-pruning : ((s : ℕ) → t .prunes s ≡ false) → SoundPruning (settingOf t)

@@ -1,0 +1,190 @@
+-- Laws of the layers of a setting: their boards are accepted; each layer has fewer free cells, so that they come to an end; where every piece takes
+-- equally many, a board stands in one layer, later layers have higher numbers, and the layers joined are in the order of first finding.
+-- Rests on `LayerLaws`, `NodeLaws` and `ChildLaws`. Assumes nothing.
+use mathlib.Core.Path.{_≡_, refl, sym, ap, subst, _∙_}
+use mathlib.Core.Bool.{Bool}
+use mathlib.Core.List.{List, [], _∷_, _++_, flatMap, append-nil, List·Memᴰ as Mem, List·Memᴰ·eq-of-singleton as eq-of-singleton}
+use Prim.Native.Nat.{ℕ, zero, suc, _+_, _*_, _≤_, _<_}
+use native.Mathlib.Nat.{zero-mul, suc-mul, eq-of-mul-eq-mul-right}
+use native.Mathlib.Decide.{decLt}
+use native.Mathlib.Omega.{arith}
+use Rattle.cells.specs.Firsts.{Once, Tells, any, holds, addNew, addFirsts, firsts}
+use Rattle.cells.specs.FirstsLaws.{addFirsts-append, addFirsts-apart}
+use Rattle.cells.specs.MemberLaws.{no-member, mem-flatMap, flatMap-append, once-append}
+use Rattle.covers.specs.Cuttings.{Setting, childBoards, Laws, EqualSteps}
+use Rattle.covers.specs.Counts.{ChildSequence, Entry, boards, shares, weight, layer, layers, numberIn, layerOf}
+use Rattle.covers.specs.NodeLaws.{chain-end-good, number-lt, number-left, number-right}
+use Rattle.covers.specs.GatherLaws.{mem-boards, weight-none}
+use Rattle.covers.specs.LayerLaws.{once-layer, mem-layer, weight-layer, boards-suc, mem-layers, layer-found, shares-suc, start-entry}
+use Rattle.covers.specs.ChildLaws.{child-ok, child-cell, child-equal}
+
+-- ---- the layers of a setting
+
+module _ {B P : Type 0} (G : Setting B P) (L : Laws G) (s : B) (ok : G .Ok s) where
+  pub layer-ok : (n : ℕ) (t : B) → Mem t (boards (layerOf G s n)) → G .Ok t
+  unfolding layer
+  layer-ok zero t m = subst (G .Ok) (sym (eq-of-singleton m)) ok
+  layer-ok (suc n) t m =
+      let r = mem-layer (G .sameBoard) (L .board-eq) (childBoards G) s n t .0 m in child-ok G L (r .0) t (layer-ok n (r .0) (r .1)) (r .2)
+
+  -- each layer has one free cell fewer at least
+  layer-fewer : (n : ℕ) (t : B) → Mem t (boards (layerOf G s n)) → G .freeCount t + n ≤ G .freeCount s
+  unfolding layer
+  layer-fewer zero t m = omega (arith, ap (G .freeCount) (eq-of-singleton m))
+  layer-fewer (suc n) t m =
+      let r = mem-layer (G .sameBoard) (L .board-eq) (childBoards G) s n t .0 m in
+      omega (arith, child-cell G L (r .0) t (layer-ok n (r .0) (r .1)) (r .2), layer-fewer n (r .0) (r .1))
+
+  -- after as many layers as free cells nothing is left
+  pub layer-empty : (n : ℕ) → G .freeCount s < n → layerOf G s n ≡ []
+  layer-empty n h = no-member (layerOf G s n)
+      (λ e m. let l = layer-fewer n (e .0) (mem-boards (layerOf G s n) e m) in omega arith)
+
+  -- every board that a child sequence reaches stands in a layer
+  pub reached-layer : (t : B) (xs : List B) → ChildSequence (childBoards G) s t xs → (n : ℕ) × (n ≤ G .freeCount s) × Mem t (boards (layerOf G s n))
+  reached-layer t xs c =
+      let r = chain-end-good (λ t u. Mem u (childBoards G t)) (λ u. (n : ℕ) × Mem u (boards (layerOf G s n))) next s t xs (0, first) c in
+      let l = layer-fewer (r .0) t (r .1) in
+      (r .0, omega arith, r .1)
+    where
+      first : Mem s (boards (layerOf G s 0))
+      first = start-entry (G .sameBoard) (L .board-eq) (childBoards G) s
+
+      next : (t u : B) → (n : ℕ) × Mem t (boards (layerOf G s n)) → Mem u (childBoards G t) → (n : ℕ) × Mem u (boards (layerOf G s n))
+      next t u r m = (suc (r .0), mem-layer (G .sameBoard) (L .board-eq) (childBoards G) s (r .0) u .1 (t, r .1, m))
+
+-- ---- where every piece takes equally many free cells
+
+module _ {B P : Type 0} (G : Setting B P) (L : Laws G) (a : ℕ) (E : EqualSteps G a) (s : B) (ok : G .Ok s) where
+  abbrev same : B → B → Bool
+  same = G .sameBoard
+
+  abbrev tells : Tells (G .sameBoard)
+  tells = L .board-eq
+
+  abbrev children : B → List B
+  children = childBoards G
+
+  abbrev at : ℕ → List (Entry B)
+  at = layerOf G s
+
+  abbrev upTo : ℕ → List (Entry B)
+  upTo n = layers (G .sameBoard) (childBoards G) s n
+
+  layer-size : (n : ℕ) (t : B) → Mem t (boards (at n)) → G .freeCount t + n * a ≡ G .freeCount s
+  unfolding layer
+  layer-size zero t m = omega (arith, ap (G .freeCount) (eq-of-singleton m), zero-mul a)
+  layer-size (suc n) t m =
+      let r = mem-layer same tells children s n t .0 m in
+      omega (arith, child-equal G L a E (r .0) t (layer-ok G L s ok n (r .0) (r .1)) (r .2), layer-size n (r .0) (r .1), suc-mul n a)
+
+  -- a piece takes at least one free cell
+  step-positive : (n : ℕ) (t : B) → Mem t (boards (at (suc n))) → 0 < a
+  step-positive n t m =
+      let r = mem-layer same tells children s n t .0 m in
+      let o = layer-ok G L s ok n (r .0) (r .1) in
+      omega (arith, child-cell G L (r .0) t o (r .2), child-equal G L a E (r .0) t o (r .2))
+
+  -- a board stands in one layer
+  pub layers-disjoint : (n m : ℕ) (t : B) → Mem t (boards (at n)) → Mem t (boards (at m)) → n ≡ m
+  layers-disjoint zero zero t i j = refl
+  layers-disjoint zero (suc m) t i j =
+      eq-of-mul-eq-mul-right a (step-positive m t j) 0 (suc m) (omega (arith, layer-size 0 t i, layer-size (suc m) t j))
+  layers-disjoint (suc n) m t i j =
+      eq-of-mul-eq-mul-right a (step-positive n t i) (suc n) m (omega (arith, layer-size (suc n) t i, layer-size m t j))
+
+  pub once-layers : (n : ℕ) → Once (boards (upTo n))
+  unfolding layers
+  once-layers zero = once-layer same tells children s zero
+  once-layers (suc n) =
+      subst Once (sym (boards-suc same tells children s n))
+      (once-append (boards (upTo n)) (boards (at (suc n))) (once-layers n) (once-layer same tells children s (suc n))
+      (λ t m k.
+      let r = mem-layers same tells children s n t .0 m in
+      let e = layers-disjoint (r .0) (suc n) t (r .2) k in
+      let h = r .1 in
+      omega arith))
+
+  -- one more layer: the children of the last that are not there yet, each where it is first found
+  found-next : (n : ℕ) → addFirsts same (boards (upTo n)) (flatMap children (boards (at n))) ≡ boards (upTo (suc n))
+  unfolding firsts
+  found-next n =
+      ap (λ (ss : List B). addFirsts same ss (flatMap children (boards (at n)))) (sym (append-nil (boards (upTo n))))
+      ∙ addFirsts-apart same tells (boards (upTo n)) [] (flatMap children (boards (at n))) apart
+      ∙ ap (λ (ss : List B). boards (upTo n) ++ ss) (sym (layer-found same tells children s n)) ∙ sym (boards-suc same tells children s n)
+    where
+      apart : (t : B) → Mem t (flatMap children (boards (at n))) → Mem t (boards (upTo n)) → ⊥
+      apart t m k =
+          let r = mem-flatMap children (boards (at n)) t .0 m in
+          let j = mem-layers same tells children s n t .0 k in
+          let e = layers-disjoint (j .0) (suc n) t (j .2) (mem-layer same tells children s n t .1 r) in
+          let h = j .1 in
+          omega arith
+
+  pub found-layers : (n : ℕ) → firsts same (s ∷ flatMap children (boards (upTo n))) ≡ boards (upTo (suc n))
+  unfolding firsts addFirsts addNew holds any layers layer
+  found-layers zero = found-next zero
+  found-layers (suc n) =
+      ap (λ (ss : List B). firsts same (s ∷ ss))
+      (ap (flatMap children) (boards-suc same tells children s n) ∙ flatMap-append children (boards (upTo n)) (boards (at (suc n))))
+      ∙ addFirsts-append same [] (s ∷ flatMap children (boards (upTo n))) (flatMap children (boards (at (suc n))))
+      ∙ ap (λ (ss : List B). addFirsts same ss (flatMap children (boards (at (suc n))))) (found-layers n) ∙ found-next (suc n)
+
+  -- a board of a later layer has a higher number
+  pub number-layers : (n i j : ℕ) (t u : B) → i < j → j ≤ n → Mem t (boards (at i)) → Mem u (boards (at j))
+      → numberIn same (boards (upTo n)) t < numberIn same (boards (upTo n)) u
+  number-layers zero i j t u h k m l = absurd (omega arith)
+  number-layers (suc n) i j t u h k m l =
+      subst (λ (ss : List B). numberIn same ss t < numberIn same ss u) (sym (boards-suc same tells children s n))
+      (go (decLt j (suc n)) (λ q. number-layers n i j t u h q m l))
+    where
+      first : Mem t (boards (upTo n))
+      first = mem-layers same tells children s n t .1 (i, omega arith, m)
+
+      later : n < j → Mem u (boards (upTo n)) → ⊥
+      later q x = let r = mem-layers same tells children s n u .0 x in let e = layers-disjoint (r .0) j u (r .2) l in let b = r .1 in omega arith
+
+      go : Dec (j < suc n) → (j ≤ n → numberIn same (boards (upTo n)) t < numberIn same (boards (upTo n)) u)
+          → numberIn same (boards (upTo n) ++ boards (at (suc n))) t < numberIn same (boards (upTo n) ++ boards (at (suc n))) u
+      go (yes q) below =
+          omega (
+            arith,
+            below (omega arith),
+            number-left same tells (boards (upTo n)) (boards (at (suc n))) t first,
+            number-left same tells (boards (upTo n)) (boards (at (suc n))) u (mem-layers same tells children s n u .1 (j, omega arith, l)),
+          )
+      go (no q) below =
+          omega (
+            arith,
+            number-left same tells (boards (upTo n)) (boards (at (suc n))) t first,
+            number-lt same tells (boards (upTo n)) t first,
+            number-right same tells (boards (upTo n)) (boards (at (suc n))) u
+                (later (omega arith)),
+          )
+
+  -- among the children of the layers joined, a board has weight 0 before its layer and its path count from then on
+  other-layer : (n j : ℕ) (t : B) → Mem t (boards (at j)) → (n ≡ j → ⊥) → weight same t (at n) ≡ 0
+  other-layer n j t m ne = weight-none same tells t (at n) (λ k. ne (layers-disjoint n j t k m))
+
+  shares-before : (n j : ℕ) (t : B) → Mem t (boards (at (suc j))) → n < j → weight same t (shares children (upTo n)) ≡ 0
+  unfolding layers
+  shares-before zero j t m h =
+      sym (weight-layer same tells children s zero t) ∙ other-layer 1 (suc j) t m (λ e. omega arith)
+  shares-before (suc n) j t m h =
+      let o = other-layer (suc (suc n)) (suc j) t m (λ e. omega arith) in
+      omega (arith, shares-suc same tells children s n t, shares-before n j t m (omega arith))
+
+  pub shares-from : (n j : ℕ) (t : B) → Mem t (boards (at (suc j))) → j ≤ n → weight same t (shares children (upTo n)) ≡ weight same t (at (suc j))
+  unfolding layers
+  shares-from zero j t m h =
+      let z : j ≡ 0 = omega arith in
+      sym (weight-layer same tells children s zero t) ∙ ap (λ (i : ℕ). weight same t (at (suc i))) (sym z)
+  shares-from (suc n) j t m h = go (decLt j (suc n)) (λ q. shares-from n j t m q)
+    where
+      go : Dec (j < suc n) → (j ≤ n → weight same t (shares children (upTo n)) ≡ weight same t (at (suc j)))
+          → weight same t (shares children (upTo (suc n))) ≡ weight same t (at (suc j))
+      go (yes q) below =
+          let o = other-layer (suc (suc n)) (suc j) t m (λ e. omega arith) in omega (arith, shares-suc same tells children s n t, below (omega arith))
+      go (no q) below =
+          let z : suc n ≡ j = omega arith in
+          omega (arith, shares-suc same tells children s n t, shares-before n j t m (omega arith), ap (λ (i : ℕ). weight same t (at (suc i))) z)
