@@ -120,7 +120,7 @@ module _ {A : Type 0} where
       (cases-cons m)
 
   -- what is in a list cut at x and is not x is in the rest
-  mem-rest : (x y : A) (s t : List A) → (y ≡ x → ⊥) → Mem y (s ++ x ∷ t) → Mem y (s ++ t)
+  pub mem-rest : (x y : A) (s t : List A) → (y ≡ x → ⊥) → Mem y (s ++ x ∷ t) → Mem y (s ++ t)
   mem-rest x y [] t ne m = ⊎-elim (λ e. absurd (ne e)) (λ k. k) (cases-cons m)
   mem-rest x y (z ∷ s) t ne m = ⊎-elim (λ e. here e) (λ k. there (mem-rest x y s t ne k)) (cases-cons m)
 

@@ -1,5 +1,5 @@
 -- Laws of boards and pieces as sets of cells: the setting of `CellSets` meets the laws of `Cuttings`, from what is asked of its region, tiles,
--- choice and pieces. Rests on `CellSets` and cells' `SetLaws`. Assumes nothing.
+-- choice and pieces. Rests on `CellSets` and cells' `SetLaws` and `MemberLaws`. Assumes nothing.
 use mathlib.Core.Path.{_≡_, sym, ap, _∙_}
 use mathlib.Core.Logic.{_↔_}
 use mathlib.Core.Bool.{So}

@@ -11,7 +11,7 @@ use Prim.Native.Nat.{ℕ, zero, suc, _+_, _<_}
 use native.Mathlib.Nat.{add-zero}
 use native.Mathlib.Omega.{arith}
 use lib.ListN.{length, getD}
-use Rattle.cells.specs.Firsts.{Once, addFirsts, firsts}
+use Rattle.cells.specs.Firsts.{addFirsts, firsts}
 use Rattle.cells.specs.FirstsLaws.{mem-getD, so-eq}
 use Rattle.covers.specs.Cuttings.{Numbering, Setting, CuttingOf, PlacingSequence, childBoards, Laws, SoundPruning, EqualSteps}
 use Rattle.covers.specs.Counts.{Entry, boards, sumOf, shares, gather, weight, layer, layers, numberIn, tiling, fullCount, fullFrom, fullNode, atNode, layerOf, entriesOf, nodesOf, pathCountOf, graphEdges, layerCountTo, layerCount, graphCount, piecesOf, tilingOf, cuttingAt}
@@ -21,8 +21,8 @@ use Rattle.covers.specs.SequenceLaws.{full-pieces, cuttings-numbered}
 use Rattle.covers.specs.ChildLaws.{sequence-children, sequences-numbered}
 use Rattle.covers.specs.GatherLaws.{mem-boards, mem-entry, weight-entry}
 use Rattle.covers.specs.LayerLaws.{layers-first}
-use Rattle.covers.specs.SettingLaws.{once-layers}
-use Rattle.covers.specs.GraphLaws.{node-ok, tilings-numbered, reached-node}
+use Rattle.covers.specs.SettingLaws.{node-ok, node-reached}
+use Rattle.covers.specs.GraphLaws.{once-nodes, tilings-numbered}
 use Rattle.covers.specs.NodeLaws.{count-number, number-getD}
 
 -- ---- the full node
@@ -90,29 +90,47 @@ module _ {B P : Type 0} (G : Setting B P) (L : Laws G) (s : B) (ok : G .Ok s) (f
   unfolding graphCount fullNode fullFrom atNode
   full-graphCount = ap (λ (es : List (Entry B)). atNode (pathCountOf G s) (fullNode (G .full) (boards es))) (full-layers (G .freeCount s))
 
--- ---- a start with a free cell
+-- ---- where every piece takes equally many free cells
 
 module _ {B P : Type 0} (G : Setting B P) (L : Laws G) (a : ℕ) (E : EqualSteps G a) (s : B) (ok : G .Ok s) where
   -- node 0 is the start
   rest : List (Entry B)
-  rest = layers-first (G .sameBoard) (L .board-eq) (childBoards G) s (G .freeCount s) .0
+  rest = layers-first (G .sameBoard) (childBoards G) s (G .freeCount s) .0
 
   entries : entriesOf G s ≡ (s, 1) ∷ rest
   unfolding rest
-  entries = layers-first (G .sameBoard) (L .board-eq) (childBoards G) s (G .freeCount s) .1
+  entries = layers-first (G .sameBoard) (childBoards G) s (G .freeCount s) .1
 
   nodes : nodesOf G s ≡ s ∷ boards rest
   nodes = ap boards entries
 
-  once-nodes : Once (nodesOf G s)
-  once-nodes = once-layers G L a E s ok (G .freeCount s)
+  some-full : (v : ℕ) → fullNode (G .full) (nodesOf G s) ≡ some v → (v < length (nodesOf G s)) × So (G .full (getD (nodesOf G s) v s))
+  some-full v e =
+      let r = fullNode-some (G .full) s (boards rest) v s (ap (fullNode (G .full)) (sym nodes) ∙ e) in
+      (subst (λ (ss : List B). v < length ss) (sym nodes) (r .1), subst (λ (ss : List B). So (G .full (getD ss v s))) (sym nodes) (r .2))
+
+  -- all full boards are one board
+  full-same : (t u : B) → G .Ok t → G .Ok u → So (G .full t) → G .full u ≡ G .sameBoard u t
+  full-same t u o k f = so-eq (G .full u) (G .sameBoard u t)
+      (λ g. L .board-eq u t .1 (L .full-one u t k o g f)) (λ e. ap (G .full) (L .board-eq u t .0 e) ∙ f)
+
+  full-weight : (v : ℕ) → v < length (nodesOf G s) → So (G .full (getD (nodesOf G s) v s)) → fullCount (G .full) (entriesOf G s) ≡ pathCountOf G s v
+  unfolding fullCount weight
+  full-weight v h f =
+      let t = getD (nodesOf G s) v s in
+      let m : Mem t (nodesOf G s) = mem-getD (nodesOf G s) v s h in
+      let e = mem-entry (entriesOf G s) t m in
+      sum-ext (λ e. cond (G .full (e .0)) (e .1) 0) (λ e. cond (G .sameBoard (e .0) t) (e .1) 0) (entriesOf G s)
+      (λ x k.
+      let o = node-ok G L s ok (x .0) (mem-boards (entriesOf G s) x k) in
+      ap (λ (b : Bool). cond b (x .1) 0) (full-same t (x .0) (node-ok G L s ok t m) o f))
+      ∙ ap (λ (u : B). weight (G .sameBoard) u (entriesOf G s)) (sym (e .2))
+      ∙ weight-entry (G .sameBoard) (L .board-eq) (entriesOf G s) (e .0) (once-nodes G L a E s ok) (e .1)
+      ∙ sym (count-number (G .sameBoard) (L .board-eq) (entriesOf G s) (e .0) (once-nodes G L a E s ok) (e .1))
+      ∙ ap (pathCountOf G s)
+      (ap (numberIn (G .sameBoard) (nodesOf G s)) (e .2) ∙ number-getD (G .sameBoard) (L .board-eq) (nodesOf G s) v s (once-nodes G L a E s ok) h)
 
   module _ (notFull : G .full s ≡ false) where
-    some-full : (v : ℕ) → fullNode (G .full) (nodesOf G s) ≡ some v → (v < length (nodesOf G s)) × So (G .full (getD (nodesOf G s) v s))
-    some-full v e =
-        let r = fullNode-some (G .full) s (boards rest) v s (ap (fullNode (G .full)) (sym nodes) ∙ e) in
-        (subst (λ (ss : List B). v < length ss) (sym nodes) (r .1), subst (λ (ss : List B). So (G .full (getD ss v s))) (sym nodes) (r .2))
-
     none-full : fullNode (G .full) (nodesOf G s) ≡ none → (t : B) → Mem t (nodesOf G s) → G .full t ≡ false
     none-full e t m =
         ⊎-elim (λ q. ap (G .full) q ∙ notFull) (fullNode-none (G .full) s (boards rest) (ap (fullNode (G .full)) (sym nodes) ∙ e) t)
@@ -127,27 +145,6 @@ module _ {B P : Type 0} (G : Setting B P) (L : Laws G) (a : ℕ) (E : EqualSteps
     sum-layers (suc n) =
         sum-append (λ e. cond (G .full (e .0)) (e .1) 0) (layers (G .sameBoard) (childBoards G) s n) (layerOf G s (suc n))
         ∙ ap (λ (k : ℕ). k + fullCount (G .full) (layerOf G s (suc n))) (sum-layers n)
-
-    -- all full boards are one board
-    full-same : (t u : B) → G .Ok t → G .Ok u → So (G .full t) → G .full u ≡ G .sameBoard u t
-    full-same t u o k f = so-eq (G .full u) (G .sameBoard u t)
-        (λ g. L .board-eq u t .1 (L .full-one u t k o g f)) (λ e. ap (G .full) (L .board-eq u t .0 e) ∙ f)
-
-    full-weight : (v : ℕ) → v < length (nodesOf G s) → So (G .full (getD (nodesOf G s) v s)) → fullCount (G .full) (entriesOf G s) ≡ pathCountOf G s v
-    unfolding fullCount weight
-    full-weight v h f =
-        let t = getD (nodesOf G s) v s in
-        let m : Mem t (nodesOf G s) = mem-getD (nodesOf G s) v s h in
-        let e = mem-entry (entriesOf G s) t m in
-        sum-ext (λ e. cond (G .full (e .0)) (e .1) 0) (λ e. cond (G .sameBoard (e .0) t) (e .1) 0) (entriesOf G s)
-        (λ x k.
-        let o = node-ok G L a E s ok (x .0) (mem-boards (entriesOf G s) x k) in
-        ap (λ (b : Bool). cond b (x .1) 0) (full-same t (x .0) (node-ok G L a E s ok t m) o f))
-        ∙ ap (λ (u : B). weight (G .sameBoard) u (entriesOf G s)) (sym (e .2))
-        ∙ weight-entry (G .sameBoard) (L .board-eq) (entriesOf G s) (e .0) once-nodes (e .1)
-        ∙ sym (count-number (G .sameBoard) (L .board-eq) (entriesOf G s) (e .0) once-nodes (e .1))
-        ∙ ap (pathCountOf G s)
-        (ap (numberIn (G .sameBoard) (nodesOf G s)) (e .2) ∙ number-getD (G .sameBoard) (L .board-eq) (nodesOf G s) v s once-nodes h)
 
     none-count : fullNode (G .full) (nodesOf G s) ≡ none → fullCount (G .full) (entriesOf G s) ≡ 0
     unfolding fullCount
@@ -172,14 +169,14 @@ module _ {B P : Type 0} (G : Setting B P) (L : Laws G) (a : ℕ) (E : EqualSteps
     no-sequence : fullNode (G .full) (nodesOf G s) ≡ none → (ps : List P) → PlacingSequence G s ps → ⊥
     no-sequence e ps r =
         let k = sequence-children G L s ps ok r in
-        false≢true (sym (none-full e (k .0) (reached-node G L a E s ok (k .0) (k .1) (k .4))) ∙ k .3)
+        false≢true (sym (none-full e (k .0) (node-reached G L s ok (k .0) .1 (k .1, k .4))) ∙ k .3)
 
     numbered-to : (o : Option ℕ) → fullNode (G .full) (nodesOf G s) ≡ o → Numbering (PlacingSequence G s) (atNode (pathCountOf G s) o) (readTo o)
     unfolding atNode readTo
     numbered-to none e = numbering-none (readTo none) (no-sequence e)
     numbered-to (some v) e =
         let r = some-full v e in
-        let o = node-ok G L a E s ok (getD (nodesOf G s) v s) (mem-getD (nodesOf G s) v s (r .0)) in
+        let o = node-ok G L s ok (getD (nodesOf G s) v s) (mem-getD (nodesOf G s) v s (r .0)) in
         sequences-numbered G L s (getD (nodesOf G s) v s) ok o (r .1) (tilings-numbered G L a E s ok v (r .0))
 
     -- the numbers below the graph count number the placing sequences: the pieces that the steps of a tiling mark, in order

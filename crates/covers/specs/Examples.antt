@@ -86,17 +86,17 @@ unfolding settingOf size layers edgesOf tiling fullNode atNode
 tiling-1 = refl
 
 -- a full start counts 0, though the empty set is a cutting
-full-layers : layerCount (settingOf twoByTwo) 15 ≡ 0
+full-start-layers : layerCount (settingOf twoByTwo) 15 ≡ 0
 unfolding settingOf size layerCount
-full-layers = refl
+full-start-layers = refl
 
-full-graph : graphCount (settingOf twoByTwo) 15 ≡ 0
+full-start-graph : graphCount (settingOf twoByTwo) 15 ≡ 0
 unfolding settingOf size graphCount
-full-graph = refl
+full-start-graph = refl
 
-full-cutting : CuttingOf (settingOf twoByTwo) 15 (holds eqb [])
+full-start-cutting : CuttingOf (settingOf twoByTwo) 15 (holds eqb [])
 unfolding isPlot cuts
-full-cutting = plot-cutting twoByTwo refl 15 [] (plot-ok twoByTwo refl 15 refl) refl
+full-start-cutting = plot-cutting twoByTwo refl 15 [] (plot-ok twoByTwo refl 15 refl) refl
 
 -- ---- 01: "4 by 2 with tiles UpLeft and UpRight 0, though one cutting exists": the cells 0 to 3 above 4 to 7, all marks laid
 

@@ -1,5 +1,5 @@
 -- Laws of lists of entries: weights; equal boards joined, which keeps the boards, each once, and the weights; one child added to a list that is
--- joined already. Rests on `Counts` and `SumLaws`. Assumes nothing.
+-- joined already. Rests on `Counts`, `SumLaws` and cells' `MemberLaws`. Assumes nothing.
 use mathlib.Core.Path.{_≡_, refl, sym, ap, subst, _∙_}
 use mathlib.Core.Logic.{_⊎_, _↔_, ⊎-elim}
 use mathlib.Core.Bool.{Bool, true, false, cond, _||_}

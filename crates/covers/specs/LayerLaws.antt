@@ -15,7 +15,9 @@ use Rattle.covers.specs.GatherLaws.{Nonzero, mem-boards, mem-entry, weig
 use Rattle.covers.specs.Counts.{layers, Entry, boards, sumOf, shares, weight, layer}
 use Rattle.covers.specs.SumLaws.{sum-single, sum-ext, sum-zero, sum-map, sum-flatMap}
 
-module _ {B : Type 0} (same : B → B → Bool) (tells : Tells same) (children : B → List B) where
+-- ---- the children of a layer
+
+module _ {B : Type 0} (same : B → B → Bool) (children : B → List B) where
   -- each entry gives its count once for each time that the board is among its children
   pub weight-shares : (t : B) (es : List (Entry B))
       → weight same t (shares children es) ≡ sumOf (λ e. sumOf (λ c. cond (same c t) (e .1) 0) (children (e .0))) es
@@ -26,6 +28,7 @@ module _ {B : Type 0} (same : B → B → Bool) (tells : Tells same) (children :
       (λ e. sumOf (λ c. cond (same c t) (e .1) 0) (children (e .0))) es
       (λ e m. sum-map (λ d. cond (same (d .0) t) (d .1) 0) (λ c. (c, e .1)) (children (e .0)))
 
+module _ {B : Type 0} (children : B → List B) where
   -- the children of a layer's boards, in order
   pub boards-shares : (es : List (Entry B)) → boards (shares children es) ≡ flatMap children (boards es)
   unfolding shares flatMap
@@ -33,6 +36,9 @@ module _ {B : Type 0} (same : B → B → Bool) (tells : Tells same) (children :
   boards-shares (e ∷ es) =
       map-append (λ (x : Entry B). x .0) (map (λ c. (c, e .1)) (children (e .0))) (shares children es)
       ∙ ap₂ _++_ (map-back (λ (c : B). (c, e .1)) (λ (x : Entry B). x .0) (children (e .0)) (λ c m. refl)) (boards-shares es)
+
+  mem-shares : (es : List (Entry B)) (t : B) → Mem t (boards (shares children es)) ↔ ((s : B) × Mem s (boards es) × Mem t (children s))
+  mem-shares es t = rw (boards-shares es) (mem-flatMap children (boards es) t)
 
   -- an entry of the shares is a child of one of the boards, with its count
   share-of : (es : List (Entry B)) (d : Entry B) → Mem d (shares children es)
@@ -43,66 +49,17 @@ module _ {B : Type 0} (same : B → B → Bool) (tells : Tells same) (children :
       let q = of-map (λ c. (c, r .0 .1)) (children (r .0 .0)) (r .2) in
       (r .0, r .1, cast (ap (λ (x : Entry B). x .0) (sym (q .2))) (q .1), ap (λ (x : Entry B). x .1) (sym (q .2)))
 
-  mem-shares : (es : List (Entry B)) (t : B) → Mem t (boards (shares children es)) ↔ ((s : B) × Mem s (boards es) × Mem t (children s))
-  mem-shares es t = rw (boards-shares es) (mem-flatMap children (boards es) t)
-
-  pub once-layer : (s : B) (n : ℕ) → Once (boards (layer same children s n))
-  unfolding layer
-  once-layer s zero = (λ m. not-nil m, tt)
-  once-layer s (suc n) = once-gather same tells (shares children (layer same children s n))
-
-  -- the boards of the next layer are the children
-  pub mem-layer : (s : B) (n : ℕ) (t : B) → Mem t (boards (layer same children s (suc n)))
-      ↔ ((p : B) × Mem p (boards (layer same children s n)) × Mem t (children p))
-  unfolding layer
-  mem-layer s n t =
-      let a = mem-gather same tells (shares children (layer same children s n)) t in
-      let b = mem-shares (layer same children s n) t in
-      (λ m. b .0 (a .0 m), λ r. a .1 (b .1 r))
-
-  pub weight-layer : (s : B) (n : ℕ) (t : B)
-      → weight same t (layer same children s (suc n)) ≡ weight same t (shares children (layer same children s n))
-  unfolding layer
-  weight-layer s n t = weight-gather same tells t (shares children (layer same children s n))
-
-  -- of a list with each element once, one at most is t
-  sum-holds : (t : B) (k : ℕ) (cs : List B) → Once cs → sumOf (λ c. cond (same c t) k 0) cs ≡ cond (holds same cs t) k 0
-  sum-holds t k cs o = go (holds same cs t) refl
-    where
-      go : (b : Bool) → holds same cs t ≡ b → sumOf (λ c. cond (same c t) k 0) cs ≡ cond b k 0
-      go true e =
-          sum-single (λ c. cond (same c t) k 0) cs t o (holds-iff same tells cs t .0 e) (λ c n. cond-other same tells c t k n)
-          ∙ cond-same same tells t t k refl
-      go false e =
-          sum-zero (λ c. cond (same c t) k 0) cs
-          (λ c m. cond-other same tells c t k (λ q. false≢true (sym e ∙ holds-iff same tells cs t .1 (cast (sym q) m))))
-
-  -- the recurrence: a board's path count is the sum of its parents', where each child stands once
-  pub recurrence : (s : B) (n : ℕ) (t : B) → ((p : B) → Mem p (boards (layer same children s n)) → Once (children p))
-      → weight same t (layer same children s (suc n)) ≡ sumOf (λ e. cond (holds same (children (e .0)) t) (e .1) 0) (layer same children s n)
-  recurrence s n t once =
-      weight-layer s n t
-      ∙ weight-shares t (layer same children s n)
-      ∙ sum-ext (λ e. sumOf (λ c. cond (same c t) (e .1) 0) (children (e .0))) (λ e. cond (holds same (children (e .0)) t) (e .1) 0)
-      (layer same children s n) (λ e m. sum-holds t (e .1) (children (e .0)) (once (e .0) (mem-boards (layer same children s n) e m)))
-
   pub shares-positive : (es : List (Entry B)) → Nonzero es → Nonzero (shares children es)
   shares-positive es z d m = let r = share-of es d m in omega (arith, z (r .0) (r .1), r .3)
 
-  pub layer-positive : (s : B) (n : ℕ) (e : Entry B) → Mem e (layer same children s n) → 0 < e .1
-  unfolding layer
-  layer-positive s zero e m = omega (arith, ap (λ (x : Entry B). x .1) (eq-of-singleton m))
-  layer-positive s (suc n) e m =
-      gather-positive same tells (shares children (layer same children s n)) (shares-positive (layer same children s n) (layer-positive s n)) e m
+-- ---- the layers joined
 
-module _ {B : Type 0} (same : B → B → Bool) (tells : Tells same) (children : B → List B) (s : B) where
+module _ {B : Type 0} (same : B → B → Bool) (children : B → List B) (s : B) where
   abbrev at : ℕ → List (Entry B)
   at n = layer same children s n
 
   abbrev upTo : ℕ → List (Entry B)
   upTo n = layers same children s n
-
-  -- ---- the layers joined
 
   pub boards-suc : (n : ℕ) → boards (upTo (suc n)) ≡ boards (upTo n) ++ boards (at (suc n))
   unfolding layers
@@ -149,13 +106,71 @@ module _ {B : Type 0} (same : B → B → Bool) (tells : Tells same) (children :
   -- the boards of the next layer: the first appearances of the children of a layer's boards
   pub layer-found : (n : ℕ) → boards (at (suc n)) ≡ firsts same (flatMap children (boards (at n)))
   unfolding layer
-  layer-found n = boards-gather same (shares children (at n)) ∙ ap (firsts same) (boards-shares same tells children (at n))
+  layer-found n = boards-gather same (shares children (at n)) ∙ ap (firsts same) (boards-shares children (at n))
 
-  -- the weight of a board among the children of the layers joined is the sum of its weights in the next layers
-  pub shares-suc : (n : ℕ) (t : B)
-      → weight same t (shares children (upTo (suc n))) ≡ weight same t (shares children (upTo n)) + weight same t (at (suc (suc n)))
+-- ---- layers, where the test tells equal boards
+
+module _ {B : Type 0} (same : B → B → Bool) (tells : Tells same) (children : B → List B) where
+  pub once-layer : (s : B) (n : ℕ) → Once (boards (layer same children s n))
+  unfolding layer
+  once-layer s zero = (λ m. not-nil m, tt)
+  once-layer s (suc n) = once-gather same tells (shares children (layer same children s n))
+
+  -- the boards of the next layer are the children
+  pub mem-layer : (s : B) (n : ℕ) (t : B) → Mem t (boards (layer same children s (suc n)))
+      ↔ ((p : B) × Mem p (boards (layer same children s n)) × Mem t (children p))
+  unfolding layer
+  mem-layer s n t =
+      let a = mem-gather same tells (shares children (layer same children s n)) t in
+      let b = mem-shares children (layer same children s n) t in
+      (λ m. b .0 (a .0 m), λ r. a .1 (b .1 r))
+
+  pub weight-layer : (s : B) (n : ℕ) (t : B)
+      → weight same t (layer same children s (suc n)) ≡ weight same t (shares children (layer same children s n))
+  unfolding layer
+  weight-layer s n t = weight-gather same tells t (shares children (layer same children s n))
+
+  -- of a list with each element once, one at most is t
+  sum-holds : (t : B) (k : ℕ) (cs : List B) → Once cs → sumOf (λ c. cond (same c t) k 0) cs ≡ cond (holds same cs t) k 0
+  sum-holds t k cs o = go (holds same cs t) refl
+    where
+      go : (b : Bool) → holds same cs t ≡ b → sumOf (λ c. cond (same c t) k 0) cs ≡ cond b k 0
+      go true e =
+          sum-single (λ c. cond (same c t) k 0) cs t o (holds-iff same tells cs t .0 e) (λ c n. cond-other same tells c t k n)
+          ∙ cond-same same tells t t k refl
+      go false e =
+          sum-zero (λ c. cond (same c t) k 0) cs
+          (λ c m. cond-other same tells c t k (λ q. false≢true (sym e ∙ holds-iff same tells cs t .1 (cast (sym q) m))))
+
+  -- the recurrence: a board's path count is the sum of its parents', where each child stands once
+  pub recurrence : (s : B) (n : ℕ) (t : B) → ((p : B) → Mem p (boards (layer same children s n)) → Once (children p))
+      → weight same t (layer same children s (suc n)) ≡ sumOf (λ e. cond (holds same (children (e .0)) t) (e .1) 0) (layer same children s n)
+  recurrence s n t once =
+      weight-layer s n t
+      ∙ weight-shares same children t (layer same children s n)
+      ∙ sum-ext (λ e. sumOf (λ c. cond (same c t) (e .1) 0) (children (e .0))) (λ e. cond (holds same (children (e .0)) t) (e .1) 0)
+      (layer same children s n) (λ e m. sum-holds t (e .1) (children (e .0)) (once (e .0) (mem-boards (layer same children s n) e m)))
+
+  pub layer-positive : (s : B) (n : ℕ) (e : Entry B) → Mem e (layer same children s n) → 0 < e .1
+  unfolding layer
+  layer-positive s zero e m = omega (arith, ap (λ (x : Entry B). x .1) (eq-of-singleton m))
+  layer-positive s (suc n) e m =
+      gather-positive same tells (shares children (layer same children s n))
+      (shares-positive children (layer same children s n) (layer-positive s n)) e m
+
+  -- the start and the children of the layers joined have the weights of one layer more joined
+  pub shares-layers : (s : B) (n : ℕ) (t : B)
+      → weight same t (layer same children s 0) + weight same t (shares children (layers same children s n))
+      ≡ weight same t (layers same children s (suc n))
   unfolding layers shares
-  shares-suc n t =
-      ap (weight same t) (flatMap-append (λ (e : Entry B). map (λ c. (c, e .1)) (children (e .0))) (upTo n) (at (suc n)))
-      ∙ weight-append same t (shares children (upTo n)) (shares children (at (suc n)))
-      ∙ ap (λ (k : ℕ). weight same t (shares children (upTo n)) + k) (sym (weight-layer same tells children s (suc n) t))
+  shares-layers s zero t = omega (arith, weight-append same t (layer same children s 0) (layer same children s 1), weight-layer s 0 t)
+  shares-layers s (suc n) t =
+      let f : Entry B → List (Entry B) = λ e. map (λ c. (c, e .1)) (children (e .0)) in
+      omega (
+        arith,
+        shares-layers s n t,
+        ap (weight same t) (flatMap-append f (layers same children s n) (layer same children s (suc n))),
+        weight-append same t (shares children (layers same children s n)) (shares children (layer same children s (suc n))),
+        weight-layer s (suc n) t,
+        weight-append same t (layers same children s (suc n)) (layer same children s (suc (suc n))),
+      )

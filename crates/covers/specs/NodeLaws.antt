@@ -12,7 +12,7 @@ use lib.Dec.{eqb}
 use lib.ListN.{length, getD}
 use Rattle.cells.specs.Firsts.{Once, Tells}
 use Rattle.cells.specs.FirstsLaws.{mem-getD, so-eq, same-false, same-cases}
-use Rattle.cells.specs.MemberLaws.{eqb-tells, mem-flatMap, once-map, once-flatMap}
+use Rattle.cells.specs.MemberLaws.{mem-rest, eqb-tells, mem-flatMap, once-map, once-flatMap}
 use Rattle.covers.specs.Counts.{Steps, Chain, Entry, boards, counts, sumOf, shares, weight, numberIn, edgesOf}
 use Rattle.covers.specs.GatherLaws.{mem-boards}
 use Rattle.covers.specs.SumLaws.{sum-ext, sum-map, sum-flatMap}
@@ -31,13 +31,13 @@ module _ {A : Type 0} (R : A → A → Type 0) (Good : A → Type 0) (stays : (x
       let h : Good y = subst Good (sym (c .0)) g in
       ⊎-elim (λ e. subst Good (sym e) h) (λ k. steps-good y b ys h (c .1) x k) (cases-cons m)
 
-  steps-end : (a b : A) (xs : List A) → Good a → Steps R a xs b → Good b
-  steps-end a b [] g c = subst Good c g
-  steps-end a b (y ∷ ys) g c = steps-end y b ys (stays a y g (c .0)) (c .1)
+  steps-end-good : (a b : A) (xs : List A) → Good a → Steps R a xs b → Good b
+  steps-end-good a b [] g c = subst Good c g
+  steps-end-good a b (y ∷ ys) g c = steps-end-good y b ys (stays a y g (c .0)) (c .1)
 
   pub chain-end-good : (a b : A) (xs : List A) → Good a → Chain R a b xs → Good b
   chain-end-good a b [] g c = absurd c
-  chain-end-good a b (y ∷ ys) g c = steps-end y b ys (subst Good (sym (c .0)) g) (c .1)
+  chain-end-good a b (y ∷ ys) g c = steps-end-good y b ys (subst Good (sym (c .0)) g) (c .1)
 
   module _ {B : Type 0} (S : B → B → Type 0) (f : A → B) (keeps : (x y : A) → Good x → R x y → S (f x) (f y)) where
     steps-map : (a b : A) (xs : List A) → Good a → Steps R a xs b → Steps S (f a) (map f xs) (f b)
@@ -47,6 +47,27 @@ module _ {A : Type 0} (R : A → A → Type 0) (Good : A → Type 0) (stays : (x
     pub chain-map : (a b : A) (xs : List A) → Good a → Chain R a b xs → Chain S (f a) (f b) (map f xs)
     chain-map a b [] g c = c
     chain-map a b (y ∷ ys) g c = (ap f (c .0), steps-map y b ys (subst Good (sym (c .0)) g) (c .1))
+
+-- ---- edges
+
+module _ {B : Type 0} (same : B → B → Bool) (children : B → List B) where
+  -- the edges out of a board
+  edgesFrom : List B → B → List (ℕ × ℕ)
+  edgesFrom ss s = map (λ t. (numberIn same ss s, numberIn same ss t)) (children s)
+
+  pub mem-edges : (ss : List B) (p c : ℕ) → Mem (p, c) (edgesOf same children ss)
+      → (s : B) × Mem s ss × ((t : B) × Mem t (children s) × (p ≡ numberIn same ss s) × (c ≡ numberIn same ss t))
+  unfolding edgesOf edgesFrom
+  mem-edges ss p c m =
+      let r = mem-flatMap (edgesFrom ss) ss (p, c) .0 m in
+      let q = of-map {B = ℕ × ℕ} (λ t. (numberIn same ss (r .0), numberIn same ss t)) (children (r .0)) (r .2) in
+      (r .0, r .1, (q .0, q .1, ap (λ (x : ℕ × ℕ). x .0) (sym (q .2)), ap (λ (x : ℕ × ℕ). x .1) (sym (q .2))))
+
+  pub edge-mem : (ss : List B) (s t : B) → Mem s ss → Mem t (children s) → Mem (numberIn same ss s, numberIn same ss t) (edgesOf same children ss)
+  unfolding edgesOf edgesFrom
+  edge-mem ss s t m k =
+      mem-flatMap (edgesFrom ss) ss (numberIn same ss s, numberIn same ss t) .1
+      (s, m, to-map {B = ℕ × ℕ} (λ t. (numberIn same ss s, numberIn same ss t)) k)
 
 -- ---- the number of a board among the nodes
 
@@ -59,20 +80,20 @@ module _ {B : Type 0} (same : B → B → Bool) (tells : Tells same) where
   unfolding numberIn
   number-there s t ss n = rw (same-false same tells s t n)
 
-  mem-rest : (s t : B) (ss : List B) → (s ≡ t → ⊥) → Mem t (s ∷ ss) → Mem t ss
-  mem-rest s t ss n m = ⊎-elim (λ e. absurd (n (sym e))) (λ k. k) (cases-cons m)
+  later : (s t : B) (ss : List B) → (s ≡ t → ⊥) → Mem t (s ∷ ss) → Mem t ss
+  later s t ss n m = mem-rest s t [] ss (λ e. n (sym e)) m
 
   pub number-lt : (ss : List B) (t : B) → Mem t ss → numberIn same ss t < length ss
   number-lt [] t m = absurd (not-nil m)
   number-lt (s ∷ ss) t m =
-      ⊎-elim (λ e. omega (arith, number-here s t ss e)) (λ n. omega (arith, number-there s t ss n, number-lt ss t (mem-rest s t ss n m)))
+      ⊎-elim (λ e. omega (arith, number-here s t ss e)) (λ n. omega (arith, number-there s t ss n, number-lt ss t (later s t ss n m)))
       (same-cases same tells s t)
 
   pub getD-number : (ss : List B) (t d : B) → Mem t ss → getD ss (numberIn same ss t) d ≡ t
   getD-number [] t d m = absurd (not-nil m)
   getD-number (s ∷ ss) t d m =
       ⊎-elim (λ e. ap (λ (k : ℕ). getD (s ∷ ss) k d) (number-here s t ss e) ∙ e)
-      (λ n. ap (λ (k : ℕ). getD (s ∷ ss) k d) (number-there s t ss n) ∙ getD-number ss t d (mem-rest s t ss n m)) (same-cases same tells s t)
+      (λ n. ap (λ (k : ℕ). getD (s ∷ ss) k d) (number-there s t ss n) ∙ getD-number ss t d (later s t ss n m)) (same-cases same tells s t)
 
   pub number-getD : (ss : List B) (v : ℕ) (d : B) → Once ss → v < length ss → numberIn same ss (getD ss v d) ≡ v
   number-getD [] v d o h = absurd (omega arith)
@@ -85,7 +106,7 @@ module _ {B : Type 0} (same : B → B → Bool) (tells : Tells same) where
   number-left [] ts t m = absurd (not-nil m)
   number-left (s ∷ ss) ts t m =
       ⊎-elim (λ e. number-here s t (ss ++ ts) e ∙ sym (number-here s t ss e))
-      (λ n. number-there s t (ss ++ ts) n ∙ ap suc (number-left ss ts t (mem-rest s t ss n m)) ∙ sym (number-there s t ss n))
+      (λ n. number-there s t (ss ++ ts) n ∙ ap suc (number-left ss ts t (later s t ss n m)) ∙ sym (number-there s t ss n))
       (same-cases same tells s t)
 
   pub number-right : (ss ts : List B) (t : B) → (Mem t ss → ⊥) → numberIn same (ss ++ ts) t ≡ length ss + numberIn same ts t
@@ -115,32 +136,14 @@ module _ {B : Type 0} (same : B → B → Bool) (tells : Tells same) where
       ∙ count-number es e (o .1) k)
       (cases-cons m)
 
-  -- ---- edges
+  -- ---- edges, each once
 
   module _ (children : B → List B) where
-    -- the edges out of a board
-    edgesFrom : List B → B → List (ℕ × ℕ)
-    edgesFrom ss s = map (λ t. (numberIn same ss s, numberIn same ss t)) (children s)
-
-    pub mem-edges : (ss : List B) (p c : ℕ) → Mem (p, c) (edgesOf same children ss)
-        → (s : B) × Mem s ss × ((t : B) × Mem t (children s) × (p ≡ numberIn same ss s) × (c ≡ numberIn same ss t))
-    unfolding edgesOf edgesFrom
-    mem-edges ss p c m =
-        let r = mem-flatMap (edgesFrom ss) ss (p, c) .0 m in
-        let q = of-map {B = ℕ × ℕ} (λ t. (numberIn same ss (r .0), numberIn same ss t)) (children (r .0)) (r .2) in
-        (r .0, r .1, (q .0, q .1, ap (λ (x : ℕ × ℕ). x .0) (sym (q .2)), ap (λ (x : ℕ × ℕ). x .1) (sym (q .2))))
-
-    pub edge-mem : (ss : List B) (s t : B) → Mem s ss → Mem t (children s) → Mem (numberIn same ss s, numberIn same ss t) (edgesOf same children ss)
-    unfolding edgesOf edgesFrom
-    edge-mem ss s t m k =
-        mem-flatMap (edgesFrom ss) ss (numberIn same ss s, numberIn same ss t) .1
-        (s, m, to-map {B = ℕ × ℕ} (λ t. (numberIn same ss s, numberIn same ss t)) k)
-
     -- where each child of each board stands once, and is a board of the list, each edge stands once
     pub once-edges : (ss : List B) → Once ss → ((s : B) → Mem s ss → Once (children s)) → ((s t : B) → Mem s ss → Mem t (children s) → Mem t ss)
         → Once (edgesOf same children ss)
     unfolding edgesOf edgesFrom
-    once-edges ss o u closed = once-flatMap (edgesFrom ss) ss o
+    once-edges ss o u closed = once-flatMap (edgesFrom same children ss) ss o
         (λ s m. once-map {B = ℕ × ℕ} (λ t. (numberIn same ss s, numberIn same ss t)) (children s)
         (λ t u k j e. number-inj ss t u (closed s t m k) (closed s u m j) (ap (λ (x : ℕ × ℕ). x .1) e)) (u s m))
         (λ s t e m k a b.
@@ -155,8 +158,9 @@ module _ {B : Type 0} (same : B → B → Bool) (tells : Tells same) where
         ≡ weight same t (shares children es)
     unfolding edgesOf edgesFrom weight shares
     sum-edges es t o m closed =
-        sum-flatMap into (edgesFrom (boards es)) (boards es) ∙ sum-map (λ s. sumOf into (edgesFrom (boards es) s)) (λ e. e .0) es
-        ∙ sum-ext (λ e. sumOf into (edgesFrom (boards es) (e .0))) (λ e. sumOf at (map (λ c. (c, e .1)) (children (e .0)))) es each
+        sum-flatMap into (edgesFrom same children (boards es)) (boards es)
+        ∙ sum-map (λ s. sumOf into (edgesFrom same children (boards es) s)) (λ e. e .0) es
+        ∙ sum-ext (λ e. sumOf into (edgesFrom same children (boards es) (e .0))) (λ e. sumOf at (map (λ c. (c, e .1)) (children (e .0)))) es each
         ∙ sym (sum-flatMap at (λ e. map (λ c. (c, e .1)) (children (e .0))) es)
       where
         into : ℕ × ℕ → ℕ
@@ -165,7 +169,7 @@ module _ {B : Type 0} (same : B → B → Bool) (tells : Tells same) where
         at : Entry B → ℕ
         at e = cond (same (e .0) t) (e .1) 0
 
-        each : (e : Entry B) → Mem e es → sumOf into (edgesFrom (boards es) (e .0)) ≡ sumOf at (map (λ c. (c, e .1)) (children (e .0)))
+        each : (e : Entry B) → Mem e es → sumOf into (edgesFrom same children (boards es) (e .0)) ≡ sumOf at (map (λ c. (c, e .1)) (children (e .0)))
         each e k =
             sum-map into (λ c. (numberIn same (boards es) (e .0), numberIn same (boards es) c)) (children (e .0))
             ∙ sum-ext (λ c. into (numberIn same (boards es) (e .0), numberIn same (boards es) c)) (λ c. at (c, e .1)) (children (e .0))

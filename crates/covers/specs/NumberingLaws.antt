@@ -1,5 +1,5 @@
 -- Laws of numberings: how many there are is unique; a numbering is carried along a map that is one-to-one onto; none, and exactly one.
--- Rests on `Cuttings`. Assumes nothing.
+-- Rests on `Cuttings` and cells' `MemberLaws`. Assumes nothing.
 use mathlib.Core.Path.{_≡_, sym, ap, subst, _∙_}
 use mathlib.Core.List.{List·Memᴰ as Mem}
 use Prim.Native.Nat.{ℕ, _≤_, _<_}

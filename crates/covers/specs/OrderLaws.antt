@@ -1,5 +1,6 @@
--- Laws of the order of a layer, which makes no difference: two lists of entries in which every board has the same weight have the same sums, the
--- same next layer and, where no count is 0 and each board stands once, the same boards, equally many. Rests on `LayerLaws`. Assumes nothing.
+-- Laws of the order of a layer, which makes no difference: lists with the same entries give every board the same weight; two lists that do so have
+-- the same sums, next layers that do so too and, where no count is 0, the same boards, equally many where each stands once.
+-- Rests on `LayerLaws`. Assumes nothing.
 use mathlib.Core.Path.{_≡_, refl, sym, ap, ap₂, _∙_}
 use mathlib.Core.Logic.{_↔_, ⊎-elim}
 use mathlib.Core.Bool.{Bool, true, false, cond}
@@ -63,7 +64,7 @@ module _ {B : Type 0} (same : B → B → Bool) where
         → weight same t (gather same (shares children es)) ≡ sumOf (λ e. e .1 * sumOf (λ c. cond (same c t) 1 0) (children (e .0))) es
     weight-linear children t es =
         weight-gather same tells t (shares children es)
-        ∙ weight-shares same tells children t es
+        ∙ weight-shares same children t es
         ∙ sum-ext (λ e. sumOf (λ c. cond (same c t) (e .1) 0) (children (e .0))) (λ e. e .1 * sumOf (λ c. cond (same c t) 1 0) (children (e .0))) es
         (λ e m.
         sum-ext (λ c. cond (same c t) (e .1) 0) (λ c. e .1 * cond (same c t) 1 0) (children (e .0)) (λ c i. cond-times (same c t) (e .1))
@@ -126,5 +127,5 @@ module _ {B : Type 0} (same : B → B → Bool) where
     alike-next-length children es ds x y a =
         alike-length (gather same (shares children es)) (gather same (shares children ds))
         (once-gather same tells (shares children es)) (once-gather same tells (shares children ds))
-        (gather-positive same tells (shares children es) (shares-positive same tells children es x))
-        (gather-positive same tells (shares children ds) (shares-positive same tells children ds y)) (alike-next children es ds a)
+        (gather-positive same tells (shares children es) (shares-positive children es x))
+        (gather-positive same tells (shares children ds) (shares-positive children ds y)) (alike-next children es ds a)

@@ -1,7 +1,11 @@
--- Laws of the layers of a setting: their boards are accepted; each layer has fewer free cells, so that they come to an end; where every piece takes
--- equally many, a board stands in one layer, later layers have higher numbers, and the layers joined are in the order of first finding.
--- Rests on `LayerLaws`, `NodeLaws` and `ChildLaws`. Assumes nothing.
+-- Laws of the layers of a setting and of its nodes: their boards are accepted; each layer has fewer free cells, so that they come to an end; the
+-- nodes are the boards that child sequences reach, the start first; where every piece takes equally many free cells, a board stands in one layer,
+-- later layers have higher numbers, and the layers joined are in the order of first finding. Rests on `LayerLaws`, `NodeLaws`, `ChildLaws` and
+-- `WalkLaws`. Assumes nothing.
 use mathlib.Core.Path.{_≡_, refl, sym, ap, subst, _∙_}
+use mathlib.Core.Logic.{_↔_}
+use lib.ListN.{length, getD}
+use Rattle.covers.specs.WalkLaws.{chain-snoc}
 use mathlib.Core.Bool.{Bool}
 use mathlib.Core.List.{List, [], _∷_, _++_, flatMap, append-nil, List·Memᴰ as Mem, List·Memᴰ·eq-of-singleton as eq-of-singleton}
 use Prim.Native.Nat.{ℕ, zero, suc, _+_, _*_, _≤_, _<_}
@@ -12,10 +16,10 @@ use Rattle.cells.specs.Firsts.{Once, Tells, any, holds, addNew, addFirsts, firs
 use Rattle.cells.specs.FirstsLaws.{addFirsts-append, addFirsts-apart}
 use Rattle.cells.specs.MemberLaws.{no-member, mem-flatMap, flatMap-append, once-append}
 use Rattle.covers.specs.Cuttings.{Setting, childBoards, Laws, EqualSteps}
-use Rattle.covers.specs.Counts.{ChildSequence, Entry, boards, shares, weight, layer, layers, numberIn, layerOf}
+use Rattle.covers.specs.Counts.{counts, nodesOf, pathCountOf, ChildSequence, Entry, boards, layer, layers, numberIn, layerOf}
 use Rattle.covers.specs.NodeLaws.{chain-end-good, number-lt, number-left, number-right}
-use Rattle.covers.specs.GatherLaws.{mem-boards, weight-none}
-use Rattle.covers.specs.LayerLaws.{once-layer, mem-layer, weight-layer, boards-suc, mem-layers, layer-found, shares-suc, start-entry}
+use Rattle.covers.specs.GatherLaws.{mem-boards}
+use Rattle.covers.specs.LayerLaws.{layers-first, once-layer, mem-layer, boards-suc, mem-layers, layer-found, start-entry}
 use Rattle.covers.specs.ChildLaws.{child-ok, child-cell, child-equal}
 
 -- ---- the layers of a setting
@@ -28,7 +32,7 @@ module _ {B P : Type 0} (G : Setting B P) (L : Laws G) (s : B) (ok : G .Ok s) wh
       let r = mem-layer (G .sameBoard) (L .board-eq) (childBoards G) s n t .0 m in child-ok G L (r .0) t (layer-ok n (r .0) (r .1)) (r .2)
 
   -- each layer has one free cell fewer at least
-  layer-fewer : (n : ℕ) (t : B) → Mem t (boards (layerOf G s n)) → G .freeCount t + n ≤ G .freeCount s
+  pub layer-fewer : (n : ℕ) (t : B) → Mem t (boards (layerOf G s n)) → G .freeCount t + n ≤ G .freeCount s
   unfolding layer
   layer-fewer zero t m = omega (arith, ap (G .freeCount) (eq-of-singleton m))
   layer-fewer (suc n) t m =
@@ -48,10 +52,57 @@ module _ {B P : Type 0} (G : Setting B P) (L : Laws G) (s : B) (ok : G .Ok s) wh
       (r .0, omega arith, r .1)
     where
       first : Mem s (boards (layerOf G s 0))
-      first = start-entry (G .sameBoard) (L .board-eq) (childBoards G) s
+      first = start-entry (G .sameBoard) (childBoards G) s
 
       next : (t u : B) → (n : ℕ) × Mem t (boards (layerOf G s n)) → Mem u (childBoards G t) → (n : ℕ) × Mem u (boards (layerOf G s n))
       next t u r m = (suc (r .0), mem-layer (G .sameBoard) (L .board-eq) (childBoards G) s (r .0) u .1 (t, r .1, m))
+
+  -- and every board of a layer is reached
+  layer-reached : (n : ℕ) (t : B) → Mem t (boards (layerOf G s n)) → (xs : List B) × ChildSequence (childBoards G) s t xs
+  unfolding layer
+  layer-reached zero t m = (s ∷ [], (refl, sym (eq-of-singleton m)))
+  layer-reached (suc n) t m =
+      let r = mem-layer (G .sameBoard) (L .board-eq) (childBoards G) s n t .0 m in
+      let c = layer-reached n (r .0) (r .1) in
+      (c .0 ++ t ∷ [], chain-snoc (λ t u. Mem u (childBoards G t)) s (r .0) t (c .0) (c .1) (r .2))
+
+  -- ---- the nodes
+
+  -- a board of a layer is a node
+  pub layer-node : (n : ℕ) (t : B) → Mem t (boards (layerOf G s n)) → Mem t (nodesOf G s)
+  layer-node n t m = mem-layers (G .sameBoard) (childBoards G) s (G .freeCount s) t .1 (n, omega (arith, layer-fewer n t m), m)
+
+  pub node-layer : (t : B) → Mem t (nodesOf G s) → (n : ℕ) × (n ≤ G .freeCount s) × Mem t (boards (layerOf G s n))
+  node-layer t = mem-layers (G .sameBoard) (childBoards G) s (G .freeCount s) t .0
+
+  pub node-ok : (t : B) → Mem t (nodesOf G s) → G .Ok t
+  node-ok t m = let r = node-layer t m in layer-ok (r .0) t (r .2)
+
+  -- a child of a node is a node
+  pub child-node : (t u : B) → Mem t (nodesOf G s) → Mem u (childBoards G t) → Mem u (nodesOf G s)
+  child-node t u m k =
+      let r = node-layer t m in layer-node (suc (r .0)) u (mem-layer (G .sameBoard) (L .board-eq) (childBoards G) s (r .0) u .1 (t, r .2, k))
+
+  -- the nodes are the boards that child sequences reach
+  pub node-reached : (t : B) → Mem t (nodesOf G s) ↔ ((xs : List B) × ChildSequence (childBoards G) s t xs)
+  node-reached t = (
+    λ m. let r = node-layer t m in layer-reached (r .0) t (r .2),
+    λ c. let r = reached-layer t (c .0) (c .1) in layer-node (r .0) t (r .2),
+  )
+
+  -- node 0 is the start, with count 1
+  pub start-mem : Mem s (nodesOf G s)
+  start-mem = layer-node 0 s (start-entry (G .sameBoard) (childBoards G) s)
+
+  pub start-node : getD (nodesOf G s) 0 s ≡ s
+  start-node = let r = layers-first (G .sameBoard) (childBoards G) s (G .freeCount s) in ap (λ (es : List (Entry B)). getD (boards es) 0 s) (r .1)
+
+  pub some-node : 0 < length (nodesOf G s)
+  some-node =
+      let r = layers-first (G .sameBoard) (childBoards G) s (G .freeCount s) in omega (arith, ap (λ (es : List (Entry B)). length (boards es)) (r .1))
+
+  pub first-count : pathCountOf G s 0 ≡ 1
+  first-count = let r = layers-first (G .sameBoard) (childBoards G) s (G .freeCount s) in ap (λ (es : List (Entry B)). getD (counts es) 0 0) (r .1)
 
 -- ---- where every piece takes equally many free cells
 
@@ -97,10 +148,10 @@ module _ {B P : Type 0} (G : Setting B P) (L : Laws G) (a : ℕ) (E : EqualSteps
   unfolding layers
   once-layers zero = once-layer same tells children s zero
   once-layers (suc n) =
-      subst Once (sym (boards-suc same tells children s n))
+      subst Once (sym (boards-suc same children s n))
       (once-append (boards (upTo n)) (boards (at (suc n))) (once-layers n) (once-layer same tells children s (suc n))
       (λ t m k.
-      let r = mem-layers same tells children s n t .0 m in
+      let r = mem-layers same children s n t .0 m in
       let e = layers-disjoint (r .0) (suc n) t (r .2) k in
       let h = r .1 in
       omega arith))
@@ -111,12 +162,12 @@ module _ {B P : Type 0} (G : Setting B P) (L : Laws G) (a : ℕ) (E : EqualSteps
   found-next n =
       ap (λ (ss : List B). addFirsts same ss (flatMap children (boards (at n)))) (sym (append-nil (boards (upTo n))))
       ∙ addFirsts-apart same tells (boards (upTo n)) [] (flatMap children (boards (at n))) apart
-      ∙ ap (λ (ss : List B). boards (upTo n) ++ ss) (sym (layer-found same tells children s n)) ∙ sym (boards-suc same tells children s n)
+      ∙ ap (λ (ss : List B). boards (upTo n) ++ ss) (sym (layer-found same children s n)) ∙ sym (boards-suc same children s n)
     where
       apart : (t : B) → Mem t (flatMap children (boards (at n))) → Mem t (boards (upTo n)) → ⊥
       apart t m k =
           let r = mem-flatMap children (boards (at n)) t .0 m in
-          let j = mem-layers same tells children s n t .0 k in
+          let j = mem-layers same children s n t .0 k in
           let e = layers-disjoint (j .0) (suc n) t (j .2) (mem-layer same tells children s n t .1 r) in
           let h = j .1 in
           omega arith
@@ -126,7 +177,7 @@ module _ {B P : Type 0} (G : Setting B P) (L : Laws G) (a : ℕ) (E : EqualSteps
   found-layers zero = found-next zero
   found-layers (suc n) =
       ap (λ (ss : List B). firsts same (s ∷ ss))
-      (ap (flatMap children) (boards-suc same tells children s n) ∙ flatMap-append children (boards (upTo n)) (boards (at (suc n))))
+      (ap (flatMap children) (boards-suc same children s n) ∙ flatMap-append children (boards (upTo n)) (boards (at (suc n))))
       ∙ addFirsts-append same [] (s ∷ flatMap children (boards (upTo n))) (flatMap children (boards (at (suc n))))
       ∙ ap (λ (ss : List B). addFirsts same ss (flatMap children (boards (at (suc n))))) (found-layers n) ∙ found-next (suc n)
 
@@ -135,14 +186,14 @@ module _ {B P : Type 0} (G : Setting B P) (L : Laws G) (a : ℕ) (E : EqualSteps
       → numberIn same (boards (upTo n)) t < numberIn same (boards (upTo n)) u
   number-layers zero i j t u h k m l = absurd (omega arith)
   number-layers (suc n) i j t u h k m l =
-      subst (λ (ss : List B). numberIn same ss t < numberIn same ss u) (sym (boards-suc same tells children s n))
+      subst (λ (ss : List B). numberIn same ss t < numberIn same ss u) (sym (boards-suc same children s n))
       (go (decLt j (suc n)) (λ q. number-layers n i j t u h q m l))
     where
       first : Mem t (boards (upTo n))
-      first = mem-layers same tells children s n t .1 (i, omega arith, m)
+      first = mem-layers same children s n t .1 (i, omega arith, m)
 
       later : n < j → Mem u (boards (upTo n)) → ⊥
-      later q x = let r = mem-layers same tells children s n u .0 x in let e = layers-disjoint (r .0) j u (r .2) l in let b = r .1 in omega arith
+      later q x = let r = mem-layers same children s n u .0 x in let e = layers-disjoint (r .0) j u (r .2) l in let b = r .1 in omega arith
 
       go : Dec (j < suc n) → (j ≤ n → numberIn same (boards (upTo n)) t < numberIn same (boards (upTo n)) u)
           → numberIn same (boards (upTo n) ++ boards (at (suc n))) t < numberIn same (boards (upTo n) ++ boards (at (suc n))) u
@@ -151,7 +202,7 @@ module _ {B P : Type 0} (G : Setting B P) (L : Laws G) (a : ℕ) (E : EqualSteps
             arith,
             below (omega arith),
             number-left same tells (boards (upTo n)) (boards (at (suc n))) t first,
-            number-left same tells (boards (upTo n)) (boards (at (suc n))) u (mem-layers same tells children s n u .1 (j, omega arith, l)),
+            number-left same tells (boards (upTo n)) (boards (at (suc n))) u (mem-layers same children s n u .1 (j, omega arith, l)),
           )
       go (no q) below =
           omega (
@@ -161,30 +212,3 @@ module _ {B P : Type 0} (G : Setting B P) (L : Laws G) (a : ℕ) (E : EqualSteps
             number-right same tells (boards (upTo n)) (boards (at (suc n))) u
                 (later (omega arith)),
           )
-
-  -- among the children of the layers joined, a board has weight 0 before its layer and its path count from then on
-  other-layer : (n j : ℕ) (t : B) → Mem t (boards (at j)) → (n ≡ j → ⊥) → weight same t (at n) ≡ 0
-  other-layer n j t m ne = weight-none same tells t (at n) (λ k. ne (layers-disjoint n j t k m))
-
-  shares-before : (n j : ℕ) (t : B) → Mem t (boards (at (suc j))) → n < j → weight same t (shares children (upTo n)) ≡ 0
-  unfolding layers
-  shares-before zero j t m h =
-      sym (weight-layer same tells children s zero t) ∙ other-layer 1 (suc j) t m (λ e. omega arith)
-  shares-before (suc n) j t m h =
-      let o = other-layer (suc (suc n)) (suc j) t m (λ e. omega arith) in
-      omega (arith, shares-suc same tells children s n t, shares-before n j t m (omega arith))
-
-  pub shares-from : (n j : ℕ) (t : B) → Mem t (boards (at (suc j))) → j ≤ n → weight same t (shares children (upTo n)) ≡ weight same t (at (suc j))
-  unfolding layers
-  shares-from zero j t m h =
-      let z : j ≡ 0 = omega arith in
-      sym (weight-layer same tells children s zero t) ∙ ap (λ (i : ℕ). weight same t (at (suc i))) (sym z)
-  shares-from (suc n) j t m h = go (decLt j (suc n)) (λ q. shares-from n j t m q)
-    where
-      go : Dec (j < suc n) → (j ≤ n → weight same t (shares children (upTo n)) ≡ weight same t (at (suc j)))
-          → weight same t (shares children (upTo (suc n))) ≡ weight same t (at (suc j))
-      go (yes q) below =
-          let o = other-layer (suc (suc n)) (suc j) t m (λ e. omega arith) in omega (arith, shares-suc same tells children s n t, below (omega arith))
-      go (no q) below =
-          let z : suc n ≡ j = omega arith in
-          omega (arith, shares-suc same tells children s n t, shares-before n j t m (omega arith), ap (λ (i : ℕ). weight same t (at (suc i))) z)

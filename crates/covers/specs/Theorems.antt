@@ -1,5 +1,5 @@
 -- The theorem page: what is proved of the definitions of `Cuttings` and `Counts`, each statement with its words. A proof here is a citation.
--- Assumes nothing.
+-- Rests on the law files. Assumes nothing.
 use mathlib.Core.Path.{_≡_, sym, subst}
 use mathlib.Core.Logic.{_↔_}
 use mathlib.Core.Bool.{Bool, false, So, cond}
@@ -15,8 +15,8 @@ use Rattle.covers.specs.ChildLaws.{child-once}
 use Rattle.covers.specs.LayerLaws.{recurrence}
 use Rattle.covers.specs.OrderLaws.{alike-order, alike-next, alike-next-length, alike-fullCount}
 use Rattle.covers.specs.WalkLaws.{tiling-numbers, tiling-chain, chain-tiling}
-use Rattle.covers.specs.SettingLaws.{layer-ok, layer-empty, layers-disjoint, reached-layer}
-use Rattle.covers.specs.GraphLaws.{nodes-found, sum-rule, once-graph, tilings-numbered, path-count, reached-node, node-reached}
+use Rattle.covers.specs.SettingLaws.{node-reached, layer-ok, layer-empty, layers-disjoint, reached-layer}
+use Rattle.covers.specs.GraphLaws.{nodes-found, sum-rule, once-graph, tilings-numbered, path-count}
 use Rattle.covers.specs.CountLaws.{full-layerCount, full-graphCount, counts-agree, sequences-by-number, cuttings-by-number}
 
 -- ---- 1. Numberings
@@ -77,6 +77,10 @@ module _ {B P : Type 0} (G : Setting B P) (L : Laws G) (s : B) (ok : G .Ok s) wh
       → (n : ℕ) × (n ≤ G .freeCount s) × Mem t (boards (layerOf G s n))
   reached-in-layer = reached-layer G L s ok
 
+  -- The nodes, which are the boards of the layers, are the boards that child sequences reach.
+  pub nodes-are-reached : (t : B) → Mem t (nodesOf G s) ↔ ((xs : List B) × ChildSequence (childBoards G) s t xs)
+  nodes-are-reached = node-reached G L s ok
+
   -- Where every piece takes equally many free cells, two layers have no board in common,
   module _ (a : ℕ) (E : EqualSteps G a) where
     pub layers-apart : (n m : ℕ) (t : B) → Mem t (boards (layerOf G s n)) → Mem t (boards (layerOf G s m)) → n ≡ m
@@ -88,11 +92,8 @@ module _ {B P : Type 0} (G : Setting B P) (L : Laws G) (s : B) (ok : G .Ok s) wh
 
     -- ---- 5. The graph, where every piece takes equally many free cells
 
-    -- The nodes are the boards that child sequences reach,
-    pub nodes-are-reached : (t : B) → Mem t (nodesOf G s) ↔ ((xs : List B) × ChildSequence (childBoards G) s t xs)
-    nodes-are-reached t = (node-reached G L a E s ok t, λ r. reached-node G L a E s ok t (r .0) (r .1))
-
-    -- in the order of first finding: they are the first appearances among the start and the children of the nodes, in number order and child order.
+    -- The nodes are in the order of first finding: the first appearances among the start and the children of the nodes, parents in number order,
+    -- children in order.
     pub nodes-by-first-finding : nodesOf G s ≡ firsts (G .sameBoard) (s ∷ flatMap (childBoards G) (nodesOf G s))
     nodes-by-first-finding = nodes-found G L a E s ok
 
@@ -150,21 +151,23 @@ module _ {B P : Type 0} (G : Setting B P) (L : Laws G) (a : ℕ) (E : EqualSteps
 
 -- ---- 8. The order of a layer makes no difference
 
-module _ {B : Type 0} (same : B → B → Bool) (tells : Tells same) (children : B → List B) (es ds : List (Entry B)) where
+module _ {B : Type 0} (same : B → B → Bool) (tells : Tells same) (es ds : List (Entry B)) where
   -- Two lists with the same entries, each board once, have the same weights, whatever their order.
-  pub same-entries-same-weights : Once (boards es) → Once (boards ds) → ((e : Entry B) → Mem e es ↔ Mem e ds) → (t : B) → weight same t es ≡ weight same t ds
+  pub same-entries-same-weights : Once (boards es) → Once (boards ds) → ((e : Entry B) → Mem e es ↔ Mem e ds)
+      → (t : B) → weight same t es ≡ weight same t ds
   same-entries-same-weights = alike-order same tells es ds
 
-  -- Where two layers have the same weights, so have the next layers,
-  pub next-layer-by-weights : ((t : B) → weight same t es ≡ weight same t ds)
-      → (t : B) → weight same t (gather same (shares children es)) ≡ weight same t (gather same (shares children ds))
-  next-layer-by-weights = alike-next same tells children es ds
-
-  -- these have equally many boards, where no path count is 0,
-  pub next-layer-length : ((e : Entry B) → Mem e es → 0 < e .1) → ((e : Entry B) → Mem e ds → 0 < e .1)
-      → ((t : B) → weight same t es ≡ weight same t ds) → length (gather same (shares children es)) ≡ length (gather same (shares children ds))
-  next-layer-length = alike-next-length same tells children es ds
-
-  -- and the full board has the same path count in both layers.
+  -- Where two layers have the same weights, the full board has the same path count in both;
   pub full-count-by-weights : (full : B → Bool) → ((t : B) → weight same t es ≡ weight same t ds) → fullCount full es ≡ fullCount full ds
   full-count-by-weights full = alike-fullCount same tells full es ds
+
+  module _ (children : B → List B) where
+    -- the next layers have the same weights,
+    pub next-layer-by-weights : ((t : B) → weight same t es ≡ weight same t ds)
+        → (t : B) → weight same t (gather same (shares children es)) ≡ weight same t (gather same (shares children ds))
+    next-layer-by-weights = alike-next same tells children es ds
+
+    -- and equally many boards, where no path count is 0.
+    pub next-layer-length : ((e : Entry B) → Mem e es → 0 < e .1) → ((e : Entry B) → Mem e ds → 0 < e .1)
+        → ((t : B) → weight same t es ≡ weight same t ds) → length (gather same (shares children es)) ≡ length (gather same (shares children ds))
+    next-layer-length = alike-next-length same tells children es ds

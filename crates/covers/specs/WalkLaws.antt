@@ -186,7 +186,7 @@ module _ (es : List (ℕ × ℕ)) (count : ℕ → ℕ) where
   abbrev back : ℕ → ℕ → ℕ × ℕ
   back v m = turn count (parentsOf es v) m
 
-  walk-first : (k m : ℕ) → walk es count k 0 m ≡ 0 ∷ []
+  pub walk-first : (k m : ℕ) → walk es count k 0 m ≡ 0 ∷ []
   unfolding walk
   walk-first zero m = refl
   walk-first (suc k) m = refl
@@ -218,7 +218,7 @@ module _ (n : ℕ) (es : List (ℕ × ℕ)) (count : ℕ → ℕ) (S : SumRule n
       let r = turn-in count (parentsOf es (suc v)) m (omega (arith, S .sums (suc v) (omega arith) l)) in
       (lower (suc v) (back es count (suc v) m .0) (r .0), r .1, r .0)
 
-  -- v steps are enough, and more fuel changes nothing
+  -- v steps are enough, and more change nothing
   pub walk-enough : (k v m : ℕ) → v ≤ k → v < n → m < count v → walk es count k v m ≡ tiling es count v m
   unfolding tiling
   walk-enough k v m a l h = below n (λ k m a h. walk-first es count k m) next v l k m a h
@@ -234,7 +234,7 @@ module _ (n : ℕ) (es : List (ℕ × ℕ)) (count : ℕ → ℕ) (S : SumRule n
           ∙ ap (λ (xs : List ℕ). xs ++ suc v ∷ []) (enough (k - 1) (omega arith) ∙ sym (enough (suc v - 1) (omega arith)))
           ∙ sym (walk-next es count (suc v) v m (omega arith))
 
-  tiling-next : (v m : ℕ) → suc v < n → m < count (suc v)
+  pub tiling-next : (v m : ℕ) → suc v < n → m < count (suc v)
       → tiling es count (suc v) m ≡ tiling es count (back es count (suc v) m .0) (back es count (suc v) m .1) ++ suc v ∷ []
   unfolding tiling
   tiling-next v m l h =
@@ -246,14 +246,10 @@ module _ (n : ℕ) (es : List (ℕ × ℕ)) (count : ℕ → ℕ) (S : SumRule n
 
   -- ---- node 0: one chain, one number
 
-  steps-rise : (a b : ℕ) (xs : List ℕ) → Steps (λ p c. Mem (p, c) es) a xs b → a ≤ b
-  steps-rise a b [] s = omega arith
-  steps-rise a b (x ∷ xs) s = omega (arith, S .rises a x (s .0) .0, steps-rise x b xs (s .1))
-
   chain-first : (xs : List ℕ) → Paths es 0 xs → 0 ∷ [] ≡ xs
   chain-first [] s = absurd s
   chain-first (x ∷ []) s = ap (λ (y : ℕ). y ∷ []) (sym (s .0))
-  chain-first (x ∷ y ∷ xs) s = absurd (omega (arith, S .rises x y (s .1 .0) .0, steps-rise y 0 xs (s .1 .1)))
+  chain-first (x ∷ y ∷ xs) s = let r = steps-last (λ p c. Mem (p, c) es) x y 0 xs (s .1) in absurd (omega (arith, S .rises (r .0) 0 (r .3) .0))
 
   first-numbers : Numbering (Paths es 0) (count 0) (tiling es count 0)
   unfolding tiling
