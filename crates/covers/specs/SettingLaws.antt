@@ -157,7 +157,7 @@ module _ {B P : Type 0} (G : Setting B P) (L : Laws G) (a : ℕ) (E : EqualSteps
       omega arith))
 
   -- one more layer: the children of the last that are not there yet, each where it is first found
-  found-next : (n : ℕ) → addFirsts same (boards (upTo n)) (flatMap children (boards (at n))) ≡ boards (upTo (suc n))
+  pub found-next : (n : ℕ) → addFirsts same (boards (upTo n)) (flatMap children (boards (at n))) ≡ boards (upTo (suc n))
   unfolding firsts
   found-next n =
       ap (λ (ss : List B). addFirsts same ss (flatMap children (boards (at n)))) (sym (append-nil (boards (upTo n))))
