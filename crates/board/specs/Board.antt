@@ -2,7 +2,7 @@
 -- 01's, from its sections Boards and Children. Assumes nothing.
 use mathlib.Core.Path.{_≡_}
 use mathlib.Core.Bool.{Bool, false, not, cond, _&&_, _||_}
-use Prim.Native.Nat.{ℕ, _+_, _*_, _/_, _%_}
+use Prim.Native.Nat.{ℕ, _+_, _-_, _*_, _/_, _%_}
 use lib.Dec.{eqb, ltb, leb}
 use lib.IntN.{ℤ, pos, negsuc, natAbs}
 use Rattle.cells.specs.Set.{hasCell, fromBits, unionOf, size}
@@ -138,6 +138,14 @@ tBoard n scale = shaped ((2 * n + 1) * scale) (2 * scale) scale (n * scale) ((n 
 -- the 0 by 0 board
 abbrev pub noBoard : Board
 noBoard = record { width = 0; height = 0; fixed = 0; laid = 0 }
+
+-- the board of the same size with no marks at all
+abbrev pub bare : Board → Board
+bare b = record { width = b .width; height = b .height; fixed = 0; laid = 0 }
+
+-- "A board in an output, layer or node is four words, both kinds together; its fixed marks are the starting board's": the board of a number of marks
+abbrev pub boardAt : Board → ℕ → Board
+boardAt b n = record { width = b .width; height = b .height; fixed = b .fixed; laid = n - b .fixed }
 
 -- ---- the answers of the code
 

@@ -9,4 +9,6 @@ pub mod PruneLaws
 pub mod FitLaws
 pub mod PieceLaws
 pub mod ChildLaws
+pub mod FreeLaws
+pub mod WriteLaws
 pub mod Examples

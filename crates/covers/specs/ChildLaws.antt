@@ -1,5 +1,5 @@
 -- Laws of child sequences and placing sequences: the step from a board to its child lays the piece `stepPiece`, so the child sequences from a board
--- to the full board are as its placing sequences. No pruning condition. Rests on `Cuttings`, `Counts` and `NumberingLaws`. Assumes nothing.
+-- to the full board correspond to its placing sequences. No pruning condition. Rests on `Cuttings`, `Counts` and `NumberingLaws`. Assumes nothing.
 use mathlib.Core.Path.{_≡_, refl, sym, ap, ap₂, subst, _∙_}
 use mathlib.Core.Bool.{So}
 use mathlib.Core.List.{List, [], _∷_, nil≢cons, cons≢nil, head-eq-of-cons-eq, tail-eq-of-cons-eq, List·Memᴰ as Mem, Memᴰ·cast as cast, Memᴰ·map as mem-map, Memᴰ·of-map as of-map}

@@ -138,7 +138,7 @@ module _ {B P : Type 0} (G : Setting B P) (L : Laws G) (a : ℕ) (E : EqualSteps
 
     -- ---- both counts agree
 
-    -- the full boards in the layers joined weigh as many as the layer count
+    -- the full boards in the layers joined have path counts that add up to the layer count
     sum-layers : (n : ℕ) → fullCount (G .full) (layers (G .sameBoard) (childBoards G) s n) ≡ layerCountTo G s n
     unfolding layers layer layerCountTo fullCount sumOf
     sum-layers zero = rw notFull

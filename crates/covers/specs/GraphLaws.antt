@@ -71,8 +71,8 @@ module _ {B P : Type 0} (G : Setting B P) (L : Laws G) (a : ℕ) (E : EqualSteps
       ∙ ap (λ (es : List (Entry B)). nodes ++ boards es) (sym (layer-empty G L s ok (suc top) (omega arith)))
       ∙ sym (boards-suc same children s top) ∙ sym (found-layers G L a E s ok top)
 
-  pub layer-count : (j : ℕ) (e : Entry B) → Mem e (at j) → count (number (e .0)) ≡ e .1
-  layer-count j e m = count-number same tells (upTo top) e once-nodes
+  pub entry-count : (j : ℕ) (e : Entry B) → Mem e (at j) → count (number (e .0)) ≡ e .1
+  entry-count j e m = count-number same tells (upTo top) e once-nodes
       (layer-entry same children s top j e (omega (arith, layer-fewer G L s ok j (e .0) (mem-boards (at j) e m))) m)
 
   -- parents stand before children
@@ -175,5 +175,5 @@ module _ {B P : Type 0} (G : Setting B P) (L : Laws G) (a : ℕ) (E : EqualSteps
       let n = layer-node G L s ok j (e .0) (mem-boards (at j) e m) in
       let r = tilings-numbered (number (e .0)) (number-lt same tells nodes (e .0) n) in
       let f : ℕ → List B = λ k. map node (tiling edges count (number (e .0)) k) in
-      subst (λ (k : ℕ). Exactly k (ChildSequence children s (e .0))) (layer-count j e m)
+      subst (λ (k : ℕ). Exactly k (ChildSequence children s (e .0))) (entry-count j e m)
       (f, subst (λ (t : B). Numbering (ChildSequence children s t) (count (number (e .0))) f) (getD-number same tells nodes (e .0) s n) r)

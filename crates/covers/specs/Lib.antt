@@ -14,6 +14,8 @@ pub mod OrderLaws
 pub mod WalkLaws
 pub mod SettingLaws
 pub mod GraphLaws
+pub mod FindingLaws
+pub mod PassLaws
 pub mod CountLaws
 pub mod CellSets
 pub mod CellSetLaws

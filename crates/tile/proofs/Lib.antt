@@ -1,4 +1,5 @@
 -- Laws that only the proofs of this crate's code cite.
 pub mod CodeLaws
+pub mod CountLaws
 pub mod KeyLaws
 pub mod MadeLaws

@@ -1,6 +1,6 @@
 -- Examples of the definitions, by computation. Codes: 0 Up, 1 Down, 2 Left, 3 Right, 4 UpLeft, 5 UpRight, 6 DownRight, 7 DownLeft.
 use mathlib.Core.Path.{_≡_, refl}
-use mathlib.Core.Bool.{false}
+use mathlib.Core.Bool.{true, false}
 use mathlib.Core.List.{[], _∷_}
 use lib.IntN.{pos, negsuc}
 use lib.ListN.{length}
@@ -8,8 +8,8 @@ use Rattle.tile.specs.declared.direction.Axis.the-variants as A
 use Rattle.tile.specs.Refusal.{refused, given}
 use Rattle.tile.specs.Position.{at, origin}
 use Rattle.tile.specs.Direction.{step, rotate, reflect, onCode}
-use Rattle.tile.specs.Path.{Path, points, cells, cellCount, EdgeJoined, orbit, lPath, tPath}
-use Rattle.tile.specs.Stored.{readTile, tileOf, readTiles, tilesOf, lTile, tTile}
+use Rattle.tile.specs.Path.{Path, points, cells, cellCount, EdgeJoined, sharedCount, equalCounts, orbit, lPath, tPath}
+use Rattle.tile.specs.Stored.{readTile, tileOf, readTiles, readEqualTiles, tilesOf, lTile, tTile}
 use Rattle.tile.specs.EdgeTest.{edgeJoined, edgeJoined-iff}
 
 -- ---- directions
@@ -64,6 +64,19 @@ crossing-cells = refl
 there-and-back : cellCount (3 ∷ 2 ∷ []) ≡ 2
 unfolding cellCount step
 there-and-back = refl
+
+-- Right covers 2 cells and Right, Right covers 3; UpLeft and Left cover 2 each
+right-unequal : equalCounts ((3 ∷ []) ∷ (3 ∷ 3 ∷ []) ∷ []) ≡ false
+unfolding equalCounts step
+right-unequal = refl
+
+left-equal : equalCounts ((4 ∷ []) ∷ (2 ∷ []) ∷ []) ≡ true
+unfolding equalCounts step
+left-equal = refl
+
+left-shared : sharedCount ((4 ∷ []) ∷ (2 ∷ []) ∷ []) ≡ 2
+unfolding sharedCount step
+left-shared = refl
 
 -- ---- the Rust's tiles
 
@@ -131,6 +144,10 @@ both-faults = refl
 bad-length : readTiles (record { count = 1; lens = 33 ∷ []; codes = [] }) ≡ refused 5
 unfolding readTiles
 bad-length = refl
+
+stored-unequal : readEqualTiles (tilesOf ((3 ∷ []) ∷ (3 ∷ 3 ∷ []) ∷ [])) ≡ refused 7
+unfolding readEqualTiles tilesOf step
+stored-unequal = refl
 
 stored-orbit : readTiles (tilesOf (orbit (3 ∷ []))) ≡ given ((3 ∷ []) ∷ (1 ∷ []) ∷ (2 ∷ []) ∷ (0 ∷ []) ∷ [])
 unfolding readTiles tilesOf orbit rotate reflect

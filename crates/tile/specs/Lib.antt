@@ -12,5 +12,6 @@ pub mod DirectionLaws
 pub mod PathLaws
 pub mod OrbitLaws
 pub mod StoredLaws
+pub mod EqualLaws
 pub mod EdgeTest
 pub mod Examples

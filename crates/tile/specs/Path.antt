@@ -1,7 +1,7 @@
 -- Definitions: a tile is a path, a list of direction codes. Its points, its cells, its symmetries and its orbit; the conditions that demand 3
 -- puts on tiles; and the paths of the Rust's `box_tile`, `l_tile` and `t_tile`. Assumes nothing.
 use mathlib.Core.Path.{_≡_}
-use mathlib.Core.Bool.{Bool, true, false, _&&_}
+use mathlib.Core.Bool.{Bool, true, false, not, _&&_}
 use mathlib.Core.List.{List, [], _∷_, _++_, map, List·Memᴰ as Mem}
 use Prim.Native.Nat.{ℕ, zero, suc, _-_, _≤_, _<_}
 use lib.Dec.{eqb, ltb}
@@ -52,6 +52,17 @@ containsSingle paths = any isSingle paths
 -- "tiles that all cover equally many cells"
 abbrev pub EqualCounts : List Path → Type 0
 EqualCounts tiles = (s t : Path) → Mem s tiles → Mem t tiles → cellCount s ≡ cellCount t
+
+-- the number of cells that each tile covers, where all cover equally many: the first tile's, 0 with no tiles
+unfoldable pub sharedCount : List Path → ℕ
+unfolding cellCount
+sharedCount [] = 0
+sharedCount (path ∷ paths) = cellCount path
+
+-- whether all tiles cover equally many cells
+unfoldable pub equalCounts : List Path → Bool
+unfolding cellCount sharedCount any
+equalCounts tiles = not (any (λ path. not (eqb (cellCount path) (sharedCount tiles))) tiles)
 
 -- two positions share an edge: one is a step Up, Down, Left or Right from the other
 abbrev pub Beside : Position → Position → Type 0

@@ -5,7 +5,7 @@ use native.Mathlib.Omega.{arith}
 use lib.Dec.{lit<}
 use Rattle.tile.specs.declared.refusal.Refusal.{Refusal}
 use Rattle.tile.specs.declared.refusal.Refusal.the-variants as R
-use Rattle.tile.specs.Refusal.{Answer, refused, given, refusalNumber, refusalOf}
+use Rattle.tile.specs.Refusal.{Answer, refused, given, bindAnswer, refusalNumber, refusalOf}
 
 pub refusalNumber-pos : (r : Refusal) → 0 < refusalNumber r
 refusalNumber-pos R.Cut = lit< tt
@@ -31,3 +31,8 @@ refused-of (given x) r e = absurd (omega (arith, refusalNumber-pos r))
 pub clash : {A : Type 0} (a : Answer A) {n : ℕ} → a ≡ refused (suc n) → 0 ≡ refusalOf a → ⊥
 unfolding refusalOf
 clash a e z = omega (arith, ap refusalOf e)
+
+-- no refusal is a value
+pub refused-given : {A : Type 0} (n : ℕ) (a : A) → refused n ≡ given a → ⊥
+unfolding refusalOf bindAnswer
+refused-given {A} n a e = let z : n ≡ suc n = ap (λ (x : Answer A). refusalOf (bindAnswer {A = A} {B = A} x (λ y. refused (suc n)))) e in omega arith

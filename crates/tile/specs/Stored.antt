@@ -16,8 +16,8 @@ use Rattle.tile.specs.declared.CellCount.{CellCount}
 use Rattle.tile.specs.declared.CellCount.the-variants as C
 use Rattle.tile.specs.declared.Contains.{Contains}
 use Rattle.tile.specs.declared.Contains.the-variants as H
-use Rattle.tile.specs.Refusal.{Answer, refused, given, refusalNumber, verdictNumber, refusalOf, valueOr}
-use Rattle.tile.specs.Path.{Path, codesOk, lPath, tPath}
+use Rattle.tile.specs.Refusal.{Answer, refused, given, bindAnswer, refusalNumber, verdictNumber, refusalOf, valueOr}
+use Rattle.tile.specs.Path.{Path, codesOk, equalCounts, lPath, tPath}
 
 -- ---- one tile
 
@@ -52,6 +52,11 @@ unfoldable pub readTiles : Tiles → Answer (List Path)
 unfolding soundAt listOf allBelow
 readTiles ts =
     cond (leb (ts .count) 64) (cond (allBelow (soundAt (ts .lens) (ts .codes)) (ts .count)) (given (pathsIn ts)) (refused 5)) (refused 6)
+
+-- 01: refusals 6 and 5, then 7, "two tiles with different numbers of cells"
+unfoldable pub readEqualTiles : Tiles → Answer (List Path)
+unfolding readTiles bindAnswer equalCounts
+readEqualTiles ts = bindAnswer (readTiles ts) (λ paths. cond (equalCounts paths) (given paths) (refused 7))
 
 -- paths that can be stored
 abbrev pub Storable : List Path → Type 0

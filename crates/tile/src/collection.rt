@@ -1,19 +1,22 @@
-// Collections of tiles in their struct: tests of every tile, and a collection with one tile more,
-// by which an orbit is collected. Private helpers; they ask that counts and lengths are in range.
+// Collections of tiles in their struct: tests of every tile, the numbers of cells, and a collection
+// with one tile more, by which an orbit is collected. Private helpers; they ask that counts and
+// lengths are in range.
 use crate::Tile;
 use crate::Tiles;
 use crate::codes;
 use crate::codes::Motion;
+use crate::points;
 ghost use mathlib.Core.Path.{_≡_};
-ghost use mathlib.Core.Bool.{_&&_};
+ghost use mathlib.Core.Bool.{So, _&&_};
 ghost use mathlib.Core.List.{[], _∷_, _++_};
 ghost use Prim.Native.Nat.{_+_, _≤_, _<_};
 ghost use lib.Dec.{leb};
 ghost use lib.ListN.{length, take, drop};
 ghost use Rattle.cells.specs.Arrays.{listOf, allBelow};
 ghost use Rattle.cells.specs.Firsts.{holds, addNew, addFirsts};
-ghost use Rattle.tile.specs.Path.{codesOk, containsSingle, samePath, turns};
-ghost use Rattle.tile.specs.Stored.{pathIn, pathsIn, soundAt, tilesOf};
+ghost use Rattle.tile.specs.Refusal.{given};
+ghost use Rattle.tile.specs.Path.{codesOk, cellCount, containsSingle, sharedCount, equalCounts, samePath, turns};
+ghost use Rattle.tile.specs.Stored.{pathIn, pathsIn, soundAt, readTiles, tilesOf};
 ghost use Rattle.tile.specs.Inner.{overlay, CleanTile, Clean};
 
 // Whether len codes from a place on are a path.
@@ -61,6 +64,46 @@ pub fn has_single(tiles: Tiles) -> bool
         i += 1;
     }
     false
+}
+
+// How many cells the path of len codes from a place on has.
+fn count_at(codes: &[u8], from: usize, len: usize) -> usize
+    requires { ⌜ (len ≤ 32) × (from + len ≤ length (now codes)) × So (codesOk (take len (drop from (now codes)))) ⌝ }
+    ensures { λ r. ⌜ r ≡ cellCount (take len (drop from (now (codes .entry)))) ⌝ }
+{
+    let end = from + len;
+    points::count(&codes[from..end])
+}
+
+// How many cells the first tile has, 0 with no tiles.
+pub fn first_count(tiles: Tiles) -> usize
+    requires { ⌜ readTiles tiles ≡ given (pathsIn tiles) ⌝ }
+    ensures { λ r. ⌜ r ≡ sharedCount (pathsIn tiles) ⌝ }
+{
+    let lens = tiles.lens;
+    let codes = tiles.codes;
+    if tiles.count == 0 {
+        return 0;
+    }
+    count_at(&codes, 0, lens[0])
+}
+
+// Whether every tile has as many cells as the first, which is told.
+pub fn all_cover(tiles: Tiles, cells: usize) -> bool
+    requires { ⌜ (readTiles tiles ≡ given (pathsIn tiles)) × (cells ≡ sharedCount (pathsIn tiles)) ⌝ }
+    ensures { λ r. ⌜ r ≡ equalCounts (pathsIn tiles) ⌝ }
+{
+    let count = tiles.count;
+    let lens = tiles.lens;
+    let codes = tiles.codes;
+    let mut i = 0;
+    while i < count {
+        if count_at(&codes, 32 * i, lens[i]) != cells {
+            return false;
+        }
+        i += 1;
+    }
+    true
 }
 
 // Whether len codes from a place on are the given path.

@@ -11,8 +11,8 @@ use refusal::Verdict;
 ghost use mathlib.Core.Path.{_≡_};
 ghost use mathlib.Core.List.{[]};
 ghost use Rattle.tile.specs.Refusal.{refusalNumber, mapAnswer, refusalOf, verdictNumber};
-ghost use Rattle.tile.specs.Path.{cellCount, containsSingle, rotated, reflected, orbit};
-ghost use Rattle.tile.specs.Stored.{readTile, readTiles, tileOf, tilesOf, MakesTile, MakesTiles, cellCountAnswer, containsAnswer, lTile, tTile};
+ghost use Rattle.tile.specs.Path.{cellCount, sharedCount, containsSingle, rotated, reflected, orbit};
+ghost use Rattle.tile.specs.Stored.{readTile, readTiles, readEqualTiles, tileOf, tilesOf, MakesTile, MakesTiles, cellCountAnswer, containsAnswer, lTile, tTile};
 
 mod codes;
 mod collection;
@@ -205,6 +205,24 @@ impl Tiles {
         match verdict {
             Verdict::Accepted => Contains::Is(collection::has_single(self)),
             Verdict::Refused(refusal) => Contains::Refused(refusal),
+        }
+    }
+
+    // The number of cells that each of the tiles covers, 0 with no tiles; refusal 6, then 5, then 7
+    // for two tiles with different numbers of cells.
+    pub fn count_cells(self) -> CellCount
+        ensures { λ r. ⌜ cellCountAnswer r ≡ mapAnswer sharedCount (readEqualTiles self) ⌝ }
+    {
+        let verdict = self.check();
+        match verdict {
+            Verdict::Accepted => {
+                let cells = collection::first_count(self);
+                if collection::all_cover(self, cells) {
+                    return CellCount::Is(cells);
+                }
+                CellCount::Refused(Refusal::UnequalTiles)
+            }
+            Verdict::Refused(refusal) => CellCount::Refused(refusal),
         }
     }
 }

@@ -1,0 +1,277 @@
+-- Laws of a graph in lent words: what the search for a node finds; the edges out of a node; and what is stored is read back: one edge more, and the
+-- words behind the last node, edge or number cleared. Rests on `Graph`, `cells` and `covers`. Assumes nothing.
+use mathlib.Core.Path.{_≡_, refl, sym, ap, ap₂, _∙_, subst}
+use mathlib.Core.Logic.{_↔_, ⊎-elim}
+use mathlib.Core.Bool.{Bool, true, false, cond, _||_}
+use mathlib.Core.List.{List, [], _∷_, _++_, List·Memᴰ as Mem, List·Memᴰ·head as here, List·Memᴰ·tail as there, List·Memᴰ·cases-cons as cases-cons, List·Memᴰ·not-nil as not-nil}
+use mathlib.Core.Option.{none, some}
+use Prim.Native.Nat.{ℕ, zero, suc, _+_, _-_, _*_, _/_, _%_, _^_, _≤_, _<_, min}
+use native.Mathlib.Nat.{add-zero, zero-add}
+use native.Mathlib.Decide.{ℕ-discrete, decLt}
+use native.Mathlib.Omega.{arith}
+use borrow.Author.Tests.{lt-ltb, le-ltb, eq-eqb, ne-eqb}
+use lib.Dec.{eqb, ltb}
+use lib.Pow.{pow-pos}
+use lib.ListN.{length, getD, set, length-set, List·getD-eq-default}
+use lib.Seq.{getD-set-same, getD-set-other}
+use Rattle.cells.specs.Firsts.{any, holds}
+use Rattle.cells.specs.Words.{value, wordsOf, Small}
+use Rattle.cells.specs.WordLaws.{wordsOf-value}
+use Rattle.cells.specs.Arrays.{listOf}
+use Rattle.cells.specs.ArrayLaws.{length-listOf, getD-listOf, listOf-ext, listOf-eta, listOf-snoc}
+use Rattle.cells.specs.Lists.{setAt, clearedFrom, wordAt, wordsFor}
+use Rattle.cells.specs.ListLaws.{setAt-value, wordAt-past}
+use Rattle.covers.specs.Counts.{numberIn}
+use Rattle.graph.specs.Graph.{firstFrom, findNode, edgeAt, edgesIn, edgesFrom, numbersFor, edgeWord, edgesFor}
+
+-- ---- the search for a node
+
+module _ (test : ℕ → Bool) where
+  -- place k passes the test and none before it does
+  pub firstFrom-found : (i count k : ℕ) → i ≤ k → k < i + count → test k ≡ true → ((j : ℕ) → i ≤ j → j < k → test j ≡ false)
+      → firstFrom test i count ≡ some k
+  unfolding firstFrom
+  firstFrom-found i zero k h l e n = absurd (omega arith)
+  firstFrom-found i (suc count) k h l e n =
+      go (ℕ-discrete i k) (λ q. firstFrom-found (suc i) count k (omega arith) (omega arith) e (λ j a b. n j (omega arith) b))
+    where
+      go : Dec (i ≡ k) → ((i ≡ k → ⊥) → firstFrom test (suc i) count ≡ some k) → cond (test i) (some i) (firstFrom test (suc i) count) ≡ some k
+      go (yes q) later = rw (ap test q ∙ e) (ap some q)
+      go (no q) later = rw (n i (omega arith) (omega arith)) (later q)
+
+  -- no place passes the test
+  pub firstFrom-missed : (i count : ℕ) → ((j : ℕ) → i ≤ j → j < i + count → test j ≡ false) → firstFrom test i count ≡ none
+  unfolding firstFrom
+  firstFrom-missed i zero n = refl
+  firstFrom-missed i (suc count) n =
+      rw (n i (omega arith) (omega arith)) (firstFrom-missed (suc i) count (λ j a b. n j (omega arith) (omega arith)))
+
+  -- the places hold a list's elements: the first is the element's number
+  firstFrom-held : (bs : List ℕ) (v i : ℕ) → ((k : ℕ) → k < length bs → test (i + k) ≡ eqb (getD bs k 0) v)
+      → firstFrom test i (length bs) ≡ cond (holds eqb bs v) (some (i + numberIn eqb bs v)) none
+  unfolding firstFrom holds any numberIn
+  firstFrom-held [] v i h = refl
+  firstFrom-held (b ∷ bs) v i h =
+      go (eqb b v) (sym (ap test (add-zero i)) ∙ h 0 (omega arith))
+      (firstFrom-held bs v (suc i) (λ k l. let q : suc i + k ≡ i + suc k = omega arith in ap test q ∙ h (suc k) (omega arith)))
+    where
+      go : (t : Bool) → test i ≡ t → firstFrom test (suc i) (length bs) ≡ cond (holds eqb bs v) (some (suc i + numberIn eqb bs v)) none
+          → cond (test i) (some i) (firstFrom test (suc i) (length bs))
+          ≡ cond (t || holds eqb bs v) (some (i + cond t 0 (suc (numberIn eqb bs v)))) none
+      go true e r = rw e (ap some (sym (add-zero i)))
+      go false e r =
+          let q : suc i + numberIn eqb bs v ≡ i + suc (numberIn eqb bs v) = omega arith in
+          rw e (r ∙ ap (λ (k : ℕ). cond (holds eqb bs v) (some k) none) q)
+
+-- the search in words that hold a list of nodes
+pub found-held : (ws : List ℕ) (bs : List ℕ) (v : ℕ) → length bs ≤ length ws / 4 → listOf (setAt ws) (length bs) ≡ bs
+    → findNode ws 0 (length bs) v ≡ cond (holds eqb bs v) (some (numberIn eqb bs v)) none
+unfolding findNode
+found-held ws bs v h e =
+    let all : min (length bs) (length ws / 4) - 0 ≡ length bs = omega arith in
+    ap (firstFrom (λ i. eqb (setAt ws i) v) 0) all
+    ∙ firstFrom-held (λ i. eqb (setAt ws i) v) bs v 0
+    (λ k l. ap (λ (n : ℕ). eqb n v) (ap (setAt ws) (zero-add k) ∙ sym (getD-listOf (setAt ws) (length bs) k 0 l) ∙ ap (λ (l : List ℕ). getD l k 0) e))
+    ∙ ap (λ (k : ℕ). cond (holds eqb bs v) (some k) none) (zero-add (numberIn eqb bs v))
+
+-- ---- the edges out of a node
+
+edgesFrom-here : (e : ℕ × ℕ) (es : List (ℕ × ℕ)) (v : ℕ) → e .0 ≡ v → edgesFrom (e ∷ es) v ≡ e .1 ∷ edgesFrom es v
+unfolding edgesFrom
+edgesFrom-here e es v q = rw (eq-eqb (e .0) v q)
+
+edgesFrom-there : (e : ℕ × ℕ) (es : List (ℕ × ℕ)) (v : ℕ) → (e .0 ≡ v → ⊥) → edgesFrom (e ∷ es) v ≡ edgesFrom es v
+unfolding edgesFrom
+edgesFrom-there e es v n = rw (ne-eqb (e .0) v n)
+
+pub edgesFrom-iff : (es : List (ℕ × ℕ)) (v c : ℕ) → Mem c (edgesFrom es v) ↔ Mem (v, c) es
+unfolding edgesFrom
+edgesFrom-iff [] v c = (λ m. absurd (not-nil m), λ m. absurd (not-nil m))
+edgesFrom-iff (e ∷ es) v c = go (ℕ-discrete (e .0) v) (edgesFrom-iff es v c)
+  where
+    go : Dec (e .0 ≡ v) → Mem c (edgesFrom es v) ↔ Mem (v, c) es → Mem c (edgesFrom (e ∷ es) v) ↔ Mem (v, c) (e ∷ es)
+    go (yes q) rest = (
+      λ m.
+          ⊎-elim (λ f. here (ap₂ (λ (a b : ℕ). (a, b)) (sym q) f)) (λ k. there (rest .0 k)) (cases-cons (subst (Mem c) (edgesFrom-here e es v q) m)),
+      λ m.
+          subst (Mem c) (sym (edgesFrom-here e es v q))
+          (⊎-elim (λ f. here (ap (λ (p : ℕ × ℕ). p .1) f)) (λ k. there (rest .1 k)) (cases-cons m)),
+    )
+    go (no n) rest = (
+      λ m. there (rest .0 (subst (Mem c) (edgesFrom-there e es v n) m)),
+      λ m.
+          subst (Mem c) (sym (edgesFrom-there e es v n))
+          (⊎-elim (λ f. absurd (n (sym (ap (λ (p : ℕ × ℕ). p .0) f)))) (λ k. rest .1 k) (cases-cons m)),
+    )
+
+module _ (e : ℕ × ℕ) (v : ℕ) where
+  -- one edge more, out of the node
+  pub edgesFrom-more : (es : List (ℕ × ℕ)) → e .0 ≡ v → edgesFrom (es ++ e ∷ []) v ≡ edgesFrom es v ++ e .1 ∷ []
+  unfolding edgesFrom
+  edgesFrom-more [] q = edgesFrom-here e [] v q
+  edgesFrom-more (d ∷ es) q = go (eqb (d .0) v) (edgesFrom-more es q)
+    where
+      go : (t : Bool) → edgesFrom (es ++ e ∷ []) v ≡ edgesFrom es v ++ e .1 ∷ []
+          → cond t (d .1 ∷ edgesFrom (es ++ e ∷ []) v) (edgesFrom (es ++ e ∷ []) v) ≡ cond t (d .1 ∷ edgesFrom es v) (edgesFrom es v) ++ e .1 ∷ []
+      go true r = ap (λ (l : List ℕ). d .1 ∷ l) r
+      go false r = r
+
+  -- one edge more, out of another
+  pub edgesFrom-other : (es : List (ℕ × ℕ)) → (e .0 ≡ v → ⊥) → edgesFrom (es ++ e ∷ []) v ≡ edgesFrom es v
+  unfolding edgesFrom
+  edgesFrom-other [] n = edgesFrom-there e [] v n
+  edgesFrom-other (d ∷ es) n = ap (λ (l : List ℕ). cond (eqb (d .0) v) (d .1 ∷ l) l) (edgesFrom-other es n)
+
+-- ---- a list of edges in words
+
+module _ (es : List (ℕ × ℕ)) where
+  edgeWord-even : (i : ℕ) → edgeWord es (2 * i) ≡ getD es i (0, 0) .0
+  unfolding edgeWord
+  edgeWord-even i =
+      let a : 2 * i % 2 ≡ 0 = omega arith in
+      let b : 2 * i / 2 ≡ i = omega arith in
+      rw (a, b)
+
+  edgeWord-odd : (i : ℕ) → edgeWord es (2 * i + 1) ≡ getD es i (0, 0) .1
+  unfolding edgeWord
+  edgeWord-odd i =
+      let a : (2 * i + 1) % 2 ≡ 1 = omega arith in
+      let b : (2 * i + 1) / 2 ≡ i = omega arith in
+      rw (a, b)
+
+  -- behind the last edge there are zeros
+  edgeWord-past : (k : ℕ) → 2 * length es ≤ k → edgeWord es k ≡ 0
+  unfolding edgeWord
+  edgeWord-past k h = rw (List·getD-eq-default es (0, 0) {n = k / 2} (omega arith)) (go (eqb (k % 2) 0))
+    where
+      go : (t : Bool) → _≡_ {A = ℕ} (cond t 0 0) 0
+      go true = refl
+      go false = refl
+
+pub length-edgesFor : (es : List (ℕ × ℕ)) (count : ℕ) → length (edgesFor es count) ≡ count
+unfolding edgesFor
+length-edgesFor es count = length-listOf (edgeWord es) count
+
+pub length-numbersFor : (ns : List ℕ) (count : ℕ) → length (numbersFor ns count) ≡ count
+unfolding numbersFor
+length-numbersFor ns count = length-listOf (λ k. getD ns k 0) count
+
+edgeAt-edgesFor : (es : List (ℕ × ℕ)) (count i : ℕ) → i < length es → 2 * length es ≤ count → edgeAt (edgesFor es count) i ≡ getD es i (0, 0)
+unfolding edgeAt edgesFor
+edgeAt-edgesFor es count i h l =
+    ap₂ (λ (a b : ℕ). (a, b)) (getD-listOf (edgeWord es) count (2 * i) 0 (omega arith) ∙ edgeWord-even es i)
+    (getD-listOf (edgeWord es) count (2 * i + 1) 0 (omega arith) ∙ edgeWord-odd es i)
+
+-- what is stored is read back
+pub edgesIn-edgesFor : (es : List (ℕ × ℕ)) (count : ℕ) → 2 * length es ≤ count → edgesIn (edgesFor es count) (length es) ≡ es
+unfolding edgesIn
+edgesIn-edgesFor es count h =
+    let all : min (length es) (length (edgesFor es count) / 2) ≡ length es = omega (arith, length-edgesFor es count) in
+    ap (listOf (edgeAt (edgesFor es count))) all
+    ∙ sym (listOf-eta (0, 0) es (edgeAt (edgesFor es count)) (length es) refl (λ i l. sym (edgeAt-edgesFor es count i l h)))
+
+-- ---- words that hold a list of edges or nodes in front
+
+-- one edge more is stored behind the last
+pub set-edge : (ws : List ℕ) (es : List (ℕ × ℕ)) (p c : ℕ) → 2 * length es + 2 ≤ length ws → listOf (edgeAt ws) (length es) ≡ es
+    → listOf (edgeAt (set (set ws (2 * length es) p) (2 * length es + 1) c)) (length es + 1) ≡ es ++ (p, c) ∷ []
+unfolding edgeAt
+set-edge ws es p c h e =
+    listOf-snoc (edgeAt new) (length es)
+    ∙ ap₂ (λ (l : List (ℕ × ℕ)) (x : ℕ × ℕ). l ++ x ∷ []) (listOf-ext (edgeAt new) (edgeAt ws) (length es) before ∙ e) last
+  where
+    mid : List ℕ
+    mid = set ws (2 * length es) p
+
+    new : List ℕ
+    new = set mid (2 * length es + 1) c
+
+    kept : (k : ℕ) → k < 2 * length es → getD new k 0 ≡ getD ws k 0
+    kept k l = getD-set-other mid (2 * length es + 1) k c 0 (λ q. omega arith) ∙ getD-set-other ws (2 * length es) k p 0 (λ q. omega arith)
+
+    before : (i : ℕ) → i < length es → edgeAt new i ≡ edgeAt ws i
+    before i l = ap₂ (λ (a b : ℕ). (a, b)) (kept (2 * i) (omega arith)) (kept (2 * i + 1) (omega arith))
+
+    last : edgeAt new (length es) ≡ (p, c)
+    last =
+        ap₂ (λ (a b : ℕ). (a, b))
+        (getD-set-other mid (2 * length es + 1) (2 * length es) c 0 (λ q. omega arith) ∙ getD-set-same ws (2 * length es) p 0 (omega arith))
+        (getD-set-same mid (2 * length es + 1) c 0 (omega (arith, length-set ws (2 * length es) p)))
+
+-- the words behind the last edge cleared
+pub cleared-edges : (ws : List ℕ) (es : List (ℕ × ℕ)) → 2 * length es ≤ length ws → listOf (edgeAt ws) (length es) ≡ es
+    → clearedFrom (2 * length es) ws ≡ edgesFor es (length ws)
+unfolding clearedFrom edgesFor edgeAt
+cleared-edges ws es h e =
+    listOf-ext (λ k. cond (ltb k (2 * length es)) (getD ws k 0) 0) (edgeWord es) (length ws) (λ k l. go k (decLt k (2 * length es)))
+  where
+    edge : (i : ℕ) → i < length es → getD es i (0, 0) ≡ edgeAt ws i
+    edge i l = ap (λ (ds : List (ℕ × ℕ)). getD ds i (0, 0)) (sym e) ∙ getD-listOf (edgeAt ws) (length es) i (0, 0) l
+
+    stored : (k : ℕ) → k < 2 * length es → Dec (k % 2 ≡ 0) → getD ws k 0 ≡ edgeWord es k
+    stored k a (yes q) =
+        let j : k ≡ 2 * (k / 2) = omega arith in
+        ap (λ (i : ℕ). getD ws i 0) j ∙ sym (ap (edgeWord es) j ∙ edgeWord-even es (k / 2) ∙ ap (λ (d : ℕ × ℕ). d .0) (edge (k / 2) (omega arith)))
+    stored k a (no q) =
+        let j : k ≡ 2 * (k / 2) + 1 = omega arith in
+        ap (λ (i : ℕ). getD ws i 0) j ∙ sym (ap (edgeWord es) j ∙ edgeWord-odd es (k / 2) ∙ ap (λ (d : ℕ × ℕ). d .1) (edge (k / 2) (omega arith)))
+
+    go : (k : ℕ) → Dec (k < 2 * length es) → cond (ltb k (2 * length es)) (getD ws k 0) 0 ≡ edgeWord es k
+    go k (yes a) = rw (lt-ltb k (2 * length es) a) (stored k a (ℕ-discrete (k % 2) 0))
+    go k (no a) = rw (le-ltb k (2 * length es) (omega arith)) (sym (edgeWord-past es k (omega arith)))
+
+-- the four words of a node are machine words where all are
+small-four : (ws : List ℕ) → Small ws → (i : ℕ) → Small (getD ws (4 * i) 0 ∷ getD ws (4 * i + 1) 0 ∷ getD ws (4 * i + 2) 0 ∷ getD ws (4 * i + 3) 0 ∷ [])
+small-four ws s i zero = s (4 * i)
+small-four ws s i (suc zero) = s (4 * i + 1)
+small-four ws s i (suc (suc zero)) = s (4 * i + 2)
+small-four ws s i (suc (suc (suc zero))) = s (4 * i + 3)
+small-four ws s i (suc (suc (suc (suc k)))) = pow-pos 64
+
+-- the four words of a node, as they stand
+four-words : (ws : List ℕ) (k j : ℕ) → k % 4 ≡ j → j < 4
+    → getD (getD ws (4 * (k / 4)) 0 ∷ getD ws (4 * (k / 4) + 1) 0 ∷ getD ws (4 * (k / 4) + 2) 0 ∷ getD ws (4 * (k / 4) + 3) 0 ∷ []) j 0 ≡ getD ws k 0
+four-words ws k zero e h = let q : 4 * (k / 4) ≡ k = omega arith in ap (λ (i : ℕ). getD ws i 0) q
+four-words ws k (suc zero) e h = let q : 4 * (k / 4) + 1 ≡ k = omega arith in ap (λ (i : ℕ). getD ws i 0) q
+four-words ws k (suc (suc zero)) e h = let q : 4 * (k / 4) + 2 ≡ k = omega arith in ap (λ (i : ℕ). getD ws i 0) q
+four-words ws k (suc (suc (suc zero))) e h = let q : 4 * (k / 4) + 3 ≡ k = omega arith in ap (λ (i : ℕ). getD ws i 0) q
+four-words ws k (suc (suc (suc (suc j)))) e h = absurd (omega arith)
+
+-- the words behind the last node cleared
+pub cleared-nodes : (ws bs : List ℕ) → ((i : ℕ) → getD ws i 0 < 2 ^ 64) → 4 * length bs ≤ length ws → listOf (setAt ws) (length bs) ≡ bs
+    → clearedFrom (4 * length bs) ws ≡ wordsFor bs (length ws)
+unfolding clearedFrom wordsFor wordAt
+cleared-nodes ws bs s h e =
+    listOf-ext (λ k. cond (ltb k (4 * length bs)) (getD ws k 0) 0) (wordAt bs) (length ws) (λ k l. go k (decLt k (4 * length bs)))
+  where
+    four : ℕ → List ℕ
+    four i = getD ws (4 * i) 0 ∷ getD ws (4 * i + 1) 0 ∷ getD ws (4 * i + 2) 0 ∷ getD ws (4 * i + 3) 0 ∷ []
+
+    node : (i : ℕ) → i < length bs → getD bs i 0 ≡ value (four i)
+    node i l =
+        ap (λ (ns : List ℕ). getD ns i 0) (sym e) ∙ getD-listOf (setAt ws) (length bs) i 0 l ∙ sym (setAt-value ws i (omega arith))
+
+    back : (i : ℕ) → wordsOf (value (four i)) ≡ four i
+    back i = wordsOf-value (four i) refl (small-four ws s i)
+
+    stored : (k : ℕ) → k < 4 * length bs → getD ws k 0 ≡ wordAt bs k
+    stored k a =
+        sym
+        (ap (λ (n : ℕ). getD (wordsOf n) (k % 4) 0) (node (k / 4) (omega arith))
+        ∙ ap (λ (l : List ℕ). getD l (k % 4) 0) (back (k / 4))
+        ∙ four-words ws k (k % 4) refl (omega arith))
+
+    go : (k : ℕ) → Dec (k < 4 * length bs) → cond (ltb k (4 * length bs)) (getD ws k 0) 0 ≡ wordAt bs k
+    go k (yes a) = rw (lt-ltb k (4 * length bs) a) (stored k a)
+    go k (no a) = rw (le-ltb k (4 * length bs) (omega arith)) (sym (wordAt-past bs k (omega arith)))
+
+-- the words behind the last number cleared
+pub cleared-numbers : (ws ns : List ℕ) → length ns ≤ length ws → ((i : ℕ) → i < length ns → getD ws i 0 ≡ getD ns i 0)
+    → clearedFrom (length ns) ws ≡ numbersFor ns (length ws)
+unfolding clearedFrom numbersFor
+cleared-numbers ws ns h e =
+    listOf-ext (λ k. cond (ltb k (length ns)) (getD ws k 0) 0) (λ k. getD ns k 0) (length ws) (λ k l. go k (decLt k (length ns)))
+  where
+    go : (k : ℕ) → Dec (k < length ns) → cond (ltb k (length ns)) (getD ws k 0) 0 ≡ getD ns k 0
+    go k (yes a) = rw (lt-ltb k (length ns) a) (e k a)
+    go k (no a) = rw (le-ltb k (length ns) (omega arith)) (sym (List·getD-eq-default ns 0 {n = k} (omega arith)))
