@@ -7,7 +7,7 @@ use Prim.Native.Nat.{ℕ, zero, suc, _+_, _-_, _*_, _/_, _%_, _^_, _≤_, _<_, m
 use native.Mathlib.Nat.{add-zero}
 use native.Mathlib.Decide.{decLt}
 use native.Mathlib.Omega.{arith}
-use borrow.Author.Tests.{lt-ltb, le-ltb}
+use borrow.Author.Tests.{lt-ltb, le-ltb, leb-true}
 use lib.Dec.{ltb}
 use lib.ListN.{length, getD, set, length-append, length-set, List·getD-eq-default}
 use lib.Seq.{sets, length-sets, getD-set-same, getD-set-other, getD-append-seam}
@@ -197,6 +197,48 @@ storedIn-snoc ns ws x r =
         getD-sets-out (wordsOf x) (storedIn ns ws) (4 * length ns) k (λ p q. omega (arith, wordsOf-length x))
         ∙ getD-behind ns ws k h (omega arith)
         ∙ rw (le-ltb k (4 * length (ns ++ x ∷ [])) (omega (arith, more)))
+
+-- ---- one set stored
+
+module _ (ws : List ℕ) (i n : ℕ) where
+  word-in : i < length ws / 4 → (j : ℕ) → j < 4 → getD (withSet ws i n) (4 * i + j) 0 ≡ getD (wordsOf n) j 0
+  word-in h j l =
+      ap (λ (vs : List ℕ). getD vs (4 * i + j) 0) (withSet-lent ws i n h)
+      ∙ getD-sets-in (wordsOf n) ws (4 * i) j (omega (arith, wordsOf-length n)) (omega (arith, wordsOf-length n))
+
+  word-out : (k : ℕ) → (k / 4 ≡ i → ⊥) → getD (withSet ws i n) k 0 ≡ getD ws k 0
+  unfolding withSet
+  word-out k ne = go (ltb i (length ws / 4))
+    where
+      go : (t : Bool) → getD (cond t (sets ws (4 * i) (wordsOf n)) ws) k 0 ≡ getD ws k 0
+      go true = getD-sets-out (wordsOf n) ws (4 * i) k (λ p q. ne (omega (arith, wordsOf-length n)))
+      go false = refl
+
+  -- what is stored is read back
+  pub setAt-same : i < length ws / 4 → n < 2 ^ 256 → setAt (withSet ws i n) i ≡ n
+  setAt-same h s =
+      let zeroth : getD (withSet ws i n) (4 * i) 0 ≡ getD (wordsOf n) 0 0 =
+      ap (λ (k : ℕ). getD (withSet ws i n) k 0) (sym (add-zero (4 * i))) ∙ word-in h 0 (lt 0 refl) in
+      sym (setAt-value (withSet ws i n) i (long h))
+      ∙ rw (zeroth, word-in h 1 (lt 1 refl), word-in h 2 (lt 2 refl), word-in h 3 (lt 3 refl), ← wordsOf-four n) (value-wordsOf n s)
+    where
+      lt : (j : ℕ) → ltb j 4 ≡ true → j < 4
+      lt j e = leb-true (suc j) 4 e
+
+      long : i < length ws / 4 → i < length (withSet ws i n) / 4
+      long h = omega (arith, length-withSet ws i n)
+
+  -- and the other sets are as they were
+  pub setAt-other : (j : ℕ) → (j ≡ i → ⊥) → setAt (withSet ws i n) j ≡ setAt ws j
+  unfolding setAt
+  setAt-other j ne =
+      rw (
+        length-withSet ws i n,
+        word-out (4 * j) (λ e. ne (omega arith)),
+        word-out (4 * j + 1) (λ e. ne (omega arith)),
+        word-out (4 * j + 2) (λ e. ne (omega arith)),
+        word-out (4 * j + 3) (λ e. ne (omega arith)),
+      )
 
 -- the words behind the last set cleared: a list of sets, zeros behind
 pub cleared-storedIn : (ns ws : List ℕ) → clearedFrom (4 * length ns) (storedIn ns ws) ≡ wordsFor ns (length ws)

@@ -13,8 +13,8 @@ use native.Mathlib.Omega.{arith}
 use lib.ListN.{length, getD}
 use Rattle.cells.specs.Firsts.{addFirsts, firsts}
 use Rattle.cells.specs.FirstsLaws.{mem-getD, so-eq}
-use Rattle.covers.specs.Cuttings.{Numbering, Setting, CuttingOf, PlacingSequence, childBoards, Laws, SoundPruning, EqualSteps}
-use Rattle.covers.specs.Counts.{Entry, boards, sumOf, shares, gather, weight, layer, layers, numberIn, tiling, fullCount, fullFrom, fullNode, atNode, layerOf, entriesOf, nodesOf, pathCountOf, graphEdges, layerCountTo, layerCount, graphCount, piecesOf, tilingOf, cuttingAt}
+use Rattle.covers.specs.Cuttings.{Numbering, Exactly, Setting, CuttingOf, PlacingSequence, childBoards, Laws, SoundPruning, EqualSteps}
+use Rattle.covers.specs.Counts.{ChildSequence, Entry, boards, sumOf, shares, gather, weight, layer, layers, numberIn, tiling, fullCount, fullFrom, fullNode, atNode, layerOf, entriesOf, nodesOf, pathCountOf, graphEdges, layerCountTo, layerCount, graphCount, piecesOf, tilingOf, cuttingAt}
 use Rattle.covers.specs.NumberingLaws.{numbering-none}
 use Rattle.covers.specs.SumLaws.{sum-append, sum-ext, sum-zero}
 use Rattle.covers.specs.SequenceLaws.{full-pieces, cuttings-numbered}
@@ -160,6 +160,24 @@ module _ {B P : Type 0} (G : Setting B P) (L : Laws G) (a : ℕ) (E : EqualSteps
         go none e = none-count e ∙ ap (atNode (pathCountOf G s)) (sym e)
         go (some v) e = let r = some-full v e in full-weight v (r .0) (r .1) ∙ ap (atNode (pathCountOf G s)) (sym e)
 
+    -- ---- and are the number of child sequences to the full board, where one is reached
+
+    pub full-sequences : (t : B) → So (G .full t) → (xs : List B) → ChildSequence (childBoards G) s t xs
+        → Exactly (graphCount G s) (ChildSequence (childBoards G) s t)
+    unfolding graphCount atNode
+    full-sequences t f xs r = go (fullNode (G .full) (nodesOf G s)) refl
+      where
+        m : Mem t (nodesOf G s)
+        m = node-reached G L s ok t .1 (xs, r)
+
+        go : (o : Option ℕ) → fullNode (G .full) (nodesOf G s) ≡ o → Exactly (atNode (pathCountOf G s) o) (ChildSequence (childBoards G) s t)
+        go none e = absurd (false≢true (sym (none-full e t m) ∙ f))
+        go (some v) e =
+            let k = some-full v e in
+            let o = node-ok G L s ok (getD (nodesOf G s) v s) (mem-getD (nodesOf G s) v s (k .0)) in
+            subst (λ (u : B). Exactly (pathCountOf G s v) (ChildSequence (childBoards G) s u)) (L .full-one (getD (nodesOf G s) v s) t o (node-ok G L s ok t m) (k .1) f)
+            (_, tilings-numbered G L a E s ok v (k .0))
+
     -- ---- and are the number of placing sequences, and of cuttings
 
     -- the pieces of the steps of the tiling with the number m to a node, or to node 0 with none
@@ -187,6 +205,19 @@ module _ {B P : Type 0} (G : Setting B P) (L : Laws G) (a : ℕ) (E : EqualSteps
     -- and, where only boards without a cutting are pruned, the cuttings: the set of those pieces
     pub cuttings-by-number : SoundPruning G → Numbering (CuttingOf G s) (graphCount G s) (cuttingAt G s)
     cuttings-by-number sound = cuttings-numbered G L sound s ok sequences-by-number
+
+  -- where no child sequence reaches a full board, none is counted
+  pub none-reached : ((t : B) → So (G .full t) → (xs : List B) → ChildSequence (childBoards G) s t xs → ⊥) → graphCount G s ≡ 0
+  unfolding graphCount atNode
+  none-reached never = go (fullNode (G .full) (nodesOf G s)) refl
+    where
+      go : (o : Option ℕ) → fullNode (G .full) (nodesOf G s) ≡ o → atNode (pathCountOf G s) o ≡ 0
+      go none e = refl
+      go (some v) e =
+          let k = some-full v e in
+          let t = getD (nodesOf G s) v s in
+          let r = node-reached G L s ok t .0 (mem-getD (nodesOf G s) v s (k .0)) in
+          absurd (never t (k .1) (r .0) (r .1))
 
   -- a start that is full counts 0 both ways, so that the counts agree of any start
   pub counts-agree : layerCount G s ≡ graphCount G s

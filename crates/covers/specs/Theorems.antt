@@ -17,7 +17,7 @@ use Rattle.covers.specs.OrderLaws.{alike-order, alike-next, alike-next-l
 use Rattle.covers.specs.WalkLaws.{tiling-numbers, tiling-chain, chain-tiling}
 use Rattle.covers.specs.SettingLaws.{node-reached, layer-ok, layer-empty, layers-disjoint, reached-layer}
 use Rattle.covers.specs.GraphLaws.{nodes-found, sum-rule, once-graph, tilings-numbered, path-count}
-use Rattle.covers.specs.CountLaws.{full-layerCount, full-graphCount, counts-agree, sequences-by-number, cuttings-by-number}
+use Rattle.covers.specs.CountLaws.{full-layerCount, full-graphCount, counts-agree, sequences-by-number, cuttings-by-number, full-sequences, none-reached}
 
 -- ---- 1. Numberings
 
@@ -133,8 +133,18 @@ chain-has-number = chain-tiling
 pub counts-are-equal : {B P : Type 0} (G : Setting B P) → Laws G → (a : ℕ) → EqualSteps G a → (s : B) → G .Ok s → layerCount G s ≡ graphCount G s
 counts-are-equal = counts-agree
 
+-- Where no child sequence reaches a full board, it is 0.
+pub none-reached-counts-none : {B P : Type 0} (G : Setting B P) → Laws G → (a : ℕ) → EqualSteps G a → (s : B) → G .Ok s
+    → ((t : B) → So (G .full t) → (xs : List B) → ChildSequence (childBoards G) s t xs → ⊥) → graphCount G s ≡ 0
+none-reached-counts-none = none-reached
+
 module _ {B P : Type 0} (G : Setting B P) (L : Laws G) (a : ℕ) (E : EqualSteps G a) (s : B) (ok : G .Ok s) (notFull : G .full s ≡ false) where
-  -- Of a start that is not full it is the number of placing sequences, whatever is pruned: the pieces of the tilings by number, in order.
+  -- Of a start that is not full it is the number of child sequences to the full board, where one is reached;
+  pub count-is-child-sequences : (t : B) → So (G .full t) → (xs : List B) → ChildSequence (childBoards G) s t xs
+      → Exactly (graphCount G s) (ChildSequence (childBoards G) s t)
+  count-is-child-sequences = full-sequences G L a E s ok notFull
+
+  -- and the number of placing sequences, whatever is pruned: the pieces of the tilings by number, in order.
   pub tilings-are-sequences : Numbering (PlacingSequence G s) (graphCount G s) (λ m. piecesOf G (tilingOf G s m))
   tilings-are-sequences = sequences-by-number G L a E s ok notFull
 

@@ -1,0 +1,375 @@
+-- What a graph in lent words comes to: the search for the full board's node; the words cleared after a refusal; and the refusals and the result of a
+-- graph that has grown. Rests on `PassingLaws`, `PlotLaws`, `AcceptedLaws`, graph's `GraphLaws` and covers' laws. Assumes nothing.
+use mathlib.Core.Path.{_≡_, refl, sym, ap, _∙_, subst}
+use mathlib.Core.Bool.{Bool, true, false, cond, false≢true, true≢false}
+use mathlib.Core.List.{List, [], _∷_}
+use Prim.Native.Nat.{ℕ, suc, _+_, _-_, _*_, _^_, _≤_, _<_, min}
+use native.Mathlib.Nat.{add-zero}
+use native.Mathlib.Decide.{ℕ-discrete}
+use native.Mathlib.Omega.{arith}
+use borrow.Author.Tests.{leb-true, leb-false, le-leb, lt-leb}
+use lib.Dec.{leb}
+use lib.ListN.{length, getD}
+use Rattle.cells.specs.Words.{Sound}
+use Rattle.cells.specs.WordLaws.{number-lt}
+use Rattle.cells.specs.FirstsLaws.{mem-getD}
+use Rattle.cells.specs.Arrays.{listFrom, listOf}
+use Rattle.cells.specs.ArrayLaws.{getD-listOf}
+use Rattle.cells.specs.Lists.{setAt, clearedFrom, wordsFor}
+use Rattle.cells.specs.ListLaws.{cleared-all}
+use Rattle.tile.specs.declared.Tiles.{Tiles}
+use Rattle.tile.specs.declared.refusal.Refusal.{Refusal}
+use Rattle.tile.specs.declared.refusal.Verdict.the-variants as Verdicts
+use Rattle.tile.specs.Refusal.{Answer, refused, given, bindAnswer, refusalOf, refusalNumber, valueOr}
+use Rattle.tile.specs.Path.{Path}
+use Rattle.tile.specs.Stored.{pathsIn}
+use Rattle.board.specs.declared.RectangularBoard.{RectangularBoard}
+use Rattle.board.specs.Board.{Board, boardOf, boardAt, marks, isFull}
+use Rattle.covers.specs.Cuttings.{Setting, Laws, EqualSteps}
+use Rattle.covers.specs.Counts.{counts, fullFrom, fullNode, entriesOf, nodesOf, graphEdges}
+use Rattle.covers.specs.SettingLaws.{node-ok, some-node}
+use Rattle.covers.specs.PassLaws.{edge-in}
+use Rattle.graph.specs.Graph.{firstFrom, edgeAt, numbersFor, edgesFor}
+use Rattle.graph.specs.GraphLaws.{firstFrom-found, firstFrom-missed, cleared-nodes, cleared-edges, cleared-numbers}
+use Rattle.tiler.specs.declared.Complete.the-variants as N
+use Rattle.tiler.specs.declared.MadeGraph.{MadeGraph}
+use Rattle.tiler.specs.declared.building.Growth.{Growth}
+use Rattle.tiler.specs.declared.building.Growth.the-variants as G
+use Rattle.tiler.specs.Boards.{From, setting, settingOf, startOf}
+use Rattle.tiler.specs.Counting.{Graph, Makes, completeNode, readPlot, graphOf, weighGraph, tooLarge, nodeRoom, edgeRoom, generateGraph}
+use Rattle.tiler.specs.Inner.{Accepted, stepOf, growthOf, HoldsGraph, PassesEdges, firstCount, Finishes}
+use Rattle.tiler.specs.AcceptedLaws.{accepted-laws, accepted-steps, accepted-start}
+use Rattle.tiler.proofs.PlotLaws.{nodeRoom-nodes, nodeRoom-counts, edgeRoom-edges, edgeRoom-most}
+use Rattle.tiler.proofs.PassingLaws.{pass-counts, pass-too-large, words-fit, counts-words}
+
+-- ---- the search for the full board's node
+
+-- the board at a place, as it was tested
+pub full-at : (b : RectangularBoard) (m k : ℕ) (r t : Bool) → r ≡ isFull (boardAt (boardOf b) m) → m ≡ k → r ≡ t → isFull (boardAt (boardOf b) k) ≡ t
+full-at b m k r t e q h = ap (λ (n : ℕ). isFull (boardAt (boardOf b) n)) (sym q) ∙ sym e ∙ h
+
+module _ (test : ℕ → Bool) (i : ℕ) (missed : (k : ℕ) → 1 ≤ k → k < i → test k ≡ false) where
+  pub complete-more : test i ≡ false → (k : ℕ) → 1 ≤ k → k < i + 1 → test k ≡ false
+  complete-more e k a b = go (ℕ-discrete k i)
+    where
+      go : Dec (k ≡ i) → test k ≡ false
+      go (yes q) = ap test q ∙ e
+      go (no q) = missed k a (omega arith)
+
+  pub complete-found : (n : ℕ) → 1 ≤ i → i < n → test i ≡ true → completeNode (N.Node i) ≡ firstFrom test 1 (n - 1)
+  complete-found n h l e = sym (firstFrom-found test 1 (n - 1) i h (omega arith) e missed)
+
+  pub complete-none : (n : ℕ) → n ≤ i → completeNode N.Nothing ≡ firstFrom test 1 (n - 1)
+  complete-none n l = sym (firstFrom-missed test 1 (n - 1) (λ k a b. missed k a (omega arith)))
+
+-- the places hold a list's boards
+full-from : (full : ℕ → Bool) (f : ℕ → ℕ) (ss : List ℕ) (i : ℕ) → ((k : ℕ) → k < length ss → f (i + k) ≡ getD ss k 0)
+    → firstFrom (λ i. full (f i)) i (length ss) ≡ fullFrom full i ss
+unfolding firstFrom fullFrom
+full-from full f [] i h = refl
+full-from full f (s ∷ ss) i h =
+    let first : f i ≡ s = ap f (sym (add-zero i)) ∙ h 0 (omega arith) in
+    rw (first, full-from full f ss (suc i) (λ k l. let q : suc i + k ≡ i + suc k = omega arith in ap f q ∙ h (suc k) (omega arith)))
+
+full-node : (full : ℕ → Bool) (f : ℕ → ℕ) (ss : List ℕ) → listOf f (length ss) ≡ ss
+    → firstFrom (λ i. full (f i)) 1 (length ss - 1) ≡ fullNode full ss
+unfolding fullNode firstFrom fullFrom
+full-node full f [] e = refl
+full-node full f (s ∷ ss) e =
+    let l : suc (length ss) - 1 ≡ length ss = omega arith in
+    ap (firstFrom (λ i. full (f i)) 1) l ∙ full-from full f ss 1 at
+  where
+    at : (k : ℕ) → k < length ss → f (1 + k) ≡ getD ss k 0
+    at k h =
+        let q : 1 + k ≡ suc k = omega arith in
+        ap f q ∙ sym (getD-listOf f (suc (length ss)) (suc k) 0 (omega arith)) ∙ ap (λ (l : List ℕ). getD l (suc k) 0) e
+
+-- ---- a refusal
+
+zero-numbers : (ws : List ℕ) → clearedFrom 0 ws ≡ numbersFor [] (length ws)
+zero-numbers ws = cleared-numbers ws [] (omega arith) (λ i h. absurd (omega arith))
+
+zero-edges : (ws : List ℕ) → clearedFrom 0 ws ≡ edgesFor [] (length ws)
+unfolding listOf listFrom
+zero-edges ws = cleared-edges ws [] (omega arith) refl
+
+pub makes-refused : (q : Refusal) (ns cs es ns′ cs′ es′ : List ℕ) → ns′ ≡ clearedFrom 0 ns → cs′ ≡ clearedFrom 0 cs → es′ ≡ clearedFrom 0 es
+    → Makes (refused (refusalNumber q)) (length ns) (length cs) (length es) ns′ cs′ es′
+    (record { verdict = Verdicts.Refused q; graph = record { nodes = 0; edges = 0; complete = N.Nothing } })
+unfolding refusalOf valueOr
+makes-refused q ns cs es ns′ cs′ es′ d e f = record {
+  verdict = refl;
+  nodeNumber = refl;
+  edgeNumber = refl;
+  complete = refl;
+  nodes = d ∙ cleared-all ns;
+  counts = e ∙ zero-numbers cs;
+  edges = f ∙ zero-edges es;
+}
+
+-- an answer and lengths in other words
+makes-as : (a a′ : Answer Graph) (n n₁ c c₁ e e₁ : ℕ) (ns cs es : List ℕ) (r : MadeGraph) → a ≡ a′ → n₁ ≡ n → c₁ ≡ c → e₁ ≡ e
+    → Makes a′ n₁ c₁ e₁ ns cs es r → Makes a n c e ns cs es r
+makes-as a a′ n n₁ c c₁ e e₁ ns cs es r p q s t m = rw (p, ← q, ← s, ← t) m
+
+-- ---- rooms
+
+pub node-room : (room n c : ℕ) → room ≡ nodeRoom n c → (4 * room ≤ n) × (room ≤ c)
+node-room room n c e = (omega (arith, nodeRoom-nodes n c), omega (arith, nodeRoom-counts n c))
+
+pub edge-room : (room e : ℕ) → room ≡ edgeRoom e → (2 * room ≤ e) × (room ≤ 16777216)
+edge-room room e q = (omega (arith, edgeRoom-edges e), omega (arith, edgeRoom-most e))
+
+-- ---- what is weighed
+
+module _ (room space : ℕ) (g : Graph) where
+  weigh-nodes : room < length (g .nodes) → weighGraph room space g ≡ refused 8
+  unfolding weighGraph
+  weigh-nodes h = rw (lt-leb (length (g .nodes)) room h)
+
+  module _ (h : length (g .nodes) ≤ room) where
+    weigh-edges : space < length (g .edges) → weighGraph room space g ≡ refused 10
+    unfolding weighGraph
+    weigh-edges l = rw (le-leb (length (g .nodes)) room h, lt-leb (length (g .edges)) space l)
+
+    module _ (l : length (g .edges) ≤ space) where
+      weigh-large : tooLarge (g .counts) ≡ true → weighGraph room space g ≡ refused 9
+      unfolding weighGraph
+      weigh-large t = rw (le-leb (length (g .nodes)) room h, le-leb (length (g .edges)) space l, t)
+
+      weigh-given : tooLarge (g .counts) ≡ false → weighGraph room space g ≡ given g
+      unfolding weighGraph
+      weigh-given t = rw (le-leb (length (g .nodes)) room h, le-leb (length (g .edges)) space l, t)
+
+-- ---- what a state tells
+
+abbrev full? : Growth → Bool
+full? (G.Size n e) = false
+full? G.Full = true
+
+abbrev sizes : Growth → ℕ × ℕ
+sizes (G.Size n e) = (n, e)
+sizes G.Full = (0, 0)
+
+module _ (room space : ℕ) (ns es : List ℕ) (growth : Growth) (g : List ℕ × List (ℕ × ℕ)) (holds : HoldsGraph room space ns es growth g) where
+  held-full : growth ≡ G.Full → room < length (g .0)
+  unfolding growthOf
+  held-full q = go (leb (length (g .0)) room) refl (sym (holds .state) ∙ q)
+    where
+      go : (t : Bool) → leb (length (g .0)) room ≡ t → cond t (G.Size (length (g .0)) (min (length (g .1)) (suc space))) G.Full ≡ G.Full
+          → room < length (g .0)
+      go true e p = absurd (false≢true (ap full? p))
+      go false e p = leb-false (length (g .0)) room e
+
+  held-size : (n e : ℕ) → growth ≡ G.Size n e → (length (g .0) ≤ room) × (n ≡ length (g .0)) × (e ≡ min (length (g .1)) (suc space))
+  unfolding growthOf
+  held-size n e q = go (leb (length (g .0)) room) refl (sym (holds .state) ∙ q)
+    where
+      go : (t : Bool) → leb (length (g .0)) room ≡ t → cond t (G.Size (length (g .0)) (min (length (g .1)) (suc space))) G.Full ≡ G.Size n e
+          → (length (g .0) ≤ room) × (n ≡ length (g .0)) × (e ≡ min (length (g .1)) (suc space))
+      go true p u =
+          (leb-true (length (g .0)) room p, ap (λ (x : Growth). sizes x .0) (sym u), ap (λ (x : Growth). sizes x .1) (sym u))
+      go false p u = absurd (true≢false (ap full? u))
+
+-- ---- the graph of a board and tiles
+
+module _ (b : RectangularBoard) (ts : Tiles) (accepted : Accepted b ts) (fixed : Sound (b .fixed)) (laid : Sound (b .laid)) where
+  abbrev S : Setting ℕ ℕ
+  S = settingOf b ts
+
+  abbrev start : ℕ
+  start = startOf b
+
+  abbrev nodes : List ℕ
+  nodes = nodesOf S start
+
+  abbrev edges : List (ℕ × ℕ)
+  edges = graphEdges S start
+
+  laws : Laws S
+  laws = accepted-laws b ts accepted
+
+  equal : EqualSteps S (stepOf (pathsIn ts))
+  equal = accepted-steps b ts accepted
+
+  ok : S .Ok start
+  ok = accepted-start b ts accepted (number-lt (b .fixed) fixed) (number-lt (b .laid) laid)
+
+  module _ (room space : ℕ) (ns es : List ℕ) (growth : Growth) (n e : ℕ) (holds : HoldsGraph room space ns es growth (nodes, edges))
+      (size : growth ≡ G.Size n e) where
+    sized : (length nodes ≤ room) × (n ≡ length nodes) × (e ≡ min (length edges) (suc space))
+    sized = held-size room space ns es growth (nodes, edges) holds n e size
+
+    -- the nodes and the edges stand in the words
+    stored-nodes : listOf (setAt ns) n ≡ nodes
+    stored-nodes = ap (listOf (setAt ns)) (sized .1) ∙ holds .nodes (sized .0)
+
+    node-from : (i : ℕ) → i < n → From (boardOf b) (setAt ns i)
+    unfolding setting
+    node-from i h =
+        subst (From (boardOf b))
+        (ap (λ (l : List ℕ). getD l i 0) (sym stored-nodes) ∙ getD-listOf (setAt ns) n i 0 h)
+        (node-ok S laws start ok (getD nodes i 0) (mem-getD nodes i 0 (omega (arith, sized .1))))
+
+    module _ (few : e ≤ space) where
+      all-edges : (e ≡ length edges) × (length edges ≤ space)
+      all-edges = let q = sized .2 in (omega arith, omega arith)
+
+      stored-edges : listOf (edgeAt es) e ≡ edges
+      stored-edges = ap (listOf (edgeAt es)) (all-edges .0) ∙ holds .edges (sized .0) (all-edges .1)
+
+      -- an edge joins two nodes
+      edge-ends : (i : ℕ) → i < e → (edgeAt es i .0 < room) × (edgeAt es i .1 < room)
+      edge-ends i h =
+          let q : getD edges i (0, 0) ≡ edgeAt es i =
+          ap (λ (l : List (ℕ × ℕ)). getD l i (0, 0)) (sym stored-edges) ∙ getD-listOf (edgeAt es) e i (0, 0) h in
+          let r = edge-in S laws (stepOf (pathsIn ts)) equal start ok i (omega (arith, all-edges .0)) in
+          (omega (arith, ap (λ (d : ℕ × ℕ). d .0) q, r .0, r .1, sized .0), omega (arith, ap (λ (d : ℕ × ℕ). d .1) q, r .1, sized .0))
+
+      room-some : 0 < room
+      room-some = omega (arith, some-node S laws start ok, sized .0)
+
+      -- the counts of the pass
+      module _ (words : ℕ) (cs : List ℕ) (t : Bool) (some : room ≤ words) (pass : PassesEdges (firstCount words) (listOf (edgeAt es) e) cs t) where
+        passes : PassesEdges (firstCount words) edges cs t
+        passes = subst (λ (ds : List (ℕ × ℕ)). PassesEdges (firstCount words) ds cs t) stored-edges pass
+
+        counts-large : t ≡ false → tooLarge (counts (entriesOf S start)) ≡ true
+        counts-large = pass-too-large S laws (stepOf (pathsIn ts)) equal start ok words cs t (omega (arith, room-some)) passes
+
+        counts-are : t ≡ true → (v : ℕ) → getD cs v 0 ≡ getD (counts (entriesOf S start)) v 0
+        counts-are = pass-counts S laws (stepOf (pathsIn ts)) equal start ok words cs t (omega (arith, room-some)) passes
+
+      -- the words of the nodes and edges, and the full board's node
+      module _ (ns′ es′ : List ℕ) (r : MadeGraph) (small : (i : ℕ) → getD ns i 0 < 2 ^ 64) (longNodes : 4 * room ≤ length ns)
+          (longEdges : 2 * space ≤ length es) (finish : Finishes (boardOf b) ns es n e ns′ es′ r) where
+        finished-nodes : ns′ ≡ wordsFor nodes (length ns)
+        finished-nodes =
+            finish .nodeWords
+            ∙ ap (λ (k : ℕ). clearedFrom (4 * k) ns) (sized .1)
+            ∙ cleared-nodes ns nodes small (omega (arith, sized .0)) (holds .nodes (sized .0))
+
+        finished-edges : es′ ≡ edgesFor edges (length es)
+        finished-edges =
+            finish .edgeWords
+            ∙ ap (λ (k : ℕ). clearedFrom (2 * k) es) (all-edges .0)
+            ∙ cleared-edges es edges (omega (arith, all-edges .1)) (holds .edges (sized .0) (all-edges .1))
+
+        finished-complete : completeNode (r .graph .complete) ≡ fullNode (S .full) nodes
+        unfolding setting
+        finished-complete =
+            finish .complete
+            ∙ ap (λ (k : ℕ). firstFrom (λ i. isFull (boardAt (boardOf b) (setAt ns i))) 1 (k - 1)) (sized .1)
+            ∙ full-node (λ m. isFull (boardAt (boardOf b) m)) (setAt ns) nodes (holds .nodes (sized .0))
+
+  -- ---- what is made of so many lent words
+
+  module _ (wn wc we room space : ℕ) (atRoom : room ≡ nodeRoom wn wc) (atSpace : space ≡ edgeRoom we)
+      (ns es : List ℕ) (growth : Growth) (holds : HoldsGraph room space ns es growth (nodes, edges))
+      (longNodes : length ns ≡ wn) (longEdges : length es ≡ we) where
+    abbrev answer : Answer Graph
+    answer = weighGraph (nodeRoom wn wc) (edgeRoom we) (graphOf S start)
+
+    rooms : answer ≡ weighGraph room space (graphOf S start)
+    rooms = rw (← atRoom, ← atSpace)
+
+    pub made-full : (ns′ cs′ es′ : List ℕ) (r : MadeGraph) → growth ≡ G.Full → Makes (refused 8) (length ns) wc (length es) ns′ cs′ es′ r
+        → Makes answer wn wc we ns′ cs′ es′ r
+    unfolding graphOf
+    made-full ns′ cs′ es′ r q =
+        makes-as answer (refused 8) wn (length ns) wc wc we (length es) ns′ cs′ es′ r
+        (rooms ∙ weigh-nodes room space (graphOf S start) (held-full room space ns es growth (nodes, edges) holds q)) longNodes refl longEdges
+
+    module _ (n e : ℕ) (size : growth ≡ G.Size n e) where
+      fits : (length nodes ≤ room) × (n ≡ length nodes) × (e ≡ min (length edges) (suc space))
+      fits = held-size room space ns es growth (nodes, edges) holds n e size
+
+      -- what the calls ask
+      pub count-asks : e ≤ space → (2 * e ≤ length es) × (0 < wc) × ((i : ℕ) → i < e → (edgeAt es i .0 < wc) × (edgeAt es i .1 < wc))
+      count-asks few =
+          let inRoom = node-room room wn wc atRoom .1 in (
+            omega (arith, edge-room space we atSpace .0),
+            omega (arith, room-some room space ns es growth n e holds size few),
+            λ i h.
+                let ends = edge-ends room space ns es growth n e holds size few i h in
+                (omega (arith, ends .0), omega (arith, ends .1)),
+          )
+
+      pub finish-asks : e ≤ space → ((i : ℕ) → i < n → From (boardOf b) (setAt ns i)) × (4 * n ≤ length ns) × (2 * e ≤ length es)
+      finish-asks few = (
+        node-from room space ns es growth n e holds size,
+        omega (arith, node-room room wn wc atRoom .0, fits .0, fits .1),
+        omega (arith, edge-room space we atSpace .0),
+      )
+
+      pub made-crowded : (ns′ cs′ es′ : List ℕ) (r : MadeGraph) → space < e → Makes (refused 10) (length ns) wc (length es) ns′ cs′ es′ r
+          → Makes answer wn wc we ns′ cs′ es′ r
+      unfolding graphOf
+      made-crowded ns′ cs′ es′ r h =
+          let q = fits .2 in
+          makes-as answer (refused 10) wn (length ns) wc wc we (length es) ns′ cs′ es′ r
+          (rooms ∙ weigh-edges room space (graphOf S start) (fits .0) (omega arith)) longNodes refl longEdges
+
+      module _ (few : e ≤ space) (cs : List ℕ) (t : Bool) (longCounts : length cs ≡ wc)
+          (pass : PassesEdges (firstCount wc) (listOf (edgeAt es) e) cs t) where
+        pub made-large : (ns′ cs′ es′ : List ℕ) (r : MadeGraph) → t ≡ false → Makes (refused 9) (length ns) (length cs) (length es) ns′ cs′ es′ r
+            → Makes answer wn wc we ns′ cs′ es′ r
+        unfolding graphOf
+        made-large ns′ cs′ es′ r f =
+            makes-as answer (refused 9) wn (length ns) wc (length cs) we (length es) ns′ cs′ es′ r
+            (rooms
+            ∙ weigh-large room space (graphOf S start) (fits .0) (all-edges room space ns es growth n e holds size few .1)
+            (counts-large room space ns es growth n e holds size few wc cs t (node-room room wn wc atRoom .1) pass f))
+            longNodes longCounts longEdges
+
+        pub made-finished : (ns′ es′ : List ℕ) (r : MadeGraph) → ((i : ℕ) → getD ns i 0 < 2 ^ 64) → ((i : ℕ) → getD cs i 0 < 2 ^ 64) → t ≡ true
+            → Finishes (boardOf b) ns es n e ns′ es′ r → Makes answer wn wc we ns′ cs es′ r
+        unfolding graphOf refusalOf valueOr
+        made-finished ns′ es′ r smallNodes smallCounts f finish =
+            makes-as answer (given (graphOf S start)) wn (length ns) wc (length cs) we (length es) ns′ cs es′ r
+            (rooms
+            ∙ weigh-given room space (graphOf S start) (fits .0) (all-edges room space ns es growth n e holds size few .1)
+            (words-fit (counts (entriesOf S start)) cs are smallCounts))
+            longNodes longCounts longEdges
+            (record {
+              verdict = finish .verdict;
+              nodeNumber = finish .nodeNumber ∙ fits .1;
+              edgeNumber = finish .edgeNumber ∙ all-edges room space ns es growth n e holds size few .0;
+              complete = finished-complete room space ns es growth n e holds size few ns′ es′ r smallNodes wideNodes wideEdges finish;
+              nodes = finished-nodes room space ns es growth n e holds size few ns′ es′ r smallNodes wideNodes wideEdges finish;
+              counts = counts-words (counts (entriesOf S start)) cs are;
+              edges = finished-edges room space ns es growth n e holds size few ns′ es′ r smallNodes wideNodes wideEdges finish;
+            })
+          where
+            are : (v : ℕ) → getD cs v 0 ≡ getD (counts (entriesOf S start)) v 0
+            are = counts-are room space ns es growth n e holds size few wc cs t (node-room room wn wc atRoom .1) pass f
+
+            wideNodes : 4 * room ≤ length ns
+            wideNodes = omega (arith, node-room room wn wc atRoom .0)
+
+            wideEdges : 2 * space ≤ length es
+            wideEdges = omega (arith, edge-room space we atSpace .0)
+
+-- ---- board and tiles that are judged
+
+module _ (b : RectangularBoard) (ts : Tiles) (wn wc we : ℕ) (ns cs es : List ℕ) (r : MadeGraph) where
+  generates : (a : Answer (Board × List Path)) → readPlot b ts ≡ a
+      → Makes (bindAnswer a (λ p. weighGraph (nodeRoom wn wc) (edgeRoom we) (graphOf (setting (p .0) (p .1)) (marks (p .0))))) wn wc we ns cs es r
+      → Makes (generateGraph b ts wn wc we) wn wc we ns cs es r
+  unfolding generateGraph
+  generates a e =
+      subst
+      (λ (x : Answer (Board × List Path)).
+      Makes (bindAnswer x (λ p. weighGraph (nodeRoom wn wc) (edgeRoom we) (graphOf (setting (p .0) (p .1)) (marks (p .0))))) wn wc we ns cs es r)
+      (sym e)
+
+  pub generates-made : readPlot b ts ≡ given (boardOf b, pathsIn ts)
+      → Makes (weighGraph (nodeRoom wn wc) (edgeRoom we) (graphOf (settingOf b ts) (startOf b))) wn wc we ns cs es r
+      → Makes (generateGraph b ts wn wc we) wn wc we ns cs es r
+  unfolding bindAnswer
+  generates-made e m = generates (given (boardOf b, pathsIn ts)) e m
+
+  pub generates-refused : (n : ℕ) → readPlot b ts ≡ refused n → Makes (refused n) wn wc we ns cs es r
+      → Makes (generateGraph b ts wn wc we) wn wc we ns cs es r
+  unfolding bindAnswer
+  generates-refused n e m = generates (refused n) e m

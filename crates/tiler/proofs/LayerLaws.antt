@@ -1,0 +1,362 @@
+-- A layer in lent words: what its state tells; the empty layer; what one addition and many do to words and state; the layer behind a layer; one
+-- count. Rests on `Inner`, `AddingLaws` and graph's law of the search. Assumes nothing.
+use mathlib.Core.Path.{_≡_, refl, sym, ap, ap₂, _∙_, subst}
+use mathlib.Core.Bool.{Bool, true, false, cond, _||_, false≢true}
+use mathlib.Core.List.{List, [], _∷_, _++_, map-append}
+use mathlib.Core.Option.{none, some}
+use Prim.Native.Nat.{ℕ, zero, suc, _+_, _-_, _*_, _/_, _^_, _≤_, _<_, min}
+use native.Mathlib.Decide.{ℕ-discrete}
+use native.Mathlib.Omega.{arith}
+use borrow.Author.Tests.{le-leb, lt-leb, leb-true, leb-false, eq-eqb, ne-eqb}
+use lib.Dec.{eqb, leb}
+use lib.ListN.{length, getD, set, length-append, length-map, List·getD-map}
+use lib.Seq.{getD-set-same, getD-set-other}
+use Rattle.cells.specs.Firsts.{holds}
+use Rattle.cells.specs.FirstsLaws.{addNew-old, holds-iff}
+use Rattle.cells.specs.MemberLaws.{eqb-tells}
+use Rattle.cells.specs.Arrays.{listOf}
+use Rattle.cells.specs.ArrayLaws.{getD-listOf, listOf-ext, listOf-eta, listOf-snoc}
+use Rattle.cells.specs.ListLaws.{setAt-same, setAt-other}
+use Rattle.cells.specs.Lists.{setAt, withSet}
+use Rattle.tile.specs.Refusal.{refused, given}
+use Rattle.tile.specs.Path.{Path}
+use Rattle.board.specs.Board.{Board}
+use Rattle.covers.specs.Cuttings.{childBoards}
+use Rattle.covers.specs.Counts.{Entry, boards, counts, numberIn}
+use Rattle.covers.specs.GatherLaws.{addPaths, boards-addPaths}
+use Rattle.covers.specs.NodeLaws.{number-lt}
+use Rattle.graph.specs.declared.Found.{Found}
+use Rattle.graph.specs.declared.Found.the-variants as F
+use Rattle.graph.specs.Graph.{firstFrom, findNode, foundAnswer}
+use Rattle.graph.specs.GraphLaws.{found-held}
+use Rattle.tiler.specs.declared.layers.Layer.{Layer}
+use Rattle.tiler.specs.declared.layers.Layer.the-variants as L
+use Rattle.tiler.specs.Boards.{setting}
+use Rattle.tiler.specs.Counting.{countLimit, tooLarge, weigh}
+use Rattle.tiler.specs.Inner.{entriesIn, layerState, HoldsLayer, addEach, nextOf, AddsCount}
+use Rattle.tiler.specs.AddingLaws.{tooLarge-snoc, tooLarge-set, addPaths-new, counts-old, length-old, length-new, length-addPaths, addEach-none, addEach-more, next-none, next-more}
+
+-- ---- the state
+
+module _ (room : ℕ) (es : List (Entry ℕ)) where
+  state-boards : (n : ℕ) (over : Bool) → L.Boards n over ≡ layerState room es → (length es ≤ room) × (n ≡ length es) × (over ≡ tooLarge (counts es))
+  unfolding layerState
+  state-boards n over e = go (leb (length es) room) (leb-true (length es) room) e
+    where
+      go : (t : Bool) → (t ≡ true → length es ≤ room) → L.Boards n over ≡ cond t (L.Boards (length es) (tooLarge (counts es))) L.Full
+          → (length es ≤ room) × (n ≡ length es) × (over ≡ tooLarge (counts es))
+      go true f q = (f refl, cc, cc)
+      go false f q = let z : _≡_ {A = ℕ} 0 1 = cc in absurd (omega arith)
+
+  state-full : L.Full ≡ layerState room es → room < length es
+  unfolding layerState
+  state-full e = go (leb (length es) room) (leb-false (length es) room) e
+    where
+      go : (t : Bool) → (t ≡ false → room < length es) → L.Full ≡ cond t (L.Boards (length es) (tooLarge (counts es))) L.Full → room < length es
+      go true f q = let z : _≡_ {A = ℕ} 0 1 = cc in absurd (omega arith)
+      go false f q = f refl
+
+  state-within : (n : ℕ) (over : Bool) → length es ≤ room → n ≡ length es → over ≡ tooLarge (counts es) → L.Boards n over ≡ layerState room es
+  unfolding layerState
+  state-within n over h e f = rw (le-leb (length es) room h, e, f)
+
+  state-past : room < length es → L.Full ≡ layerState room es
+  unfolding layerState
+  state-past h = rw (lt-leb (length es) room h)
+
+-- the empty layer
+pub held-none : (room : ℕ) (bs cs : List ℕ) → HoldsLayer room bs cs (L.Boards 0 false) []
+unfolding tooLarge listOf
+held-none room bs cs =
+    record {
+      state = state-within room [] 0 false (omega arith) refl refl;
+      boards = λ h. refl;
+      counts = λ h e. refl;
+    }
+
+-- a full layer stays full, whatever the words
+pub held-past : (room : ℕ) (bs cs : List ℕ) (es : List (Entry ℕ)) → room < length es → HoldsLayer room bs cs L.Full es
+held-past room bs cs es h =
+    record { state = state-past room es h; boards = λ l. absurd (omega arith); counts = λ l e. absurd (omega arith) }
+
+-- ---- what a layer is that has grown
+
+-- words that hold the boards and the counts hold the entries
+entries-are : (bs cs : List ℕ) (es : List (Entry ℕ)) → listOf (setAt bs) (length es) ≡ boards es → listOf (λ i. getD cs i 0) (length es) ≡ counts es
+    → entriesIn bs cs (length es) ≡ es
+unfolding entriesIn
+entries-are bs cs es f g = sym (listOf-eta (0, 0) es (λ i. (setAt bs i, getD cs i 0)) (length es) refl (λ i h. ap₂ (λ (b n : ℕ). (b, n)) (board i h) (count i h)))
+  where
+    board : (i : ℕ) → i < length es → getD es i (0, 0) .0 ≡ setAt bs i
+    board i h =
+        sym (List·getD-map (λ (e : Entry ℕ). e .0) es i (0, 0)) ∙ ap (λ (l : List ℕ). getD l i 0) (sym f) ∙ getD-listOf (setAt bs) (length es) i 0 h
+
+    count : (i : ℕ) → i < length es → getD es i (0, 0) .1 ≡ getD cs i 0
+    count i h =
+        sym (List·getD-map (λ (e : Entry ℕ). e .1) es i (0, 0)) ∙ ap (λ (l : List ℕ). getD l i 0) (sym g) ∙ getD-listOf (λ i. getD cs i 0) (length es) i 0 h
+
+module _ (room : ℕ) (bs cs : List ℕ) (es : List (Entry ℕ)) where
+  pub held-full : HoldsLayer room bs cs L.Full es → weigh room es ≡ refused 8
+  unfolding weigh
+  held-full h = rw (lt-leb (length es) room (state-full room es (h .state)))
+
+  module _ (m : ℕ) where
+    pub held-large : HoldsLayer room bs cs (L.Boards m true) es → weigh room es ≡ refused 9
+    unfolding weigh
+    held-large h = let s = state-boards room es m true (h .state) in rw (le-leb (length es) room (s .0), ← s .2)
+
+    pub held-fits : HoldsLayer room bs cs (L.Boards m false) es → weigh room es ≡ given es
+    unfolding weigh
+    held-fits h = let s = state-boards room es m false (h .state) in rw (le-leb (length es) room (s .0), ← s .2)
+
+    pub held-entries : HoldsLayer room bs cs (L.Boards m false) es → (m ≡ length es) × (length es ≤ room) × (entriesIn bs cs m ≡ es)
+    held-entries h =
+        let s = state-boards room es m false (h .state) in
+        (s .1, s .0, ap (entriesIn bs cs) (s .1) ∙ entries-are bs cs es (h .boards (s .0)) (h .counts (s .0) (sym (s .2))))
+
+-- ---- one addition
+
+first-below : (test : ℕ → Bool) (from count i : ℕ) → some i ≡ firstFrom test from count → i < from + count
+unfolding firstFrom
+first-below test from zero i e = let z : _≡_ {A = ℕ} 0 1 = cc in absurd (omega arith)
+first-below test from (suc count) i e = go (test from) e (first-below test (suc from) count i)
+  where
+    go : (t : Bool) → some i ≡ cond t (some from) (firstFrom test (suc from) count)
+        → (some i ≡ firstFrom test (suc from) count → i < suc from + count) → i < from + suc count
+    go true q later = let z : i ≡ from = cc in omega arith
+    go false q later = let l = later q in omega arith
+
+-- a board is found below n
+pub found-below : (bs : List ℕ) (n c : ℕ) (found : Found) → foundAnswer found ≡ findNode bs 0 n c → (i : ℕ) → found ≡ F.At i → i < n
+unfolding findNode
+found-below bs n c found f i e = let l = below 0 (min n (length bs / 4) - 0) (ap foundAnswer (sym e) ∙ f) in omega arith
+  where
+    below : (from count : ℕ) → some i ≡ firstFrom (λ j. eqb (setAt bs j) c) from count → i < from + count
+    below from count q = first-below (λ j. eqb (setAt bs j) c) from count i q
+
+module _ (room : ℕ) (bs cs : List ℕ) (layer : Layer) (es : List (Entry ℕ)) (held : HoldsLayer room bs cs layer es) (c k : ℕ) where
+  -- room was gone before
+  pub add-full : layer ≡ L.Full → HoldsLayer room bs cs L.Full (addPaths eqb c k es)
+  add-full e = held-past room bs cs (addPaths eqb c k es) (omega (arith, state-full room es (sym e ∙ held .state), length-addPaths c k es))
+
+  module _ (n : ℕ) (over : Bool) (e : layer ≡ L.Boards n over) (lent : 4 * room ≤ length bs) (found : Found) (f : foundAnswer found ≡ findNode bs 0 n c) where
+    told : (length es ≤ room) × (n ≡ length es) × (over ≡ tooLarge (counts es))
+    told = state-boards room es n over (sym e ∙ held .state)
+
+    sought : foundAnswer found ≡ cond (holds eqb (boards es) c) (some (numberIn eqb (boards es) c)) none
+    sought =
+        let long : length (boards es) ≡ length es = length-map es (λ (x : Entry ℕ). x .0) in
+        f
+        ∙ ap (λ (m : ℕ). findNode bs 0 m c) (told .1 ∙ sym long)
+        ∙ found-held bs (boards es) c (omega (arith, told .0)) (ap (listOf (setAt bs)) long ∙ held .boards (told .0))
+
+    -- ---- it is new
+    module _ (new : found ≡ F.Nothing) where
+      not-held : holds eqb (boards es) c ≡ false
+      not-held = go (holds eqb (boards es) c) (ap foundAnswer (sym new) ∙ sought)
+        where
+          go : (t : Bool) → none ≡ cond t (some (numberIn eqb (boards es) c)) none → t ≡ false
+          go true q = let z : _≡_ {A = ℕ} 0 1 = cc in absurd (omega arith)
+          go false q = refl
+
+      -- there is no room for it
+      pub add-past : room ≤ n → HoldsLayer room bs cs L.Full (addPaths eqb c k es)
+      add-past h = held-past room bs cs (addPaths eqb c k es) (omega (arith, told .1, length-new c k es not-held))
+
+      -- it is stored behind the others
+      module _ (h : n < room) (bs′ : List ℕ) (g : bs′ ≡ withSet bs n c) where
+        before : (j : ℕ) → j < length es → setAt bs′ j ≡ setAt bs j
+        before j l = ap (λ (ws : List ℕ). setAt ws j) g ∙ setAt-other bs n c j (λ q. omega (arith, told .1))
+
+        lent-one : n < length bs / 4
+        lent-one = omega arith
+
+        last : c < 2 ^ 256 → setAt bs′ (length es) ≡ c
+        last hc = ap (setAt bs′) (sym (told .1)) ∙ ap (λ (ws : List ℕ). setAt ws n) g ∙ setAt-same bs n c lent-one hc
+
+        long : length (es ++ (c, k) ∷ []) ≡ length es + 1
+        long = length-append es ((c, k) ∷ [])
+
+        large : k < 2 ^ 64 → tooLarge (counts (es ++ (c, k) ∷ [])) ≡ tooLarge (counts es)
+        large hk = ap tooLarge (map-append (λ (x : Entry ℕ). x .1) es ((c, k) ∷ [])) ∙ tooLarge-snoc (counts es) k hk
+
+        stored : c < 2 ^ 256 → listOf (setAt bs′) (length (es ++ (c, k) ∷ [])) ≡ boards (es ++ (c, k) ∷ [])
+        stored hc =
+            ap (listOf (setAt bs′)) long
+            ∙ listOf-snoc (setAt bs′) (length es)
+            ∙ ap₂ (λ (l : List ℕ) (x : ℕ). l ++ x ∷ []) (listOf-ext (setAt bs′) (setAt bs) (length es) before ∙ held .boards (told .0)) (last hc)
+            ∙ sym (map-append (λ (x : Entry ℕ). x .0) es ((c, k) ∷ []))
+
+        count-before : (j : ℕ) → j < length es → getD (set cs n k) j 0 ≡ getD cs j 0
+        count-before j l = getD-set-other cs n j k 0 (λ q. omega (arith, told .1))
+
+        count-last : room ≤ length cs → getD (set cs n k) (length es) 0 ≡ k
+        count-last r = ap (λ (j : ℕ). getD (set cs n k) j 0) (sym (told .1)) ∙ getD-set-same cs n k 0 (omega arith)
+
+        counted : room ≤ length cs → tooLarge (counts es) ≡ false
+            → listOf (λ i. getD (set cs n k) i 0) (length (es ++ (c, k) ∷ [])) ≡ counts (es ++ (c, k) ∷ [])
+        counted r q =
+            ap (listOf (λ i. getD (set cs n k) i 0)) long
+            ∙ listOf-snoc (λ i. getD (set cs n k) i 0) (length es)
+            ∙ ap₂ (λ (l : List ℕ) (x : ℕ). l ++ x ∷ [])
+            (listOf-ext (λ i. getD (set cs n k) i 0) (λ i. getD cs i 0) (length es) count-before ∙ held .counts (told .0) q) (count-last r)
+            ∙ sym (map-append (λ (x : Entry ℕ). x .1) es ((c, k) ∷ []))
+
+        more : (length (es ++ (c, k) ∷ []) ≤ room) × (n + 1 ≡ length (es ++ (c, k) ∷ []))
+        more = (omega (arith, told .1, long), omega (arith, told .1, long))
+
+        pub add-new : room ≤ length cs → c < 2 ^ 256 → k < 2 ^ 64 → HoldsLayer room bs′ (set cs n k) (L.Boards (n + 1) over) (addPaths eqb c k es)
+        add-new r hc hk =
+            rw (addPaths-new c k es not-held)
+            record {
+              state = state-within room (es ++ (c, k) ∷ []) (n + 1) over (more .0) (more .1) (told .2 ∙ sym (large hk));
+              boards = λ l. stored hc;
+              counts = λ l q. counted r (sym (large hk) ∙ q);
+            }
+
+    -- ---- it is there already
+    module _ (i : ℕ) (old : found ≡ F.At i) where
+      is-held : (holds eqb (boards es) c ≡ true) × (i ≡ numberIn eqb (boards es) c)
+      is-held = go (holds eqb (boards es) c) (ap foundAnswer (sym old) ∙ sought)
+        where
+          go : (t : Bool) → some i ≡ cond t (some (numberIn eqb (boards es) c)) none → (t ≡ true) × (i ≡ numberIn eqb (boards es) c)
+          go true q = (refl, cc)
+          go false q = let z : _≡_ {A = ℕ} 0 1 = cc in absurd (omega arith)
+
+      at-place : i < length (counts es)
+      at-place =
+          omega (
+            arith,
+            is-held .1,
+            number-lt eqb eqb-tells (boards es) c (holds-iff eqb eqb-tells (boards es) c .0 (is-held .0)),
+            length-map es (λ (x : Entry ℕ). x .0),
+            length-map es (λ (x : Entry ℕ). x .1),
+          )
+
+      raised : counts (addPaths eqb c k es) ≡ set (counts es) i (getD (counts es) i 0 + k)
+      raised = counts-old c k es (is-held .0) ∙ ap (λ (j : ℕ). set (counts es) j (getD (counts es) j 0 + k)) (sym (is-held .1))
+
+      grows : tooLarge (counts (addPaths eqb c k es)) ≡ (over || leb countLimit (getD (counts es) i 0 + k))
+      grows =
+          ap tooLarge raised
+          ∙ tooLarge-set (counts es) i (getD (counts es) i 0 + k) at-place (omega arith)
+          ∙ ap (λ (t : Bool). t || leb countLimit (getD (counts es) i 0 + k)) (sym (told .2))
+
+      as-long : (length (addPaths eqb c k es) ≤ room) × (n ≡ length (addPaths eqb c k es))
+      as-long = (omega (arith, told .0, length-old c k es (is-held .0)), omega (arith, told .1, length-old c k es (is-held .0)))
+
+      kept : listOf (setAt bs) (length (addPaths eqb c k es)) ≡ boards (addPaths eqb c k es)
+      kept =
+          ap (listOf (setAt bs)) (length-old c k es (is-held .0))
+          ∙ held .boards (told .0)
+          ∙ sym (boards-addPaths eqb c k es ∙ addNew-old eqb (boards es) c (is-held .0))
+
+      -- a count was too large before
+      pub add-large : (cs′ : List ℕ) → over ≡ true → HoldsLayer room bs cs′ (L.Boards n over) (addPaths eqb c k es)
+      add-large cs′ q =
+          let large : tooLarge (counts (addPaths eqb c k es)) ≡ true = grows ∙ ap (λ (t : Bool). t || leb countLimit (getD (counts es) i 0 + k)) q in
+          record {
+            state = state-within room (addPaths eqb c k es) n over (as-long .0) (as-long .1) (q ∙ sym large);
+            boards = λ l. kept;
+            counts = λ l z. absurd (false≢true (sym z ∙ large));
+          }
+
+      -- none was
+      module _ (fine : over ≡ false) (cs′ : List ℕ) (r : Bool) (adds : AddsCount cs i k cs′ r) where
+        count-at : (v : ℕ) → v < length (counts es) → getD cs v 0 ≡ getD (counts es) v 0
+        count-at v l =
+            sym (getD-listOf (λ j. getD cs j 0) (length es) v 0 (omega (arith, length-map es (λ (x : Entry ℕ). x .1))))
+            ∙ ap (λ (ns : List ℕ). getD ns v 0) (held .counts (told .0) (sym (told .2) ∙ fine))
+
+        now-large : tooLarge (counts (addPaths eqb c k es)) ≡ r
+        now-large =
+            grows
+            ∙ ap (λ (t : Bool). t || leb countLimit (getD (counts es) i 0 + k)) fine
+            ∙ ap (λ (m : ℕ). leb countLimit (m + k)) (sym (count-at i at-place))
+            ∙ sym (adds .large)
+
+        summed : r ≡ false → (v : ℕ) → v < length (counts es) → Dec (v ≡ i) → getD (set (counts es) i (getD (counts es) i 0 + k)) v 0 ≡ getD cs′ v 0
+        summed q v l (yes z) =
+            ap (λ (j : ℕ). getD (set (counts es) i (getD (counts es) i 0 + k)) j 0) z
+            ∙ getD-set-same (counts es) i (getD (counts es) i 0 + k) 0 at-place
+            ∙ ap (λ (m : ℕ). m + k) (sym (count-at i at-place))
+            ∙ sym (adds .same v ∙ rw (q, eq-eqb v i z))
+        summed q v l (no z) =
+            getD-set-other (counts es) i v (getD (counts es) i 0 + k) 0 z ∙ sym (count-at v l) ∙ sym (adds .same v ∙ rw (q, ne-eqb v i z))
+
+        raised-all : r ≡ false → listOf (λ j. getD cs′ j 0) (length (addPaths eqb c k es)) ≡ counts (addPaths eqb c k es)
+        raised-all q =
+            sym
+            (listOf-eta 0 (counts (addPaths eqb c k es)) (λ j. getD cs′ j 0) (length (addPaths eqb c k es))
+            (length-map (addPaths eqb c k es) (λ (x : Entry ℕ). x .1))
+            (λ v l.
+            let h : v < length (counts es) = omega (arith, length-map es (λ (x : Entry ℕ). x .1), length-old c k es (is-held .0)) in
+            ap (λ (ns : List ℕ). getD ns v 0) raised ∙ summed q v h (ℕ-discrete v i)))
+
+        pub add-old : HoldsLayer room bs cs′ (L.Boards n r) (addPaths eqb c k es)
+        add-old =
+            record {
+              state = state-within room (addPaths eqb c k es) n r (as-long .0) (as-long .1) (sym now-large);
+              boards = λ l. kept;
+              counts = λ l z. raised-all (sym now-large ∙ z);
+            }
+
+-- ---- many additions
+
+module _ (room : ℕ) (bs cs : List ℕ) (layer : Layer) (f : ℕ → ℕ) (k : ℕ) (es : List (Entry ℕ)) where
+  pub each-none : HoldsLayer room bs cs layer es → HoldsLayer room bs cs layer (addEach (listOf f 0) k es)
+  each-none h = subst (HoldsLayer room bs cs layer) (sym (addEach-none f k es)) h
+
+  pub each-more : (i c : ℕ) → c ≡ f i → HoldsLayer room bs cs layer (addPaths eqb c k (addEach (listOf f i) k es))
+      → HoldsLayer room bs cs layer (addEach (listOf f (i + 1)) k es)
+  each-more i c e h =
+      subst (HoldsLayer room bs cs layer) (ap (λ (b : ℕ). addPaths eqb b k (addEach (listOf f i) k es)) e ∙ addEach-more f i k es) h
+
+  pub each-all : (i n : ℕ) → i ≤ n → n ≤ i → HoldsLayer room bs cs layer (addEach (listOf f i) k es)
+      → HoldsLayer room bs cs layer (addEach (listOf f n) k es)
+  each-all i n a b h = let e : i ≡ n = omega arith in subst (λ (m : ℕ). HoldsLayer room bs cs layer (addEach (listOf f m) k es)) e h
+
+-- ---- the layer behind a layer
+
+module _ (room : ℕ) (next totals : List ℕ) (layer : Layer) where
+  -- the children, given by another list that is theirs
+  pub grown-by : (bs bs′ : List ℕ) (k : ℕ) (es : List (Entry ℕ)) → bs ≡ bs′ → HoldsLayer room next totals layer (addEach bs k es)
+      → HoldsLayer room next totals layer (addEach bs′ k es)
+  grown-by bs bs′ k es e h = subst (λ (l : List ℕ). HoldsLayer room next totals layer (addEach l k es)) e h
+
+  module _ (b : Board) (paths : List Path) (bs cs : List ℕ) where
+    pub grown-more : (i : ℕ)
+        → HoldsLayer room next totals layer (addEach (childBoards (setting b paths) (setAt bs i)) (getD cs i 0) (nextOf (setting b paths) (entriesIn bs cs i)))
+        → HoldsLayer room next totals layer (nextOf (setting b paths) (entriesIn bs cs (i + 1)))
+    grown-more i h = subst (HoldsLayer room next totals layer) (next-more b paths bs cs i) h
+
+    pub grown-all : (i n : ℕ) → i ≤ n → n ≤ i → HoldsLayer room next totals layer (nextOf (setting b paths) (entriesIn bs cs i))
+        → HoldsLayer room next totals layer (nextOf (setting b paths) (entriesIn bs cs n))
+    grown-all i n l m h = let e : i ≡ n = omega arith in subst (λ (j : ℕ). HoldsLayer room next totals layer (nextOf (setting b paths) (entriesIn bs cs j))) e h
+
+pub grown-none : (room : ℕ) (next totals : List ℕ) (b : Board) (paths : List Path) (bs cs : List ℕ)
+    → HoldsLayer room next totals (L.Boards 0 false) (nextOf (setting b paths) (entriesIn bs cs 0))
+grown-none room next totals b paths bs cs = subst (HoldsLayer room next totals (L.Boards 0 false)) (next-none b paths bs cs) (held-none room next totals)
+
+-- ---- some paths more for one count
+
+module _ (cs : List ℕ) (i k : ℕ) (h : k < 2 ^ 64) where
+  pub count-refused : 18446744073709551615 - k < getD cs i 0 → AddsCount cs i k cs true
+  count-refused l = record { large = sym (le-leb countLimit (getD cs i 0 + k) (omega arith)); same = λ v. refl }
+
+  pub count-raised : i < length cs → getD cs i 0 ≤ 18446744073709551615 - k → AddsCount cs i k (set cs i (getD cs i 0 + k)) false
+  count-raised r l = record { large = sym (lt-leb countLimit (getD cs i 0 + k) (omega arith)); same = λ v. go v (ℕ-discrete v i) }
+    where
+      go : (v : ℕ) → Dec (v ≡ i) → getD (set cs i (getD cs i 0 + k)) v 0 ≡ cond (eqb v i) (getD cs i 0 + k) (getD cs v 0)
+      go v (yes q) = rw (eq-eqb v i q) (ap (λ (j : ℕ). getD (set cs i (getD cs i 0 + k)) j 0) q ∙ getD-set-same cs i (getD cs i 0 + k) 0 r)
+      go v (no q) = rw (ne-eqb v i q) (getD-set-other cs i v (getD cs i 0 + k) 0 q)
+
+-- ---- the count of a last layer
+
+module _ (f : ℕ → ℕ) (n : ℕ) where
+  pub last-none : n ≡ 0 → given 0 ≡ given (getD (listOf f n) 0 0)
+  unfolding listOf
+  last-none e = rw e refl
+
+  pub last-one : (n ≡ 0 → ⊥) → given (f 0) ≡ given (getD (listOf f n) 0 0)
+  last-one ne = ap given (sym (getD-listOf f n 0 0 (omega arith)))

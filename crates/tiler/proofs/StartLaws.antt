@@ -1,0 +1,148 @@
+-- Laws that the proofs of `layers::weighed`, `layers::counted`, `count_tilings` and `count_tilings_from_graph` cite: layer 0 in lent words, the answer
+-- of each way out, and the words that are cleared. Rests on `RunLaws`, `AcceptedLaws`
+-- and `PlotLaws`. Assumes nothing.
+use mathlib.Core.Path.{_≡_, sym, ap, ap₂, _∙_, subst}
+use mathlib.Core.List.{List, [], _∷_}
+use Prim.Native.Nat.{ℕ, _*_, _^_, _≤_, _<_}
+use native.Mathlib.Nat.{le-refl}
+use native.Mathlib.Omega.{arith}
+use borrow.Author.Tests.{le-ltb, ne-eqb}
+use lib.Dec.{eqb, ltb}
+use lib.ListN.{length, getD, set, replicate, List·getD-eq-default}
+use lib.Seq.{getD-set-same}
+use mathlib.Core.Bool.{Bool, false, cond}
+use Rattle.cells.specs.Words.{number}
+use Rattle.cells.specs.Arrays.{listFrom, listOf}
+use Rattle.cells.specs.ArrayLaws.{listOf-ext, replicate-listOf}
+use Rattle.cells.specs.Lists.{setAt, withSet, clearedFrom}
+use Rattle.cells.specs.ListLaws.{storedIn-none, storedIn-snoc, setAt-storedIn}
+use Rattle.tile.specs.declared.Tiles.{Tiles}
+use Rattle.tile.specs.Refusal.{Answer, refused, given, bindAnswer}
+use Rattle.tile.specs.Path.{Path}
+use Rattle.tile.specs.Stored.{pathsIn}
+use Rattle.board.specs.declared.RectangularBoard.{RectangularBoard}
+use Rattle.board.specs.Board.{Board, boardOf, marks, freeCount}
+use Rattle.board.specs.BoardLaws.{marks-lt}
+use Rattle.covers.specs.Cuttings.{Setting}
+use Rattle.covers.specs.Counts.{Entry, atNode}
+use Rattle.tiler.specs.declared.Complete.{Complete}
+use Rattle.tiler.specs.declared.Complete.the-variants as N
+use Rattle.tiler.specs.Boards.{setting, settingOf, startOf}
+use Rattle.tiler.specs.Counting.{layersAnswer, layerRoom, readPlot, countTilings, completeNode, countFromGraph}
+use Rattle.tiler.specs.Inner.{Accepted, entriesIn, countFrom, Ready}
+use Rattle.tiler.specs.RunLaws.{ready-start, layers-from, layers-full, layers-no-room}
+use Rattle.tiler.specs.AcceptedLaws.{setting-full, accepted-laws, accepted-start, accepted-free}
+use Rattle.tiler.proofs.PlotLaws.{layerRoom-boardsA, layerRoom-countsA, layerRoom-boardsB, layerRoom-countsB}
+
+-- ---- layer 0 in lent words
+
+set-first : (ws : List ℕ) (x : ℕ) → x < 2 ^ 256 → 4 ≤ length ws → setAt (withSet ws 0 x) 0 ≡ x
+set-first ws x small h =
+    ap (λ (l : List ℕ). setAt l 0) (ap (λ (l : List ℕ). withSet l 0 x) (storedIn-none ws) ∙ storedIn-snoc [] ws x h)
+    ∙ setAt-storedIn (x ∷ []) ws 0 one h small
+  where
+    one : 0 < 1
+    one = omega arith
+
+module _ (bs cs bs′ : List ℕ) (m s : ℕ) (is : m ≡ s) (put : bs′ ≡ withSet bs 0 m)
+    (room : ℕ) (some : room ≡ 0 → ⊥) (longB : 4 * room ≤ length bs) (longC : room ≤ length cs) where
+  first-count : getD (set cs 0 1) 0 0 ≡ 1
+  first-count = getD-set-same cs 0 1 0 (omega arith)
+
+  four-words : 4 ≤ length bs
+  four-words = omega arith
+
+  first-entries : s < 2 ^ 256 → entriesIn bs′ (set cs 0 1) 1 ≡ (s, 1) ∷ []
+  unfolding entriesIn listOf listFrom
+  first-entries small =
+      let board : setAt bs′ 0 ≡ s =
+      ap (λ (l : List ℕ). setAt l 0) (put ∙ ap (withSet bs 0) is) ∙ set-first bs s small four-words in
+      ap₂ (λ (x y : ℕ). (x, y) ∷ []) board first-count
+
+-- ---- the ways out of `weighed`
+
+pub start-no-room : (S : Setting ℕ ℕ) (s room R : ℕ) → room ≡ R → room ≡ 0 → refused 8 ≡ layersAnswer S s R
+start-no-room S s room R e z = sym (ap (layersAnswer S s) (sym e ∙ z) ∙ layers-no-room S s)
+
+pub positive : (n : ℕ) → (n ≡ 0 → ⊥) → 0 < n
+positive n h = omega arith
+
+-- the room of two layers
+pub room-fits : (boardsA countsA boardsB countsB room : ℕ) → room ≡ layerRoom boardsA countsA boardsB countsB
+    → (4 * room ≤ boardsA) × (room ≤ countsA) × (4 * room ≤ boardsB) × (room ≤ countsB)
+room-fits boardsA countsA boardsB countsB room e = (
+  omega (arith, layerRoom-boardsA boardsA countsA boardsB countsB),
+  omega (arith, layerRoom-countsA boardsA countsA boardsB countsB),
+  omega (arith, layerRoom-boardsB boardsA countsA boardsB countsB),
+  omega (arith, layerRoom-countsB boardsA countsA boardsB countsB),
+)
+
+module _ (b : RectangularBoard) (ts : Tiles) (A : Accepted b ts) (fixedLt : number (b .fixed) < 2 ^ 256) (laidLt : number (b .laid) < 2 ^ 256)
+    (free : ℕ) (isFree : free ≡ freeCount (boardOf b)) (room R : ℕ) (is : room ≡ R) (some : room ≡ 0 → ⊥) where
+  abbrev S : Setting ℕ ℕ
+  S = settingOf b ts
+
+  start-free : S .freeCount (startOf b) ≡ free
+  start-free = accepted-free b ts A fixedLt laidLt ∙ sym isFree
+
+  pub start-full : free ≡ 0 → given 0 ≡ layersAnswer S (startOf b) R
+  start-full z = sym (ap (layersAnswer S (startOf b)) (sym is) ∙ layers-full S (startOf b) room (start-free ∙ z) (positive room some))
+
+  module _ (bs cs bs′ : List ℕ) (m : ℕ) (isMarks : m ≡ startOf b) (put : bs′ ≡ withSet bs 0 m)
+      (longB : 4 * room ≤ length bs) (longC : room ≤ length cs) where
+    entries : entriesIn bs′ (set cs 0 1) 1 ≡ (startOf b, 1) ∷ []
+    entries = first-entries bs cs bs′ m (startOf b) isMarks put room some longB longC (marks-lt (boardOf b))
+
+    pub start-ready : Ready S free (entriesIn bs′ (set cs 0 1) 1)
+    unfolding setting
+    start-ready =
+        subst (λ (es : List (Entry ℕ)). Ready S free es) (sym entries)
+        (subst (λ (k : ℕ). Ready S k ((startOf b, 1) ∷ [])) start-free
+        (ready-start S (accepted-laws b ts A) (startOf b) (accepted-start b ts A fixedLt laidLt)))
+
+    pub start-run : (free ≡ 0 → ⊥) → (x : Answer ℕ) → ((k : ℕ) → free ≤ k → x ≡ countFrom S room k (entriesIn bs′ (set cs 0 1) 1))
+        → x ≡ layersAnswer S (startOf b) R
+    start-run z x e =
+        let notFull : S .full (startOf b) ≡ false =
+        setting-full (boardOf b) (pathsIn ts) (startOf b) ∙ ap (λ (k : ℕ). eqb k 0) start-free ∙ ne-eqb free 0 z in
+        e free (le-refl free) ∙ ap (countFrom S room free) entries ∙ ap (λ (k : ℕ). countFrom S room k ((startOf b, 1) ∷ [])) (sym start-free)
+        ∙ sym (layers-from S (startOf b) room notFull (positive room some))
+        ∙ ap (layersAnswer S (startOf b)) is
+
+-- ---- the ways out of `counted`
+
+module _ (b : RectangularBoard) (ts : Tiles) (room : ℕ) where
+  pub count-given : (x : Answer ℕ) → readPlot b ts ≡ given (boardOf b, pathsIn ts) → x ≡ layersAnswer (settingOf b ts) (startOf b) room
+      → x ≡ countTilings b ts room
+  unfolding countTilings bindAnswer
+  count-given x r e =
+      e ∙ ap (λ (a : Answer (Board × List Path)). bindAnswer a (λ p. layersAnswer (setting (p .0) (p .1)) (marks (p .0)) room)) (sym r)
+
+  pub count-refused : (n : ℕ) → readPlot b ts ≡ refused n → refused n ≡ countTilings b ts room
+  unfolding countTilings bindAnswer
+  count-refused n r = ap (λ (a : Answer (Board × List Path)). bindAnswer a (λ p. layersAnswer (setting (p .0) (p .1)) (marks (p .0)) room)) (sym r)
+
+-- ---- words that are cleared
+
+pub cleared-zeros : (n : ℕ) (ws ws′ : List ℕ) → ws′ ≡ clearedFrom 0 ws → length ws ≡ n → ws′ ≡ replicate n 0
+unfolding clearedFrom
+cleared-zeros n ws ws′ e h =
+    e
+    ∙ listOf-ext (λ i. cond (ltb i 0) (getD ws i 0) 0) (λ i. 0) (length ws)
+    (λ i k. ap {B = ℕ} (λ (t : Bool). cond t (getD ws i 0) 0) (le-ltb i 0 (omega arith)))
+    ∙ sym (replicate-listOf 0 (length ws) 0)
+    ∙ ap (λ (n : ℕ). replicate n 0) h
+
+-- ---- the ways out of `count_tilings_from_graph`
+
+module _ (complete : Complete) (cs : List ℕ) where
+  pub graph-none : complete ≡ N.Nothing → 0 ≡ countFromGraph (completeNode complete) cs
+  unfolding countFromGraph atNode
+  graph-none e = ap (λ (n : Complete). countFromGraph (completeNode n) cs) (sym e)
+
+  pub graph-node : (v : ℕ) → complete ≡ N.Node v → getD cs v 0 ≡ countFromGraph (completeNode complete) cs
+  unfolding countFromGraph atNode
+  graph-node v e = ap (λ (n : Complete). countFromGraph (completeNode n) cs) (sym e)
+
+  pub graph-past : (v : ℕ) → complete ≡ N.Node v → length cs ≤ v → 0 ≡ countFromGraph (completeNode complete) cs
+  graph-past v e h = sym (List·getD-eq-default cs 0 h) ∙ graph-node v e

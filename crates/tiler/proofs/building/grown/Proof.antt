@@ -1,0 +1,49 @@
+-- `tiler::building::grown` meets its contract: the start is stored as node 0, and the graph is built behind it; with no room it is full.
+-- Assumes nothing.
+use Prim.Native.Nat.{_^_, _<_}
+use Rattle.cells.specs.Words.{number}
+use Rattle.cells.specs.WordLaws.{number-lt}
+use Rattle.tiler.proofs.BuildLaws.{start-put, build-full}
+use native.Mathlib.Omega.{arith}
+use borrow.Author.Needs.{needs}
+use Rattle.tiler.proofs.building.grown.Statement.{statement}
+use Rattle.tiler.proofs.building.grown.Tie as tie
+
+fixed-small : (c : tie.Start) → number (c .args .board .fixed) < 2 ^ 256
+fixed-small c = number-lt _ (record { s0 = search needs; s1 = search needs; s2 = search needs; s3 = search needs })
+
+laid-small : (c : tie.Start) → number (c .args .board .laid) < 2 ^ 256
+laid-small c = number-lt _ (record { s0 = search needs; s1 = search needs; s2 = search needs; s3 = search needs })
+
+returns : tie.Need-returns
+returns c =
+    let s = c .before .before .before in
+    (omega arith, build-full (s .args .board) (s .args .tiles) (s .pre .0) (fixed-small s) (laid-small s) _ _ _ _ (c .if1 .taken))
+
+build-requires : tie.Need-build-requires
+build-requires c κs =
+    let p = c .before .before .before .before .before in
+    let m = p .before in
+    let e = m .before .before in
+    let s = e .before .before .before in (
+      s .pre .0,
+      search needs,
+      search needs,
+      search needs,
+      search needs,
+      s .pre .3,
+      start-put (s .args .board) _ _ (e .if1 .left) (s .pre .1) _ (m .marks .ensures) _ (p .put .ensures),
+    )
+
+pub grown-spec : {M : Type 1} → statement M
+grown-spec =
+    tie.close
+    (tie.spec
+    returns
+    (λ c κs. search needs)
+    (λ c κs. search needs)
+    (λ c. search needs)
+    build-requires
+    (λ c. search needs)
+    (λ c. search needs)
+    (λ c. search needs))

@@ -1,0 +1,13 @@
+-- `tiler::plot::edge_room` meets its contract: by definition.
+-- Assumes nothing.
+use borrow.Author.Needs.{needs}
+use Rattle.tiler.specs.Counting.{edgeRoom}
+use Rattle.tiler.proofs.plot.edge_room.Statement.{statement}
+use Rattle.tiler.proofs.plot.edge_room.Tie as tie
+
+returns : tie.Need-returns
+unfolding edgeRoom
+returns c = c .room .ensures
+
+pub edge-room-spec : {M : Type 1} → statement M
+edge-room-spec = tie.close (tie.spec (λ c κs. search needs) returns)

@@ -1,0 +1,136 @@
+-- What an answer that is given says: board and tiles are not refused, the graph has room and its counts fit, the layer count is the definition's.
+-- Rests on `AcceptedLaws`. Assumes nothing.
+use mathlib.Core.Path.{_≡_, refl, sym, ap, _∙_, subst}
+use mathlib.Core.Bool.{Bool, true, false, So, cond, false≢true}
+use mathlib.Core.List.{List, [], _∷_}
+use mathlib.Core.Option.{Option, none, some, Option·none-ne-some}
+use Prim.Native.Nat.{ℕ, _≤_, _<_}
+use native.Mathlib.Decide.{decLt}
+use native.Mathlib.Omega.{arith}
+use borrow.Author.Tests.{leb-true, leb-false}
+use lib.Dec.{leb}
+use lib.ListN.{length, getD, List·getD-eq-default}
+use Rattle.cells.specs.FirstsLaws.{any-true, mem-getD}
+use Rattle.tile.specs.declared.Tiles.{Tiles}
+use Rattle.tile.specs.Refusal.{Answer, refused, given, mapAnswer, bindAnswer, refusalOf}
+use Rattle.tile.specs.RefusalLaws.{refused-given}
+use Rattle.tile.specs.Path.{Path, equalCounts}
+use Rattle.tile.specs.Stored.{soundAt, pathsIn, readTiles, readEqualTiles}
+use Rattle.cells.specs.Arrays.{allBelow}
+use Rattle.cells.specs.ArrayLaws.{getD-listOf}
+use Rattle.board.specs.declared.RectangularBoard.{RectangularBoard}
+use Rattle.board.specs.Board.{Board, boardOf, marks, valid, readBoard}
+use Rattle.covers.specs.Counts.{atNode, fullFrom, fullNode, layerCount, layerOf}
+use Rattle.covers.specs.CountLaws.{fullNode-some}
+use Rattle.graph.specs.Graph.{numbersFor}
+use Rattle.tiler.specs.Boards.{setting, settingOf, startOf}
+use Rattle.tiler.specs.Counting.{countLimit, tooLarge, readPlot, weighTo, layersAnswer, Graph, graphOf, weighGraph, nodeRoom, edgeRoom, generateGraph, countFromGraph}
+use Rattle.tiler.specs.Inner.{Accepted}
+use Rattle.tiler.specs.AcceptedLaws.{read-accepted}
+
+given-is : {A : Type 0} (x y : A) → given x ≡ given y → x ≡ y
+given-is x y e = cc
+
+-- an answer that is given comes from board and tiles that are not refused
+pub from-read : {A : Type 0} (b : RectangularBoard) (ts : Tiles) (f : Board × List Path → Answer A) (x : A) → bindAnswer (readPlot b ts) f ≡ given x
+    → Accepted b ts × (f (boardOf b, pathsIn ts) ≡ given x)
+unfolding bindAnswer
+from-read {A} b ts f x e = go (readPlot b ts) refl e
+  where
+    go : (a : Answer (Board × List Path)) → readPlot b ts ≡ a → bindAnswer a f ≡ given x → Accepted b ts × (f (boardOf b, pathsIn ts) ≡ given x)
+    go (refused n) q h = absurd (refused-given n x h)
+    go (given p) q h = let r = read-accepted b ts p q in (r .1, ap f (sym (r .0)) ∙ h)
+
+-- a graph that is given has room, and its counts fit
+pub weighed-graph : (room space : ℕ) (g k : Graph) → weighGraph room space g ≡ given k → (g ≡ k) × (length (g .nodes) ≤ room) × (length (g .edges) ≤ space) × (tooLarge (g .counts) ≡ false)
+unfolding weighGraph
+weighed-graph room space g k e = go (leb (length (g .nodes)) room) refl (leb (length (g .edges)) space) refl (tooLarge (g .counts)) refl e
+  where
+    go : (s : Bool) → leb (length (g .nodes)) room ≡ s → (t : Bool) → leb (length (g .edges)) space ≡ t → (u : Bool) → tooLarge (g .counts) ≡ u
+        → cond s (cond t (cond u (refused 9) (given g)) (refused 10)) (refused 8) ≡ given k
+        → (g ≡ k) × (length (g .nodes) ≤ room) × (length (g .edges) ≤ space) × (tooLarge (g .counts) ≡ false)
+    go false p t q u r h = absurd (refused-given 8 k h)
+    go true p false q u r h = absurd (refused-given 10 k h)
+    go true p true q true r h = absurd (refused-given 9 k h)
+    go true p true q false r h = (given-is g k h, leb-true _ _ p, leb-true _ _ q, r)
+
+-- the layer count that is given is the definition's
+pub counted-layers : (b : RectangularBoard) (ts : Tiles) (room n : ℕ) → layersAnswer (settingOf b ts) (startOf b) room ≡ given n → layerCount (settingOf b ts) (startOf b) ≡ n
+unfolding layersAnswer mapAnswer
+counted-layers b ts room n e = go (weighTo (layerOf (settingOf b ts) (startOf b)) room (settingOf b ts .freeCount (startOf b))) e
+  where
+    go : {A : Type 0} (a : Answer A) → mapAnswer (λ es. layerCount (settingOf b ts) (startOf b)) a ≡ given n → layerCount (settingOf b ts) (startOf b) ≡ n
+    go (refused k) h = absurd (refused-given k n h)
+    go (given es) h = given-is _ n h
+
+-- each of some counts that fit is below the limit
+pub small-counts : (ns : List ℕ) → tooLarge ns ≡ false → (v : ℕ) → getD ns v 0 < countLimit
+unfolding tooLarge
+small-counts ns e v = go (decLt v (length ns)) (leb countLimit (getD ns v 0)) refl
+  where
+    go : Dec (v < length ns) → (t : Bool) → leb countLimit (getD ns v 0) ≡ t → getD ns v 0 < countLimit
+    go (yes h) true q = absurd (false≢true (sym e ∙ any-true (λ n. leb countLimit n) ns (getD ns v 0) (mem-getD ns v 0 h) q))
+    go (yes h) false q = leb-false _ _ q
+    go (no h) t q = let z = List·getD-eq-default ns 0 {n = v} (omega arith) in omega (arith, z)
+
+-- the full board's node is behind node 0, a node, and full
+pub node-behind : (full : ℕ → Bool) (ns : List ℕ) (v d : ℕ) → fullNode full ns ≡ some v → (0 < v) × (v < length ns) × So (full (getD ns v d))
+unfolding fullNode fullFrom
+node-behind full [] v d e = absurd (Option·none-ne-some v e)
+node-behind full (n ∷ ns) v d e = fullNode-some full n ns v d e
+
+-- ---- refusals have numbers above 0
+
+module _ (b : RectangularBoard) (ts : Tiles) where
+  tiles-refusal : (n : ℕ) → readEqualTiles ts ≡ refused n → 0 < n
+  unfolding readEqualTiles readTiles bindAnswer refusalOf
+  tiles-refusal n e = go (leb (ts .count) 64) (allBelow (soundAt (ts .lens) (ts .codes)) (ts .count)) e
+    where
+      last : (t : Bool) → cond t (given (pathsIn ts)) (refused 7) ≡ refused n → 0 < n
+      last true h = absurd (refused-given n (pathsIn ts) (sym h))
+      last false h = omega (arith, ap refusalOf h)
+
+      go : (t u : Bool) → bindAnswer (cond t (cond u (given (pathsIn ts)) (refused 5)) (refused 6)) (λ paths. cond (equalCounts paths) (given paths) (refused 7)) ≡ refused n → 0 < n
+      go true true h = last (equalCounts (pathsIn ts)) h
+      go true false h = omega (arith, ap refusalOf h)
+      go false u h = omega (arith, ap refusalOf h)
+
+  plot-refusal : (n : ℕ) → readPlot b ts ≡ refused n → 0 < n
+  unfolding readPlot readBoard bindAnswer mapAnswer refusalOf
+  plot-refusal n e = go (valid (boardOf b)) (readEqualTiles ts) refl e
+    where
+      go : (t : Bool) (a : Answer (List Path)) → readEqualTiles ts ≡ a
+          → bindAnswer {B = Board × List Path} (cond t (given (boardOf b)) (refused 4)) (λ board. mapAnswer (λ (paths : List Path). (board, paths)) a) ≡ refused n → 0 < n
+      go false a q h = omega (arith, ap refusalOf h)
+      go true (refused k) q h = subst (λ (x : ℕ). 0 < x) (ap refusalOf h) (tiles-refusal k q)
+      go true (given paths) q h = absurd (refused-given n (boardOf b, paths) (sym h))
+
+graph-refusal : (room space : ℕ) (g : Graph) → refusalOf (weighGraph room space g) ≡ 0 → (k : Graph) × (weighGraph room space g ≡ given k)
+unfolding weighGraph refusalOf
+graph-refusal room space g e = go (leb (length (g .nodes)) room) (leb (length (g .edges)) space) (tooLarge (g .counts)) e
+  where
+    go : (s t u : Bool) → refusalOf (cond s (cond t (cond u (refused 9) (given g)) (refused 10)) (refused 8)) ≡ 0
+        → (k : Graph) × (cond s (cond t (cond u (refused 9) (given g)) (refused 10)) (refused 8) ≡ given k)
+    go false t u h = absurd (omega arith)
+    go true false u h = absurd (omega arith)
+    go true true true h = absurd (omega arith)
+    go true true false h = (g, refl)
+
+-- a graph whose refusal's number is 0 is given
+pub given-graph : (b : RectangularBoard) (ts : Tiles) (nodeWords countWords edgeWords : ℕ) → refusalOf (generateGraph b ts nodeWords countWords edgeWords) ≡ 0
+    → (g : Graph) × (generateGraph b ts nodeWords countWords edgeWords ≡ given g)
+unfolding generateGraph bindAnswer refusalOf
+given-graph b ts nodeWords countWords edgeWords e = go (readPlot b ts) refl e
+  where
+    go : (a : Answer (Board × List Path)) → readPlot b ts ≡ a
+        → refusalOf (bindAnswer a (λ p. weighGraph (nodeRoom nodeWords countWords) (edgeRoom edgeWords) (graphOf (setting (p .0) (p .1)) (marks (p .0))))) ≡ 0
+        → (g : Graph) × (bindAnswer a (λ p. weighGraph (nodeRoom nodeWords countWords) (edgeRoom edgeWords) (graphOf (setting (p .0) (p .1)) (marks (p .0)))) ≡ given g)
+    go (refused n) q h = absurd (omega (arith, plot-refusal b ts n q))
+    go (given p) q h = graph-refusal (nodeRoom nodeWords countWords) (edgeRoom edgeWords) (graphOf (setting (p .0) (p .1)) (marks (p .0))) h
+
+-- ---- the graph count read off the words
+
+pub read-numbers : (complete : Option ℕ) (ns : List ℕ) (n : ℕ) → ((v : ℕ) → complete ≡ some v → v < n) → countFromGraph complete (numbersFor ns n) ≡ countFromGraph complete ns
+unfolding countFromGraph atNode numbersFor
+read-numbers none ns n h = refl
+read-numbers (some v) ns n h = getD-listOf (λ k. getD ns k 0) n v 0 (h v refl)

@@ -1,0 +1,308 @@
+// The graph in lent words: nodes and edges found in order, then the path counts by one pass over the
+// edges. Private helpers; they ask that board and tiles have been tested, and that the rooms are lent.
+use crate::Complete;
+use crate::Graph;
+use crate::MadeGraph;
+use crate::layers;
+use crate::plot;
+use board::RectangularBoard;
+use cells::Cells;
+use cells::list;
+use graph::Found;
+use tile::Tiles;
+use tile::refusal::Refusal;
+use tile::refusal::Verdict;
+ghost use mathlib.Core.Path.{_≡_};
+ghost use mathlib.Core.Bool.{Bool, true, false};
+ghost use mathlib.Core.List.{List, [], _∷_, _++_};
+ghost use Prim.Native.Nat.{ℕ, _+_, _*_, _-_, _≤_, _<_};
+ghost use lib.Dec.{eqb};
+ghost use lib.ListN.{length, getD};
+ghost use Rattle.cells.specs.Words.{number};
+ghost use Rattle.cells.specs.Arrays.{listOf};
+ghost use Rattle.cells.specs.Lists.{setAt};
+ghost use Rattle.tile.specs.Refusal.{refusalNumber, refused};
+ghost use Rattle.board.specs.Board.{boardOf, boardAt, isFull};
+ghost use Rattle.covers.specs.Cuttings.{childBoards};
+ghost use Rattle.covers.specs.Counts.{nodesOf, graphEdges};
+ghost use Rattle.covers.specs.FindingLaws.{addChild, addChildren};
+ghost use Rattle.graph.specs.Graph.{edgeAt, firstFrom};
+ghost use Rattle.tiler.specs.Boards.{From, settingOf, startOf};
+ghost use Rattle.tiler.specs.Counting.{completeNode, Makes, weighGraph, graphOf, nodeRoom, edgeRoom};
+ghost use Rattle.tiler.specs.Inner.{Accepted, nodesIn, HoldsEdges, HoldsGraph, firstCount, AddsCount, PassesEdges, Finishes};
+
+// How many nodes and edges a graph has, the edges past their room counting as one; full where there
+// was one node more than the room.
+pub enum Growth {
+    Size(usize, usize),
+    Full,
+}
+
+// One more edge, stored if there is room for it.
+fn add_edge(edges: &mut [u64], n: usize, room: usize, parent: usize, child: usize) -> usize
+    requires { ⌜ (2 * room ≤ length (now edges)) × (room ≤ 16777216) ⌝ }
+    ensures { λ r. ⌜ ((es : List (ℕ × ℕ)) → HoldsEdges room (now (edges .entry)) n es → HoldsEdges room (now (edges .exit)) r (es ++ (parent, child) ∷ [])) ⌝ }
+{
+    if room <= n {
+        return room + 1;
+    }
+    let at = 2 * n;
+    edges[at] = parent as u64;
+    edges[at + 1] = child as u64;
+    n + 1
+}
+
+// One more child of a parent: a node if it is new, and an edge.
+fn add_child(
+    nodes: &mut [u64],
+    edges: &mut [u64],
+    growth: Growth,
+    room: usize,
+    space: usize,
+    parent: usize,
+    child: Cells,
+) -> Growth
+    requires { ⌜ (nodesIn growth ≤ room) × (4 * room ≤ length (now nodes)) × (2 * space ≤ length (now edges)) × (space ≤ 16777216) ⌝ }
+    ensures { λ r. ⌜ (nodesIn r ≤ room) × ((g : List ℕ × List (ℕ × ℕ)) → HoldsGraph room space (now (nodes .entry)) (now (edges .entry)) growth g → HoldsGraph room space (now (nodes .exit)) (now (edges .exit)) r (addChild eqb parent (number child) g)) ⌝ }
+{
+    let Growth::Size(n, e) = growth else {
+        return Growth::Full;
+    };
+    let found = graph::find_node(nodes, 0, n, child);
+    let Found::At(i) = found else {
+        if room <= n {
+            return Growth::Full;
+        }
+        list::put(nodes, n, child);
+        return Growth::Size(n + 1, add_edge(edges, e, space, parent, n));
+    };
+    Growth::Size(n, add_edge(edges, e, space, parent, i))
+}
+
+// The first children of a list, one after the other.
+fn add_children(
+    nodes: &mut [u64],
+    edges: &mut [u64],
+    growth: Growth,
+    room: usize,
+    space: usize,
+    parent: usize,
+    children: &[u64],
+    n: usize,
+) -> Growth
+    requires { ⌜ (nodesIn growth ≤ room) × (4 * room ≤ length (now nodes)) × (2 * space ≤ length (now edges)) × (space ≤ 16777216) ⌝ }
+    ensures { λ r. ⌜ (nodesIn r ≤ room) × ((g : List ℕ × List (ℕ × ℕ)) → HoldsGraph room space (now (nodes .entry)) (now (edges .entry)) growth g → HoldsGraph room space (now (nodes .exit)) (now (edges .exit)) r (addChildren eqb parent (listOf (setAt (now (children .entry))) n) g)) ⌝ }
+{
+    let mut state = growth;
+    let mut i = 0;
+    while i < n {
+        state = add_child(
+            nodes,
+            edges,
+            state,
+            room,
+            space,
+            parent,
+            list::get(children, i),
+        );
+        i += 1;
+    }
+    state
+}
+
+// The children of node i.
+fn expand_node(
+    board: RectangularBoard,
+    tiles: Tiles,
+    nodes: &mut [u64],
+    edges: &mut [u64],
+    children: &mut [u64],
+    growth: Growth,
+    room: usize,
+    space: usize,
+    i: usize,
+) -> Growth
+    requires { ⌜ Accepted board tiles × From (boardOf board) (setAt (now nodes) i) × (8448 ≤ length (now children)) × (nodesIn growth ≤ room) × (4 * room ≤ length (now nodes)) × (2 * space ≤ length (now edges)) × (space ≤ 16777216) ⌝ }
+    ensures { λ r. ⌜ (nodesIn r ≤ room) × ((g : List ℕ × List (ℕ × ℕ)) → HoldsGraph room space (now (nodes .entry)) (now (edges .entry)) growth g → HoldsGraph room space (now (nodes .exit)) (now (edges .exit)) r (addChildren eqb i (childBoards (settingOf board tiles) (setAt (now (nodes .entry)) i)) g)) ⌝ }
+{
+    let n = plot::expand(board, tiles, list::get(nodes, i), children);
+    add_children(nodes, edges, growth, room, space, i, children, n)
+}
+
+// How many nodes there are.
+fn node_count(growth: Growth) -> usize
+    ensures { λ r. ⌜ r ≡ nodesIn growth ⌝ }
+{
+    match growth {
+        Growth::Size(n, _) => n,
+        Growth::Full => 0,
+    }
+}
+
+// The nodes and edges behind node 0, parents in order.
+fn build(
+    board: RectangularBoard,
+    tiles: Tiles,
+    nodes: &mut [u64],
+    edges: &mut [u64],
+    children: &mut [u64],
+    room: usize,
+    space: usize,
+) -> Growth
+    requires { ⌜ Accepted board tiles × (8448 ≤ length (now children)) × (0 < room) × (4 * room ≤ length (now nodes)) × (2 * space ≤ length (now edges)) × (space ≤ 16777216) × (setAt (now nodes) 0 ≡ startOf board) ⌝ }
+    ensures { λ r. ⌜ (nodesIn r ≤ room) × HoldsGraph room space (now (nodes .exit)) (now (edges .exit)) r (nodesOf (settingOf board tiles) (startOf board), graphEdges (settingOf board tiles) (startOf board)) ⌝ }
+{
+    let mut growth = Growth::Size(1, 0);
+    let mut n: usize = 1;
+    let mut i = 0;
+    while i < n {
+        growth = expand_node(board, tiles, nodes, edges, children, growth, room, space, i);
+        n = node_count(growth);
+        i += 1;
+    }
+    growth
+}
+
+// The nodes and edges of the graph.
+fn grown(
+    board: RectangularBoard,
+    tiles: Tiles,
+    nodes: &mut [u64],
+    edges: &mut [u64],
+    room: usize,
+    space: usize,
+) -> Growth
+    requires { ⌜ Accepted board tiles × (4 * room ≤ length (now nodes)) × (2 * space ≤ length (now edges)) × (space ≤ 16777216) ⌝ }
+    ensures { λ r. ⌜ (nodesIn r ≤ room) × HoldsGraph room space (now (nodes .exit)) (now (edges .exit)) r (nodesOf (settingOf board tiles) (startOf board), graphEdges (settingOf board tiles) (startOf board)) ⌝ }
+{
+    if room == 0 {
+        return Growth::Full;
+    }
+    list::put(nodes, 0, board.marks());
+    let mut children = [0u64; 8448];
+    build(board, tiles, nodes, edges, &mut children, room, space)
+}
+
+// Edge i adds its parent's count to its child's, unless the sum would be too large.
+fn pass_edge(edges: &[u64], i: usize, counts: &mut [u64]) -> bool
+    requires { ⌜ (2 * i + 2 ≤ length (now edges)) × (edgeAt (now edges) i .0 < length (now counts)) × (edgeAt (now edges) i .1 < length (now counts)) ⌝ }
+    ensures { λ r. ⌜ AddsCount (now (counts .entry)) (edgeAt (now (edges .entry)) i .1) (getD (now (counts .entry)) (edgeAt (now (edges .entry)) i .0) 0) (now (counts .exit)) r ⌝ }
+{
+    let at = 2 * i;
+    let parent = edges[at] as usize;
+    let child = edges[at + 1] as usize;
+    let paths = counts[parent];
+    layers::add_count(counts, child, paths)
+}
+
+// The edges in order; whether no count becomes too large.
+fn pass_edges(edges: &[u64], n: usize, counts: &mut [u64]) -> bool
+    requires { ⌜ (2 * n ≤ length (now edges)) × ((i : ℕ) → i < n → (edgeAt (now edges) i .0 < length (now counts)) × (edgeAt (now edges) i .1 < length (now counts))) ⌝ }
+    ensures { λ r. ⌜ PassesEdges (now (counts .entry)) (listOf (edgeAt (now (edges .entry))) n) (now (counts .exit)) r ⌝ }
+{
+    let mut i = 0;
+    while i < n {
+        if pass_edge(edges, i, counts) {
+            return false;
+        }
+        i += 1;
+    }
+    true
+}
+
+// The path counts of all nodes; whether none is too large.
+fn count_paths(edges: &[u64], n: usize, sums: &mut [u64]) -> bool
+    requires { ⌜ (2 * n ≤ length (now edges)) × (0 < length (now sums)) × ((i : ℕ) → i < n → (edgeAt (now edges) i .0 < length (now sums)) × (edgeAt (now edges) i .1 < length (now sums))) ⌝ }
+    ensures { λ r. ⌜ PassesEdges (firstCount (length (now (sums .entry)))) (listOf (edgeAt (now (edges .entry))) n) (now (sums .exit)) r ⌝ }
+{
+    list::clear_from(sums, 0);
+    sums[0] = 1;
+    pass_edges(edges, n, sums)
+}
+
+// The first full board among the nodes behind node 0.
+fn find_complete(board: RectangularBoard, nodes: &[u64], n: usize) -> Complete
+    requires { ⌜ ((i : ℕ) → i < n → From (boardOf board) (setAt (now nodes) i)) ⌝ }
+    ensures { λ r. ⌜ completeNode r ≡ firstFrom (λ i. isFull (boardAt (boardOf board) (setAt (now (nodes .entry)) i))) 1 (n - 1) ⌝ }
+{
+    let mut i = 1;
+    while i < n {
+        if plot::is_full(board, list::get(nodes, i)) {
+            return Complete::Node(i);
+        }
+        i += 1;
+    }
+    Complete::Nothing
+}
+
+// A refusal: all the lent words are cleared.
+pub fn refused(
+    refusal: Refusal,
+    nodes: &mut [u64],
+    counts: &mut [u64],
+    edges: &mut [u64],
+) -> MadeGraph
+    ensures { λ r. ⌜ Makes (refused (refusalNumber refusal)) (length (now (nodes .entry))) (length (now (counts .entry))) (length (now (edges .entry))) (now (nodes .exit)) (now (counts .exit)) (now (edges .exit)) r ⌝ }
+{
+    list::clear_from(nodes, 0);
+    list::clear_from(counts, 0);
+    list::clear_from(edges, 0);
+    MadeGraph {
+        verdict: Verdict::Refused(refusal),
+        graph: Graph {
+            nodes: 0,
+            edges: 0,
+            complete: Complete::Nothing,
+        },
+    }
+}
+
+// A graph of n nodes and e edges: the words behind them are cleared.
+fn finished(
+    board: RectangularBoard,
+    nodes: &mut [u64],
+    edges: &mut [u64],
+    n: usize,
+    e: usize,
+) -> MadeGraph
+    requires { ⌜ ((i : ℕ) → i < n → From (boardOf board) (setAt (now nodes) i)) × (4 * n ≤ length (now nodes)) × (2 * e ≤ length (now edges)) ⌝ }
+    ensures { λ r. ⌜ Finishes (boardOf board) (now (nodes .entry)) (now (edges .entry)) n e (now (nodes .exit)) (now (edges .exit)) r ⌝ }
+{
+    let complete = find_complete(board, nodes, n);
+    list::clear_from(nodes, 4 * n);
+    list::clear_from(edges, 2 * e);
+    MadeGraph {
+        verdict: Verdict::Accepted,
+        graph: Graph {
+            nodes: n,
+            edges: e,
+            complete,
+        },
+    }
+}
+
+// The graph of a board and tiles that are not refused.
+pub fn made(
+    board: RectangularBoard,
+    tiles: Tiles,
+    nodes: &mut [u64],
+    counts: &mut [u64],
+    edges: &mut [u64],
+) -> MadeGraph
+    requires { ⌜ Accepted board tiles ⌝ }
+    ensures { λ r. ⌜ Makes (weighGraph (nodeRoom (length (now (nodes .entry))) (length (now (counts .entry)))) (edgeRoom (length (now (edges .entry)))) (graphOf (settingOf board tiles) (startOf board))) (length (now (nodes .entry))) (length (now (counts .entry))) (length (now (edges .entry))) (now (nodes .exit)) (now (counts .exit)) (now (edges .exit)) r ⌝ }
+{
+    let room = plot::node_room(nodes.len(), counts.len());
+    let space = plot::edge_room(edges.len());
+    let growth = grown(board, tiles, nodes, edges, room, space);
+    let Growth::Size(n, e) = growth else {
+        return refused(Refusal::NoRoom, nodes, counts, edges);
+    };
+    if space < e {
+        return refused(Refusal::NoRoomForEdges, nodes, counts, edges);
+    }
+    if !count_paths(edges, e, counts) {
+        return refused(Refusal::CountTooLarge, nodes, counts, edges);
+    }
+    finished(board, nodes, edges, n, e)
+}
