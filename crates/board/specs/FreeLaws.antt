@@ -13,7 +13,7 @@ use Rattle.cells.specs.BitLaws.{bit-le, bit-ext, bit-high, zero-bit, bit-add, a
 use Rattle.cells.specs.SetLaws.{hasCell-iff, hasCell-false, size-add}
 use Rattle.tile.specs.Position.{Position, origin, shift}
 use Rattle.tile.specs.EqualLaws.{cells-origin}
-use Rattle.tile.specs.Path.{Path, cells, cellCount}
+use Rattle.tile.specs.Path.{Path, cellCount}
 use Rattle.board.specs.Board.{Board, bare, cellOf, positionOf, inside, setOf, marks, isMarked, freeAt, isFree, freeSet, freeCount, isFull, valid}
 use Rattle.board.specs.Children.{moved, withCells, IsPiece, lay}
 use Rattle.board.specs.BoardLaws.{cellOf-lt, positionOf-cellOf, cellOf-positionOf, freeAt-inside, bit-free, marks-lt, isMarked-marks, digit, hasCell-freeSet, full-none, valid-inside, valid-width, valid-height}
@@ -21,8 +21,6 @@ use Rattle.board.specs.ChosenLaws.{free-inside}
 use Rattle.board.specs.FitLaws.{bit-withCells-new}
 use Rattle.board.specs.PieceLaws.{piece-cell, size-piece}
 use Rattle.board.specs.ChildLaws.{piece-lt, piece-apart, marks-lay, lay-valid}
-
--- ---- a tile has a cell
 
 -- ---- free cells and marks
 

@@ -30,7 +30,7 @@ use Rattle.board.specs.ChildLaws.{child-lt, length-children}
 -- ---- how many there are
 
 -- paths of at most 32 codes make at most 33 children each
-pub most-children : (paths : List Path) → ((path : Path) → Mem path paths → length path ≤ 32) → mostChildren paths ≤ 33 * length paths
+most-children : (paths : List Path) → ((path : Path) → Mem path paths → length path ≤ 32) → mostChildren paths ≤ 33 * length paths
 unfolding mostChildren
 most-children [] h = omega arith
 most-children (path ∷ paths) h = omega (arith, h path (here refl), most-children paths (λ p m. h p (there m)))
@@ -41,15 +41,12 @@ few-children b paths l h = omega (arith, length-children b paths, most-children 
 
 -- ---- how large they are
 
-pub children-small : (b : Board) (paths : List Path) → (n : ℕ) → Mem n (children b paths) → n < 2 ^ 256
-children-small b paths n m = child-lt b paths n m
-
--- by their places; 0 behind the last
-pub children-small-at : (b : Board) (paths : List Path) → (i : ℕ) → getD (children b paths) i 0 < 2 ^ 256
+-- each is below 2^256 (`child-lt`): by their places; 0 behind the last
+children-small-at : (b : Board) (paths : List Path) → (i : ℕ) → getD (children b paths) i 0 < 2 ^ 256
 children-small-at b paths i = go (decLt i (length (children b paths)))
   where
     go : Dec (i < length (children b paths)) → getD (children b paths) i 0 < 2 ^ 256
-    go (yes h) = children-small b paths (getD (children b paths) i 0) (mem-getD (children b paths) i 0 h)
+    go (yes h) = child-lt b paths (getD (children b paths) i 0) (mem-getD (children b paths) i 0 h)
     go (no h) = subst (λ (n : ℕ). n < 2 ^ 256) (sym (List·getD-eq-default (children b paths) 0 (omega arith))) (pow-pos 256)
 
 -- ---- what is written

@@ -2,7 +2,7 @@
 -- to its children; the counts over the edges into a node add up to the board's weight among the children. And chains carried along a map.
 -- Rests on `GatherLaws`. Assumes nothing.
 use mathlib.Core.Path.{_≡_, refl, sym, ap, ap₂, subst, _∙_}
-use mathlib.Core.Logic.{_⊎_, ⊎-elim}
+use mathlib.Core.Logic.{_⊎_, _↔_, ⊎-elim}
 use mathlib.Core.Bool.{Bool, cond}
 use mathlib.Core.List.{List, [], _∷_, _++_, map, List·Memᴰ as Mem, List·Memᴰ·head as here, List·Memᴰ·tail as there, List·Memᴰ·cases-cons as cases-cons, List·Memᴰ·not-nil as not-nil, Memᴰ·cast as cast, Memᴰ·map as to-map, Memᴰ·of-map as of-map}
 use Prim.Native.Nat.{ℕ, zero, suc, _+_, _<_}
@@ -122,6 +122,28 @@ module _ {B : Type 0} (same : B → B → Bool) (tells : Tells same) where
   eqb-number ss s t m k = so-eq (eqb (numberIn same ss s) (numberIn same ss t)) (same s t)
       (λ e. tells s t .1 (number-inj ss s t m k (eqb-tells (numberIn same ss s) (numberIn same ss t) .0 e)))
       (λ e. eqb-tells (numberIn same ss s) (numberIn same ss t) .1 (ap (numberIn same ss) (tells s t .0 e)))
+
+  -- an edge leads from a node's number to the number of a child of it
+  pub edge-iff : (children : B → List B) (ss : List B) (d : B) → Once ss → ((s t : B) → Mem s ss → Mem t (children s) → Mem t ss) → (p c : ℕ)
+      → Mem (p, c) (edgesOf same children ss) ↔ ((p < length ss) × (c < length ss) × Mem (getD ss c d) (children (getD ss p d)))
+  edge-iff children ss d once closed p c = (to, from)
+    where
+      to : Mem (p, c) (edgesOf same children ss) → (p < length ss) × (c < length ss) × Mem (getD ss c d) (children (getD ss p d))
+      to m =
+          let r = mem-edges same children ss p c m in
+          let x = r .2 in
+          let k = closed (r .0) (x .0) (r .1) (x .1) in
+          let parent : r .0 ≡ getD ss p d = sym (ap (λ (v : ℕ). getD ss v d) (x .2) ∙ getD-number ss (r .0) d (r .1)) in
+          let child : x .0 ≡ getD ss c d = sym (ap (λ (v : ℕ). getD ss v d) (x .3) ∙ getD-number ss (x .0) d k) in (
+            omega (arith, x .2, number-lt ss (r .0) (r .1)),
+            omega (arith, x .3, number-lt ss (x .0) k),
+            subst (λ (s : B). Mem (getD ss c d) (children s)) parent (subst (λ (t : B). Mem t (children (r .0))) child (x .1)),
+          )
+
+      from : (p < length ss) × (c < length ss) × Mem (getD ss c d) (children (getD ss p d)) → Mem (p, c) (edgesOf same children ss)
+      from h =
+          subst (λ (e : ℕ × ℕ). Mem e (edgesOf same children ss)) (ap₂ (λ (x y : ℕ). (x, y)) (number-getD ss p d once (h .0)) (number-getD ss c d once (h .1)))
+          (edge-mem same children ss (getD ss p d) (getD ss c d) (mem-getD ss p d (h .0)) (h .2))
 
   -- ---- the count at a board's number
 

@@ -15,8 +15,9 @@ use Rattle.covers.specs.ChildLaws.{child-once}
 use Rattle.covers.specs.LayerLaws.{recurrence}
 use Rattle.covers.specs.OrderLaws.{alike-order, alike-next, alike-next-length, alike-fullCount}
 use Rattle.covers.specs.WalkLaws.{tiling-numbers, tiling-chain, chain-tiling}
-use Rattle.covers.specs.SettingLaws.{node-reached, layer-ok, layer-empty, layers-disjoint, reached-layer}
-use Rattle.covers.specs.GraphLaws.{nodes-found, sum-rule, once-graph, tilings-numbered, path-count}
+use Rattle.covers.specs.SettingLaws.{child-node, node-reached, layer-ok, layer-empty, layers-disjoint, reached-layer}
+use Rattle.covers.specs.GraphLaws.{once-nodes, nodes-found, sum-rule, once-graph, tilings-numbered, path-count}
+use Rattle.covers.specs.NodeLaws.{edge-iff}
 use Rattle.covers.specs.CountLaws.{full-layerCount, full-graphCount, counts-agree, sequences-by-number, cuttings-by-number, full-sequences, none-reached}
 
 -- ---- 1. Numberings
@@ -100,6 +101,11 @@ module _ {B P : Type 0} (G : Setting B P) (L : Laws G) (s : B) (ok : G .Ok s) wh
     -- Parents stand before children, node 0 has count 1, and every other node's count is the sum of its parents' over the edges into it.
     pub graph-sum-rule : SumRule (length (nodesOf G s)) (graphEdges G s) (pathCountOf G s)
     graph-sum-rule = sum-rule G L a E s ok
+
+    -- An edge leads from a node to each child of its board.
+    pub graph-edges-are-children : (p c : ℕ) → Mem (p, c) (graphEdges G s)
+        ↔ ((p < length (nodesOf G s)) × (c < length (nodesOf G s)) × Mem (getD (nodesOf G s) c s) (childBoards G (getD (nodesOf G s) p s)))
+    graph-edges-are-children = edge-iff (G .sameBoard) (L .board-eq) (childBoards G) (nodesOf G s) s (once-nodes G L a E s ok) (child-node G L s ok)
 
     -- Each edge stands once.
     pub graph-edges-once : Once (graphEdges G s)

@@ -7,7 +7,7 @@ use Prim.Native.Nat.{ℕ, _+_, _-_, _*_, _/_, _≤_, _<_, min}
 use native.Mathlib.Decide.{ℕ-discrete}
 use native.Mathlib.Omega.{arith}
 use borrow.Author.Tests.{lt-ltb, le-ltb, le-leb, lt-leb}
-use lib.Dec.{eqb, leb}
+use lib.Dec.{eqb}
 use lib.ListN.{length, getD, set, take, drop, length-append, length-set}
 use lib.Seq.{getD-append-seam, getD-set-same, getD-set-other}
 use Rattle.cells.specs.Arrays.{listFrom, listOf}
@@ -33,15 +33,6 @@ module _ (ws : List ℕ) (n : ℕ) where
 
 -- ---- the search for a node
 
--- one node more was not it
-pub missed-more : (ws : List ℕ) (x from i : ℕ) → ((k : ℕ) → from ≤ k → k < i → eqb (setAt ws k) x ≡ false) → eqb (setAt ws i) x ≡ false
-    → (k : ℕ) → from ≤ k → k < i + 1 → eqb (setAt ws k) x ≡ false
-missed-more ws x from i h e k a b = go (ℕ-discrete k i)
-  where
-    go : Dec (k ≡ i) → eqb (setAt ws k) x ≡ false
-    go (yes q) = ap (λ (j : ℕ). eqb (setAt ws j) x) q ∙ e
-    go (no q) = h k a (omega arith)
-
 module _ (ws : List ℕ) (from to x i : ℕ) (missed : (k : ℕ) → from ≤ k → k < i → eqb (setAt ws k) x ≡ false) where
   pub node-found : from ≤ i → i < to → i < length ws / 4 → eqb (setAt ws i) x ≡ true → some i ≡ findNode ws from to x
   unfolding findNode
@@ -54,25 +45,25 @@ module _ (ws : List ℕ) (from to x i : ℕ) (missed : (k : ℕ) → from ≤ k 
 -- ---- the edges out of a node
 
 -- the children among the first i edges
-abbrev pub childrenTo : List ℕ → ℕ → ℕ → List ℕ
+abbrev childrenTo : List ℕ → ℕ → ℕ → List ℕ
 childrenTo ws v i = edgesFrom (listOf (edgeAt ws) i) v
 
 module _ (ws : List ℕ) (v : ℕ) where
-  pub children-none : childrenTo ws v 0 ≡ []
+  children-none : childrenTo ws v 0 ≡ []
   unfolding edgesFrom listOf listFrom
   children-none = refl
 
-  pub children-all : (n i : ℕ) → i ≡ min n (length ws / 2) → childrenTo ws v i ≡ edgesFrom (edgesIn ws n) v
+  children-all : (n i : ℕ) → i ≡ min n (length ws / 2) → childrenTo ws v i ≡ edgesFrom (edgesIn ws n) v
   unfolding edgesIn
   children-all n i e = rw e
 
   module _ (i : ℕ) where
-    pub children-hit : getD ws (2 * i) 0 ≡ v → childrenTo ws v (i + 1) ≡ childrenTo ws v i ++ getD ws (2 * i + 1) 0 ∷ []
+    children-hit : getD ws (2 * i) 0 ≡ v → childrenTo ws v (i + 1) ≡ childrenTo ws v i ++ getD ws (2 * i + 1) 0 ∷ []
     unfolding edgeAt
     children-hit e =
         ap (λ (es : List (ℕ × ℕ)). edgesFrom es v) (listOf-snoc (edgeAt ws) i) ∙ edgesFrom-more (edgeAt ws i) v (listOf (edgeAt ws) i) e
 
-    pub children-miss : (getD ws (2 * i) 0 ≡ v → ⊥) → childrenTo ws v (i + 1) ≡ childrenTo ws v i
+    children-miss : (getD ws (2 * i) 0 ≡ v → ⊥) → childrenTo ws v (i + 1) ≡ childrenTo ws v i
     unfolding edgeAt
     children-miss n =
         ap (λ (es : List (ℕ × ℕ)). edgesFrom es v) (listOf-snoc (edgeAt ws) i) ∙ edgesFrom-other (edgeAt ws i) v (listOf (edgeAt ws) i) n

@@ -39,6 +39,14 @@ module _ (test : ℕ → Bool) where
       go (yes q) later = rw (ap test q ∙ e) (ap some q)
       go (no q) later = rw (n i (omega arith) (omega arith)) (later q)
 
+  -- one place more does not pass the test
+  pub missed-more : (i k : ℕ) → ((j : ℕ) → i ≤ j → j < k → test j ≡ false) → test k ≡ false → (j : ℕ) → i ≤ j → j < k + 1 → test j ≡ false
+  missed-more i k n e j a b = go (ℕ-discrete j k)
+    where
+      go : Dec (j ≡ k) → test j ≡ false
+      go (yes q) = ap test q ∙ e
+      go (no q) = n j a (omega arith)
+
   -- no place passes the test
   pub firstFrom-missed : (i count : ℕ) → ((j : ℕ) → i ≤ j → j < i + count → test j ≡ false) → firstFrom test i count ≡ none
   unfolding firstFrom

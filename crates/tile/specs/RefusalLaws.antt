@@ -5,7 +5,7 @@ use native.Mathlib.Omega.{arith}
 use lib.Dec.{lit<}
 use Rattle.tile.specs.declared.refusal.Refusal.{Refusal}
 use Rattle.tile.specs.declared.refusal.Refusal.the-variants as R
-use Rattle.tile.specs.Refusal.{Answer, refused, given, bindAnswer, refusalNumber, refusalOf}
+use Rattle.tile.specs.Refusal.{Answer, refused, given, bindAnswer, refusalNumber, refusalOf, valueOr}
 
 pub refusalNumber-pos : (r : Refusal) → 0 < refusalNumber r
 refusalNumber-pos R.Cut = lit< tt
@@ -36,3 +36,12 @@ clash a e z = omega (arith, ap refusalOf e)
 pub refused-given : {A : Type 0} (n : ℕ) (a : A) → refused n ≡ given a → ⊥
 unfolding refusalOf bindAnswer
 refused-given {A} n a e = let z : n ≡ suc n = ap (λ (x : Answer A). refusalOf (bindAnswer {A = A} {B = A} x (λ y. refused (suc n)))) e in omega arith
+
+-- an answer has one value, or one number
+pub given-inj : {A : Type 0} (x y : A) → given x ≡ given y → x ≡ y
+unfolding valueOr
+given-inj x y e = ap (valueOr x) e
+
+pub refused-inj : {A : Type 0} (n m : ℕ) → _≡_ {A = Answer A} (refused n) (refused m) → n ≡ m
+unfolding refusalOf
+refused-inj n m e = ap refusalOf e

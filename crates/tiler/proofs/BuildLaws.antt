@@ -10,6 +10,7 @@ use native.Mathlib.Omega.{arith}
 use borrow.Author.Tests.{le-leb, lt-leb, leb-true, leb-false}
 use lib.Dec.{eqb, leb}
 use lib.ListN.{length, getD, set, length-append}
+use Rattle.cells.specs.Set.{unionOf}
 use Rattle.cells.specs.Words.{number}
 use Rattle.cells.specs.Firsts.{holds}
 use Rattle.cells.specs.FirstsLaws.{addNew-old, addNew-new, holds-iff, mem-getD}
@@ -21,7 +22,7 @@ use Rattle.cells.specs.ListLaws.{setAt-same, setAt-other}
 use Rattle.tile.specs.declared.Tiles.{Tiles}
 use Rattle.tile.specs.Stored.{pathsIn}
 use Rattle.board.specs.declared.RectangularBoard.{RectangularBoard}
-use Rattle.board.specs.Board.{boardOf}
+use Rattle.board.specs.Board.{boardOf, marks}
 use Rattle.board.specs.BoardLaws.{marks-lt}
 use Rattle.covers.specs.Cuttings.{Setting, childBoards, Laws, EqualSteps}
 use Rattle.covers.specs.Counts.{numberIn, nodesOf, graphEdges}
@@ -66,23 +67,24 @@ module _ (room : ℕ) (ws : List ℕ) (n : ℕ) (es : List (ℕ × ℕ)) (k : Ho
             ∙ set-edge ws es p c (omega arith) (k .edges (omega arith));
       }
 
--- ---- the state
+-- ---- what the state tells
 
 module _ (room space : ℕ) (g : List ℕ × List (ℕ × ℕ)) where
-  size-held : (n e : ℕ) → G.Size n e ≡ growthOf room space g → (length (g .0) ≤ room) × (n ≡ length (g .0)) × (e ≡ min (length (g .1)) (suc space))
+  pub size-held : (n e : ℕ) → G.Size n e ≡ growthOf room space g
+      → (length (g .0) ≤ room) × (n ≡ length (g .0)) × (e ≡ min (length (g .1)) (suc space))
   unfolding growthOf
   size-held n e q = go (leb (length (g .0)) room) (leb-true (length (g .0)) room) q
     where
-      go : (t : Bool) → (t ≡ true → length (g .0) ≤ room) → G.Size n e ≡ cond t (G.Size (length (g .0)) (min (length (g .1)) (suc space))) G.Full
+      go : (t : Bool) → (t ≡ true → length (g .0) ≤ room) → G.Size n e ≡ cond t (G.Size (length (g .0)) (min (length (g .1)) (suc space))) G.NoRoom
           → (length (g .0) ≤ room) × (n ≡ length (g .0)) × (e ≡ min (length (g .1)) (suc space))
       go true f q = (f refl, cc, cc)
       go false f q = let z : _≡_ {A = ℕ} 0 1 = cc in absurd (omega arith)
 
-  full-held : G.Full ≡ growthOf room space g → room < length (g .0)
+  pub no-room-held : G.NoRoom ≡ growthOf room space g → room < length (g .0)
   unfolding growthOf
-  full-held q = go (leb (length (g .0)) room) (leb-false (length (g .0)) room) q
+  no-room-held q = go (leb (length (g .0)) room) (leb-false (length (g .0)) room) q
     where
-      go : (t : Bool) → (t ≡ false → room < length (g .0)) → G.Full ≡ cond t (G.Size (length (g .0)) (min (length (g .1)) (suc space))) G.Full
+      go : (t : Bool) → (t ≡ false → room < length (g .0)) → G.NoRoom ≡ cond t (G.Size (length (g .0)) (min (length (g .1)) (suc space))) G.NoRoom
           → room < length (g .0)
       go true f q = let z : _≡_ {A = ℕ} 0 1 = cc in absurd (omega arith)
       go false f q = f refl
@@ -91,13 +93,13 @@ module _ (room space : ℕ) (g : List ℕ × List (ℕ × ℕ)) where
   unfolding growthOf
   size-is h = rw (le-leb (length (g .0)) room h)
 
-  full-is : room < length (g .0) → G.Full ≡ growthOf room space g
+  no-room-is : room < length (g .0) → G.NoRoom ≡ growthOf room space g
   unfolding growthOf
-  full-is h = rw (lt-leb (length (g .0)) room h)
+  no-room-is h = rw (lt-leb (length (g .0)) room h)
 
   -- nothing is asked of the words where the nodes pass the room
-  pub full-graph : (ns es : List ℕ) → room < length (g .0) → HoldsGraph room space ns es G.Full g
-  full-graph ns es h = record { state = full-is h; nodes = λ l. absurd (omega arith); edges = λ l. absurd (omega arith) }
+  no-room-graph : (ns es : List ℕ) → room < length (g .0) → HoldsGraph room space ns es G.NoRoom g
+  no-room-graph ns es h = record { state = no-room-is h; nodes = λ l. absurd (omega arith); edges = λ l. absurd (omega arith) }
 
   -- nodes that have room, and edges
   size-graph : (ns es : List ℕ) (n e : ℕ) → length (g .0) ≤ room → n ≡ length (g .0) → listOf (setAt ns) (length (g .0)) ≡ g .0
@@ -113,11 +115,11 @@ size-within room n e growth s h = subst (λ (d : Growth). nodesIn d ≤ room) s 
 
 module _ (room space : ℕ) (ns es : List ℕ) (growth : Growth) (g : List ℕ × List (ℕ × ℕ)) (k : HoldsGraph room space ns es growth g) (p x : ℕ) where
   -- room was gone before
-  pub child-full : growth ≡ G.Full → HoldsGraph room space ns es G.Full (addChild eqb p x g)
+  pub child-no-room : growth ≡ G.NoRoom → HoldsGraph room space ns es G.NoRoom (addChild eqb p x g)
   unfolding addChildren
-  child-full e =
-      full-graph room space (addChild eqb p x g) ns es
-      (omega (arith, full-held room space g (sym e ∙ k .state), addChildren-longer eqb p (x ∷ []) g .0))
+  child-no-room e =
+      no-room-graph room space (addChild eqb p x g) ns es
+      (omega (arith, no-room-held room space g (sym e ∙ k .state), addChildren-longer eqb p (x ∷ []) g .0))
 
   module _ (n e : ℕ) (s : growth ≡ G.Size n e) (lent : 4 * room ≤ length ns) (r : Found) (f : foundAnswer r ≡ findNode ns 0 n x) where
     sizes : (length (g .0) ≤ room) × (n ≡ length (g .0)) × (e ≡ min (length (g .1)) (suc space))
@@ -157,10 +159,10 @@ module _ (room space : ℕ) (ns es : List ℕ) (growth : Growth) (g : List ℕ �
         (size-graph room space (g .0, g .1 ++ (p, i) ∷ []) ns vs n m (sizes .0) (sizes .1) (k .nodes (sizes .0)) (more (g .1) held))
 
     -- there is no room for it
-    pub child-over : r ≡ F.Nothing → room ≤ n → HoldsGraph room space ns es G.Full (addChild eqb p x g)
+    pub child-over : r ≡ F.Nothing → room ≤ n → HoldsGraph room space ns es G.NoRoom (addChild eqb p x g)
     unfolding addChild
     child-over q h =
-        full-graph room space (addChild eqb p x g) ns es
+        no-room-graph room space (addChild eqb p x g) ns es
         (omega (arith, ap length (addNew-new eqb (g .0) x (there-is-none q)), length-append (g .0) (x ∷ []), sizes .1))
 
     -- its number is the next
@@ -237,12 +239,16 @@ children-read b ts room space ns es growth g p cs m n e q k =
 abbrev pub foundGraph : RectangularBoard → Tiles → ℕ → List ℕ × List (ℕ × ℕ)
 foundGraph b ts i = (foundAt (settingOf b ts) (startOf b) i, edgesAt (settingOf b ts) (startOf b) i)
 
-abbrev pub wholeGraph : RectangularBoard → Tiles → List ℕ × List (ℕ × ℕ)
+abbrev wholeGraph : RectangularBoard → Tiles → List ℕ × List (ℕ × ℕ)
 wholeGraph b ts = (nodesOf (settingOf b ts) (startOf b), graphEdges (settingOf b ts) (startOf b))
 
 -- the start is stored as node 0
 zero-lent : (room n : ℕ) → (room ≡ 0 → ⊥) → 4 * room ≤ n → 4 * 0 + 4 ≤ n
 zero-lent room n h r = omega arith
+
+pub start-marks : (b : RectangularBoard) (x : ℕ) → x ≡ unionOf (number (b .fixed)) (number (b .laid)) → x ≡ startOf b
+unfolding marks
+start-marks b x e = e
 
 pub start-put : (b : RectangularBoard) (room : ℕ) (ws : List ℕ) → (room ≡ 0 → ⊥) → 4 * room ≤ length ws → (x : ℕ) → x ≡ startOf b
     → (vs : List ℕ) → vs ≡ withSet ws 0 x → setAt vs 0 ≡ startOf b
@@ -281,8 +287,8 @@ module _ (b : RectangularBoard) (ts : Tiles) (ok : Accepted b ts) (fixedLt : num
 
   module _ (room space : ℕ) (ns es : List ℕ) where
     -- no room for the start
-    pub build-full : room ≡ 0 → HoldsGraph room space ns es G.Full (wholeGraph b ts)
-    build-full e = full-graph room space (wholeGraph b ts) ns es (omega (arith, some-node S L s good))
+    pub build-no-room : room ≡ 0 → HoldsGraph room space ns es G.NoRoom (wholeGraph b ts)
+    build-no-room e = no-room-graph room space (wholeGraph b ts) ns es (omega (arith, some-node S L s good))
 
     pub build-start : 0 < room → setAt ns 0 ≡ startOf b → HoldsGraph room space ns es (G.Size 1 0) (foundGraph b ts 0)
     unfolding listOf listFrom
@@ -297,7 +303,7 @@ module _ (b : RectangularBoard) (ts : Tiles) (ok : Accepted b ts) (fixedLt : num
         where
           go : (d : Growth) → growth ≡ d → i < nodesIn d → (length (found i) ≤ room) × (i < length (found i))
           go (G.Size m e) q l = let r = size-held room space (foundGraph b ts i) m e (sym q ∙ k .state) in (r .0, omega (arith, r .1))
-          go G.Full q l = absurd (omega arith)
+          go G.NoRoom q l = absurd (omega arith)
 
       below : i < n → i < length nodes
       below h = omega (arith, counted h .1, found-few i)
@@ -343,6 +349,6 @@ module _ (b : RectangularBoard) (ts : Tiles) (ok : Accepted b ts) (fixedLt : num
           go (G.Size m e) q l =
               let r = size-held room space (foundGraph b ts i) m e (sym q ∙ k .state) in
               subst (HoldsGraph room space ns es growth) (all (omega (arith, r .1))) k
-          go G.Full q l =
-              let past = full-held room space (foundGraph b ts i) (sym q ∙ k .state) in
-              rw q (full-graph room space (wholeGraph b ts) ns es (omega (arith, past, found-few i)))
+          go G.NoRoom q l =
+              let past = no-room-held room space (foundGraph b ts i) (sym q ∙ k .state) in
+              rw q (no-room-graph room space (wholeGraph b ts) ns es (omega (arith, past, found-few i)))

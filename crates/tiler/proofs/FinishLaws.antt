@@ -1,14 +1,12 @@
 -- What a graph in lent words comes to: the search for the full board's node; the words cleared after a refusal; and the refusals and the result of a
--- graph that has grown. Rests on `PassingLaws`, `PlotLaws`, `AcceptedLaws`, graph's `GraphLaws` and covers' laws. Assumes nothing.
+-- graph that has grown. Rests on `BuildLaws`, `PassingLaws`, `PlotLaws`, `AcceptedLaws`, graph's `GraphLaws` and covers' laws. Assumes nothing.
 use mathlib.Core.Path.{_≡_, refl, sym, ap, _∙_, subst}
-use mathlib.Core.Bool.{Bool, true, false, cond, false≢true, true≢false}
+use mathlib.Core.Bool.{Bool, true, false}
 use mathlib.Core.List.{List, [], _∷_}
 use Prim.Native.Nat.{ℕ, suc, _+_, _-_, _*_, _^_, _≤_, _<_, min}
 use native.Mathlib.Nat.{add-zero}
-use native.Mathlib.Decide.{ℕ-discrete}
 use native.Mathlib.Omega.{arith}
-use borrow.Author.Tests.{leb-true, leb-false, le-leb, lt-leb}
-use lib.Dec.{leb}
+use borrow.Author.Tests.{le-leb, lt-leb}
 use lib.ListN.{length, getD}
 use Rattle.cells.specs.Words.{Sound}
 use Rattle.cells.specs.WordLaws.{number-lt}
@@ -36,10 +34,11 @@ use Rattle.tiler.specs.declared.MadeGraph.{MadeGraph}
 use Rattle.tiler.specs.declared.building.Growth.{Growth}
 use Rattle.tiler.specs.declared.building.Growth.the-variants as G
 use Rattle.tiler.specs.Boards.{From, setting, settingOf, startOf}
-use Rattle.tiler.specs.Counting.{Graph, Makes, completeNode, readPlot, graphOf, weighGraph, tooLarge, nodeRoom, edgeRoom, generateGraph}
-use Rattle.tiler.specs.Inner.{Accepted, stepOf, growthOf, HoldsGraph, PassesEdges, firstCount, Finishes}
+use Rattle.tiler.specs.Counting.{Graph, Makes, completeNode, readPlot, graphOf, weighGraph, countLimit, tooLarge, nodeRoom, edgeRoom, generateGraph}
+use Rattle.tiler.specs.Inner.{Accepted, stepOf, HoldsGraph, PassesEdges, firstCount, Finishes}
 use Rattle.tiler.specs.AcceptedLaws.{accepted-laws, accepted-steps, accepted-start}
-use Rattle.tiler.proofs.PlotLaws.{nodeRoom-nodes, nodeRoom-counts, edgeRoom-edges, edgeRoom-most}
+use Rattle.tiler.proofs.PlotLaws.{node-room, edge-room}
+use Rattle.tiler.proofs.BuildLaws.{size-held, no-room-held}
 use Rattle.tiler.proofs.PassingLaws.{pass-counts, pass-too-large, words-fit, counts-words}
 
 -- ---- the search for the full board's node
@@ -49,13 +48,6 @@ pub full-at : (b : RectangularBoard) (m k : ℕ) (r t : Bool) → r ≡ isFull (
 full-at b m k r t e q h = ap (λ (n : ℕ). isFull (boardAt (boardOf b) n)) (sym q) ∙ sym e ∙ h
 
 module _ (test : ℕ → Bool) (i : ℕ) (missed : (k : ℕ) → 1 ≤ k → k < i → test k ≡ false) where
-  pub complete-more : test i ≡ false → (k : ℕ) → 1 ≤ k → k < i + 1 → test k ≡ false
-  complete-more e k a b = go (ℕ-discrete k i)
-    where
-      go : Dec (k ≡ i) → test k ≡ false
-      go (yes q) = ap test q ∙ e
-      go (no q) = missed k a (omega arith)
-
   pub complete-found : (n : ℕ) → 1 ≤ i → i < n → test i ≡ true → completeNode (N.Node i) ≡ firstFrom test 1 (n - 1)
   complete-found n h l e = sym (firstFrom-found test 1 (n - 1) i h (omega arith) e missed)
 
@@ -112,14 +104,6 @@ makes-as : (a a′ : Answer Graph) (n n₁ c c₁ e e₁ : ℕ) (ns cs es : List
     → Makes a′ n₁ c₁ e₁ ns cs es r → Makes a n c e ns cs es r
 makes-as a a′ n n₁ c c₁ e e₁ ns cs es r p q s t m = rw (p, ← q, ← s, ← t) m
 
--- ---- rooms
-
-pub node-room : (room n c : ℕ) → room ≡ nodeRoom n c → (4 * room ≤ n) × (room ≤ c)
-node-room room n c e = (omega (arith, nodeRoom-nodes n c), omega (arith, nodeRoom-counts n c))
-
-pub edge-room : (room e : ℕ) → room ≡ edgeRoom e → (2 * room ≤ e) × (room ≤ 16777216)
-edge-room room e q = (omega (arith, edgeRoom-edges e), omega (arith, edgeRoom-most e))
-
 -- ---- what is weighed
 
 module _ (room space : ℕ) (g : Graph) where
@@ -140,36 +124,6 @@ module _ (room space : ℕ) (g : Graph) where
       weigh-given : tooLarge (g .counts) ≡ false → weighGraph room space g ≡ given g
       unfolding weighGraph
       weigh-given t = rw (le-leb (length (g .nodes)) room h, le-leb (length (g .edges)) space l, t)
-
--- ---- what a state tells
-
-abbrev full? : Growth → Bool
-full? (G.Size n e) = false
-full? G.Full = true
-
-abbrev sizes : Growth → ℕ × ℕ
-sizes (G.Size n e) = (n, e)
-sizes G.Full = (0, 0)
-
-module _ (room space : ℕ) (ns es : List ℕ) (growth : Growth) (g : List ℕ × List (ℕ × ℕ)) (holds : HoldsGraph room space ns es growth g) where
-  held-full : growth ≡ G.Full → room < length (g .0)
-  unfolding growthOf
-  held-full q = go (leb (length (g .0)) room) refl (sym (holds .state) ∙ q)
-    where
-      go : (t : Bool) → leb (length (g .0)) room ≡ t → cond t (G.Size (length (g .0)) (min (length (g .1)) (suc space))) G.Full ≡ G.Full
-          → room < length (g .0)
-      go true e p = absurd (false≢true (ap full? p))
-      go false e p = leb-false (length (g .0)) room e
-
-  held-size : (n e : ℕ) → growth ≡ G.Size n e → (length (g .0) ≤ room) × (n ≡ length (g .0)) × (e ≡ min (length (g .1)) (suc space))
-  unfolding growthOf
-  held-size n e q = go (leb (length (g .0)) room) refl (sym (holds .state) ∙ q)
-    where
-      go : (t : Bool) → leb (length (g .0)) room ≡ t → cond t (G.Size (length (g .0)) (min (length (g .1)) (suc space))) G.Full ≡ G.Size n e
-          → (length (g .0) ≤ room) × (n ≡ length (g .0)) × (e ≡ min (length (g .1)) (suc space))
-      go true p u =
-          (leb-true (length (g .0)) room p, ap (λ (x : Growth). sizes x .0) (sym u), ap (λ (x : Growth). sizes x .1) (sym u))
-      go false p u = absurd (true≢false (ap full? u))
 
 -- ---- the graph of a board and tiles
 
@@ -198,7 +152,7 @@ module _ (b : RectangularBoard) (ts : Tiles) (accepted : Accepted b ts) (fixed :
   module _ (room space : ℕ) (ns es : List ℕ) (growth : Growth) (n e : ℕ) (holds : HoldsGraph room space ns es growth (nodes, edges))
       (size : growth ≡ G.Size n e) where
     sized : (length nodes ≤ room) × (n ≡ length nodes) × (e ≡ min (length edges) (suc space))
-    sized = held-size room space ns es growth (nodes, edges) holds n e size
+    sized = size-held room space (nodes, edges) n e (sym size ∙ holds .state)
 
     -- the nodes and the edges stand in the words
     stored-nodes : listOf (setAt ns) n ≡ nodes
@@ -273,22 +227,19 @@ module _ (b : RectangularBoard) (ts : Tiles) (accepted : Accepted b ts) (fixed :
     rooms : answer ≡ weighGraph room space (graphOf S start)
     rooms = rw (← atRoom, ← atSpace)
 
-    pub made-full : (ns′ cs′ es′ : List ℕ) (r : MadeGraph) → growth ≡ G.Full → Makes (refused 8) (length ns) wc (length es) ns′ cs′ es′ r
+    pub made-no-room : (ns′ cs′ es′ : List ℕ) (r : MadeGraph) → growth ≡ G.NoRoom → Makes (refused 8) (length ns) wc (length es) ns′ cs′ es′ r
         → Makes answer wn wc we ns′ cs′ es′ r
     unfolding graphOf
-    made-full ns′ cs′ es′ r q =
+    made-no-room ns′ cs′ es′ r q =
         makes-as answer (refused 8) wn (length ns) wc wc we (length es) ns′ cs′ es′ r
-        (rooms ∙ weigh-nodes room space (graphOf S start) (held-full room space ns es growth (nodes, edges) holds q)) longNodes refl longEdges
+        (rooms ∙ weigh-nodes room space (graphOf S start) (no-room-held room space (nodes, edges) (sym q ∙ holds .state))) longNodes refl longEdges
 
     module _ (n e : ℕ) (size : growth ≡ G.Size n e) where
-      fits : (length nodes ≤ room) × (n ≡ length nodes) × (e ≡ min (length edges) (suc space))
-      fits = held-size room space ns es growth (nodes, edges) holds n e size
-
       -- what the calls ask
       pub count-asks : e ≤ space → (2 * e ≤ length es) × (0 < wc) × ((i : ℕ) → i < e → (edgeAt es i .0 < wc) × (edgeAt es i .1 < wc))
       count-asks few =
           let inRoom = node-room room wn wc atRoom .1 in (
-            omega (arith, edge-room space we atSpace .0),
+            omega (arith, edge-room space we atSpace),
             omega (arith, room-some room space ns es growth n e holds size few),
             λ i h.
                 let ends = edge-ends room space ns es growth n e holds size few i h in
@@ -296,16 +247,18 @@ module _ (b : RectangularBoard) (ts : Tiles) (accepted : Accepted b ts) (fixed :
           )
 
       pub finish-asks : e ≤ space → ((i : ℕ) → i < n → From (boardOf b) (setAt ns i)) × (4 * n ≤ length ns) × (2 * e ≤ length es)
-      finish-asks few = (
-        node-from room space ns es growth n e holds size,
-        omega (arith, node-room room wn wc atRoom .0, fits .0, fits .1),
-        omega (arith, edge-room space we atSpace .0),
-      )
+      finish-asks few =
+          let fits = sized room space ns es growth n e holds size in (
+            node-from room space ns es growth n e holds size,
+            omega (arith, node-room room wn wc atRoom .0, fits .0, fits .1),
+            omega (arith, edge-room space we atSpace),
+          )
 
-      pub made-crowded : (ns′ cs′ es′ : List ℕ) (r : MadeGraph) → space < e → Makes (refused 10) (length ns) wc (length es) ns′ cs′ es′ r
+      pub made-no-room-for-edges : (ns′ cs′ es′ : List ℕ) (r : MadeGraph) → space < e → Makes (refused 10) (length ns) wc (length es) ns′ cs′ es′ r
           → Makes answer wn wc we ns′ cs′ es′ r
       unfolding graphOf
-      made-crowded ns′ cs′ es′ r h =
+      made-no-room-for-edges ns′ cs′ es′ r h =
+          let fits = sized room space ns es growth n e holds size in
           let q = fits .2 in
           makes-as answer (refused 10) wn (length ns) wc wc we (length es) ns′ cs′ es′ r
           (rooms ∙ weigh-edges room space (graphOf S start) (fits .0) (omega arith)) longNodes refl longEdges
@@ -318,14 +271,16 @@ module _ (b : RectangularBoard) (ts : Tiles) (accepted : Accepted b ts) (fixed :
         made-large ns′ cs′ es′ r f =
             makes-as answer (refused 9) wn (length ns) wc (length cs) we (length es) ns′ cs′ es′ r
             (rooms
-            ∙ weigh-large room space (graphOf S start) (fits .0) (all-edges room space ns es growth n e holds size few .1)
+            ∙ weigh-large room space (graphOf S start) (sized room space ns es growth n e holds size .0)
+            (all-edges room space ns es growth n e holds size few .1)
             (counts-large room space ns es growth n e holds size few wc cs t (node-room room wn wc atRoom .1) pass f))
             longNodes longCounts longEdges
 
-        pub made-finished : (ns′ es′ : List ℕ) (r : MadeGraph) → ((i : ℕ) → getD ns i 0 < 2 ^ 64) → ((i : ℕ) → getD cs i 0 < 2 ^ 64) → t ≡ true
+        pub made-finished : (ns′ es′ : List ℕ) (r : MadeGraph) → ((i : ℕ) → getD ns i 0 < 2 ^ 64) → ((i : ℕ) → getD cs i 0 < countLimit) → t ≡ true
             → Finishes (boardOf b) ns es n e ns′ es′ r → Makes answer wn wc we ns′ cs es′ r
         unfolding graphOf refusalOf valueOr
         made-finished ns′ es′ r smallNodes smallCounts f finish =
+            let fits = sized room space ns es growth n e holds size in
             makes-as answer (given (graphOf S start)) wn (length ns) wc (length cs) we (length es) ns′ cs es′ r
             (rooms
             ∙ weigh-given room space (graphOf S start) (fits .0) (all-edges room space ns es growth n e holds size few .1)
@@ -348,7 +303,7 @@ module _ (b : RectangularBoard) (ts : Tiles) (accepted : Accepted b ts) (fixed :
             wideNodes = omega (arith, node-room room wn wc atRoom .0)
 
             wideEdges : 2 * space ≤ length es
-            wideEdges = omega (arith, edge-room space we atSpace .0)
+            wideEdges = omega (arith, edge-room space we atSpace)
 
 -- ---- board and tiles that are judged
 

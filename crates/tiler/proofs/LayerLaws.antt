@@ -43,16 +43,16 @@ module _ (room : ℕ) (es : List (Entry ℕ)) where
   unfolding layerState
   state-boards n over e = go (leb (length es) room) (leb-true (length es) room) e
     where
-      go : (t : Bool) → (t ≡ true → length es ≤ room) → L.Boards n over ≡ cond t (L.Boards (length es) (tooLarge (counts es))) L.Full
+      go : (t : Bool) → (t ≡ true → length es ≤ room) → L.Boards n over ≡ cond t (L.Boards (length es) (tooLarge (counts es))) L.NoRoom
           → (length es ≤ room) × (n ≡ length es) × (over ≡ tooLarge (counts es))
       go true f q = (f refl, cc, cc)
       go false f q = let z : _≡_ {A = ℕ} 0 1 = cc in absurd (omega arith)
 
-  state-full : L.Full ≡ layerState room es → room < length es
+  state-no-room : L.NoRoom ≡ layerState room es → room < length es
   unfolding layerState
-  state-full e = go (leb (length es) room) (leb-false (length es) room) e
+  state-no-room e = go (leb (length es) room) (leb-false (length es) room) e
     where
-      go : (t : Bool) → (t ≡ false → room < length es) → L.Full ≡ cond t (L.Boards (length es) (tooLarge (counts es))) L.Full → room < length es
+      go : (t : Bool) → (t ≡ false → room < length es) → L.NoRoom ≡ cond t (L.Boards (length es) (tooLarge (counts es))) L.NoRoom → room < length es
       go true f q = let z : _≡_ {A = ℕ} 0 1 = cc in absurd (omega arith)
       go false f q = f refl
 
@@ -60,12 +60,12 @@ module _ (room : ℕ) (es : List (Entry ℕ)) where
   unfolding layerState
   state-within n over h e f = rw (le-leb (length es) room h, e, f)
 
-  state-past : room < length es → L.Full ≡ layerState room es
+  state-past : room < length es → L.NoRoom ≡ layerState room es
   unfolding layerState
   state-past h = rw (lt-leb (length es) room h)
 
 -- the empty layer
-pub held-none : (room : ℕ) (bs cs : List ℕ) → HoldsLayer room bs cs (L.Boards 0 false) []
+held-none : (room : ℕ) (bs cs : List ℕ) → HoldsLayer room bs cs (L.Boards 0 false) []
 unfolding tooLarge listOf
 held-none room bs cs =
     record {
@@ -74,8 +74,8 @@ held-none room bs cs =
       counts = λ h e. refl;
     }
 
--- a full layer stays full, whatever the words
-pub held-past : (room : ℕ) (bs cs : List ℕ) (es : List (Entry ℕ)) → room < length es → HoldsLayer room bs cs L.Full es
+-- a layer whose boards pass the room, whatever the words
+held-past : (room : ℕ) (bs cs : List ℕ) (es : List (Entry ℕ)) → room < length es → HoldsLayer room bs cs L.NoRoom es
 held-past room bs cs es h =
     record { state = state-past room es h; boards = λ l. absurd (omega arith); counts = λ l e. absurd (omega arith) }
 
@@ -96,9 +96,9 @@ entries-are bs cs es f g = sym (listOf-eta (0, 0) es (λ i. (setAt bs i, getD cs
         sym (List·getD-map (λ (e : Entry ℕ). e .1) es i (0, 0)) ∙ ap (λ (l : List ℕ). getD l i 0) (sym g) ∙ getD-listOf (λ i. getD cs i 0) (length es) i 0 h
 
 module _ (room : ℕ) (bs cs : List ℕ) (es : List (Entry ℕ)) where
-  pub held-full : HoldsLayer room bs cs L.Full es → weigh room es ≡ refused 8
+  pub held-no-room : HoldsLayer room bs cs L.NoRoom es → weigh room es ≡ refused 8
   unfolding weigh
-  held-full h = rw (lt-leb (length es) room (state-full room es (h .state)))
+  held-no-room h = rw (lt-leb (length es) room (state-no-room room es (h .state)))
 
   module _ (m : ℕ) where
     pub held-large : HoldsLayer room bs cs (L.Boards m true) es → weigh room es ≡ refused 9
@@ -136,8 +136,8 @@ found-below bs n c found f i e = let l = below 0 (min n (length bs / 4) - 0) (ap
 
 module _ (room : ℕ) (bs cs : List ℕ) (layer : Layer) (es : List (Entry ℕ)) (held : HoldsLayer room bs cs layer es) (c k : ℕ) where
   -- room was gone before
-  pub add-full : layer ≡ L.Full → HoldsLayer room bs cs L.Full (addPaths eqb c k es)
-  add-full e = held-past room bs cs (addPaths eqb c k es) (omega (arith, state-full room es (sym e ∙ held .state), length-addPaths c k es))
+  pub add-no-room : layer ≡ L.NoRoom → HoldsLayer room bs cs L.NoRoom (addPaths eqb c k es)
+  add-no-room e = held-past room bs cs (addPaths eqb c k es) (omega (arith, state-no-room room es (sym e ∙ held .state), length-addPaths c k es))
 
   module _ (n : ℕ) (over : Bool) (e : layer ≡ L.Boards n over) (lent : 4 * room ≤ length bs) (found : Found) (f : foundAnswer found ≡ findNode bs 0 n c) where
     told : (length es ≤ room) × (n ≡ length es) × (over ≡ tooLarge (counts es))
@@ -160,7 +160,7 @@ module _ (room : ℕ) (bs cs : List ℕ) (layer : Layer) (es : List (Entry ℕ))
           go false q = refl
 
       -- there is no room for it
-      pub add-past : room ≤ n → HoldsLayer room bs cs L.Full (addPaths eqb c k es)
+      pub add-past : room ≤ n → HoldsLayer room bs cs L.NoRoom (addPaths eqb c k es)
       add-past h = held-past room bs cs (addPaths eqb c k es) (omega (arith, told .1, length-new c k es not-held))
 
       -- it is stored behind the others
@@ -177,7 +177,7 @@ module _ (room : ℕ) (bs cs : List ℕ) (layer : Layer) (es : List (Entry ℕ))
         long : length (es ++ (c, k) ∷ []) ≡ length es + 1
         long = length-append es ((c, k) ∷ [])
 
-        large : k < 2 ^ 64 → tooLarge (counts (es ++ (c, k) ∷ [])) ≡ tooLarge (counts es)
+        large : k < countLimit → tooLarge (counts (es ++ (c, k) ∷ [])) ≡ tooLarge (counts es)
         large hk = ap tooLarge (map-append (λ (x : Entry ℕ). x .1) es ((c, k) ∷ [])) ∙ tooLarge-snoc (counts es) k hk
 
         stored : c < 2 ^ 256 → listOf (setAt bs′) (length (es ++ (c, k) ∷ [])) ≡ boards (es ++ (c, k) ∷ [])
@@ -205,7 +205,7 @@ module _ (room : ℕ) (bs cs : List ℕ) (layer : Layer) (es : List (Entry ℕ))
         more : (length (es ++ (c, k) ∷ []) ≤ room) × (n + 1 ≡ length (es ++ (c, k) ∷ []))
         more = (omega (arith, told .1, long), omega (arith, told .1, long))
 
-        pub add-new : room ≤ length cs → c < 2 ^ 256 → k < 2 ^ 64 → HoldsLayer room bs′ (set cs n k) (L.Boards (n + 1) over) (addPaths eqb c k es)
+        pub add-new : room ≤ length cs → c < 2 ^ 256 → k < countLimit → HoldsLayer room bs′ (set cs n k) (L.Boards (n + 1) over) (addPaths eqb c k es)
         add-new r hc hk =
             rw (addPaths-new c k es not-held)
             record {
@@ -340,11 +340,11 @@ grown-none room next totals b paths bs cs = subst (HoldsLayer room next totals (
 
 -- ---- some paths more for one count
 
-module _ (cs : List ℕ) (i k : ℕ) (h : k < 2 ^ 64) where
-  pub count-refused : 18446744073709551615 - k < getD cs i 0 → AddsCount cs i k cs true
+module _ (cs : List ℕ) (i k : ℕ) (h : k < countLimit) where
+  pub count-refused : countLimit - 1 - k < getD cs i 0 → AddsCount cs i k cs true
   count-refused l = record { large = sym (le-leb countLimit (getD cs i 0 + k) (omega arith)); same = λ v. refl }
 
-  pub count-raised : i < length cs → getD cs i 0 ≤ 18446744073709551615 - k → AddsCount cs i k (set cs i (getD cs i 0 + k)) false
+  pub count-raised : i < length cs → getD cs i 0 ≤ countLimit - 1 - k → AddsCount cs i k (set cs i (getD cs i 0 + k)) false
   count-raised r l = record { large = sym (lt-leb countLimit (getD cs i 0 + k) (omega arith)); same = λ v. go v (ℕ-discrete v i) }
     where
       go : (v : ℕ) → Dec (v ≡ i) → getD (set cs i (getD cs i 0 + k)) v 0 ≡ cond (eqb v i) (getD cs i 0 + k) (getD cs v 0)
@@ -353,10 +353,14 @@ module _ (cs : List ℕ) (i k : ℕ) (h : k < 2 ^ 64) where
 
 -- ---- the count of a last layer
 
-module _ (f : ℕ → ℕ) (n : ℕ) where
-  pub last-none : n ≡ 0 → given 0 ≡ given (getD (listOf f n) 0 0)
-  unfolding listOf
-  last-none e = rw e refl
+module _ (f : ℕ → ℕ) (n left : ℕ) where
+  pub last-free : 0 < left → given 0 ≡ given (cond (eqb left 0) (getD (listOf f n) 0 0) 0)
+  last-free h = rw (ne-eqb left 0 (λ e. omega arith))
 
-  pub last-one : (n ≡ 0 → ⊥) → given (f 0) ≡ given (getD (listOf f n) 0 0)
-  last-one ne = ap given (sym (getD-listOf f n 0 0 (omega arith)))
+  module _ (h : left ≤ 0) where
+    pub last-none : n ≡ 0 → given 0 ≡ given (cond (eqb left 0) (getD (listOf f n) 0 0) 0)
+    unfolding listOf
+    last-none e = rw (eq-eqb left 0 (omega arith), e)
+
+    pub last-one : (n ≡ 0 → ⊥) → given (f 0) ≡ given (cond (eqb left 0) (getD (listOf f n) 0 0) 0)
+    last-one ne = rw (eq-eqb left 0 (omega arith)) (ap given (sym (getD-listOf f n 0 0 (omega arith))))

@@ -3,7 +3,7 @@
 use mathlib.Core.Path.{_≡_, refl, sym, ap, ap₂, _∙_, subst}
 use mathlib.Core.Bool.{Bool, true, false, cond, false≢true, true≢false}
 use mathlib.Core.List.{List, List·Memᴰ as Mem}
-use Prim.Native.Nat.{ℕ, zero, suc, _+_, _*_, _^_, _≤_, _<_}
+use Prim.Native.Nat.{ℕ, zero, suc, _+_, _*_, _≤_, _<_}
 use native.Mathlib.Numerals.{add-one}
 use native.Mathlib.Decide.{ℕ-discrete, decLt}
 use native.Mathlib.Omega.{arith}
@@ -176,7 +176,7 @@ module _ {P : Type 0} (S : Setting ℕ P) (L : Laws S) (a : ℕ) (E : EqualSteps
           go (no l) = absurd (omega (arith, List·getD-eq-default (counts (entriesOf S s)) 0 {n = v} (omega arith)))
 
 -- counts in machine words are not too large
-pub words-fit : (ns cs : List ℕ) → ((v : ℕ) → getD cs v 0 ≡ getD ns v 0) → ((v : ℕ) → getD cs v 0 < 2 ^ 64) → tooLarge ns ≡ false
+pub words-fit : (ns cs : List ℕ) → ((v : ℕ) → getD cs v 0 ≡ getD ns v 0) → ((v : ℕ) → getD cs v 0 < countLimit) → tooLarge ns ≡ false
 unfolding tooLarge
 words-fit ns cs e small = go (any (λ n. leb countLimit n) ns) refl
   where

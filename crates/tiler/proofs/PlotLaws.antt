@@ -2,7 +2,7 @@
 -- start with its free cells and its children. Rests on `Counting`, `Inner`, `SettingLaws` and on the laws of `cells`, `tile` and `board`.
 -- Assumes nothing.
 use mathlib.Core.Path.{_≡_, refl, sym, ap, _∙_, subst}
-use mathlib.Core.Bool.{Bool, true, false, So, cond}
+use mathlib.Core.Bool.{Bool, true, So, cond}
 use mathlib.Core.List.{List}
 use Prim.Native.Nat.{ℕ, _+_, _-_, _*_, _/_, _%_, _^_, _≤_, _<_}
 use native.Mathlib.Decide.{decLt}
@@ -23,8 +23,8 @@ use Rattle.tile.specs.declared.CellCount.the-variants as N
 use Rattle.tile.specs.declared.refusal.Refusal.{Refusal}
 use Rattle.tile.specs.declared.refusal.Verdict.{Verdict}
 use Rattle.tile.specs.declared.refusal.Verdict.the-variants as Verdicts
-use Rattle.tile.specs.Refusal.{Answer, refused, given, mapAnswer, bindAnswer, refusalOf, refusalNumber, verdictNumber, valueOr}
-use Rattle.tile.specs.RefusalLaws.{refused-of, refused-given}
+use Rattle.tile.specs.Refusal.{Answer, refused, given, mapAnswer, bindAnswer, refusalOf, refusalNumber, verdictNumber}
+use Rattle.tile.specs.RefusalLaws.{refused-of, refused-given, given-inj, refused-inj}
 use Rattle.tile.specs.Path.{Path, sharedCount}
 use Rattle.tile.specs.Stored.{pathsIn, readEqualTiles, cellCountAnswer}
 use Rattle.tile.specs.EqualLaws.{readTiles-storable, readEqualTiles-given}
@@ -37,7 +37,7 @@ use Rattle.board.specs.declared.Children.{Children}
 use Rattle.board.specs.declared.Children.the-variants as C
 use Rattle.board.specs.Board.{Board, boardOf, boardAt, freeCount, isFull, valid, readBoard, freeCellsAnswer, allMarkedAnswer}
 use Rattle.board.specs.Children.{children, WritesChildren}
-use Rattle.board.specs.BoardLaws.{readBoard-given, readBoard-refused, check-accepted}
+use Rattle.board.specs.BoardLaws.{readBoard-given, check-accepted}
 use Rattle.board.specs.WriteLaws.{children-written}
 use Rattle.covers.specs.Cuttings.{childBoards}
 use Rattle.tiler.specs.declared.plot.Judged.{Judged}
@@ -46,16 +46,7 @@ use Rattle.tiler.specs.Boards.{From, settingOf}
 use Rattle.tiler.specs.Counting.{readPlot, roomOf, layerRoom, nodeRoom, edgeRoom}
 use Rattle.tiler.specs.Inner.{Accepted, stepOf, judgedAnswer}
 use Rattle.tiler.specs.SettingLaws.{children-are}
-
--- ---- answers
-
-given-inj : {A : Type 0} (x y : A) → given x ≡ given y → x ≡ y
-unfolding valueOr
-given-inj x y e = ap (valueOr x) e
-
-refused-inj : {A : Type 0} (n m : ℕ) → _≡_ {A = Answer A} (refused n) (refused m) → n ≡ m
-unfolding refusalOf
-refused-inj n m e = ap refusalOf e
+use Rattle.tiler.specs.AcceptedLaws.{read-accepted}
 
 -- ---- `sized`: the cells that each piece covers
 
@@ -115,27 +106,17 @@ module _ (b : RectangularBoard) (ts : Tiles) (r : Judged) where
   pub judged-size : (n : ℕ) → judgedAnswer r ≡ mapAnswer (λ p. stepOf (p .1)) (readPlot b ts) → r ≡ J.Size n
       → Accepted b ts × (n ≡ stepOf (pathsIn ts)) × (readPlot b ts ≡ given (boardOf b, pathsIn ts))
   unfolding mapAnswer
-  judged-size n e f = valid-case (valid (boardOf b)) refl
+  judged-size n e f = go (readPlot b ts) refl
     where
       told : given n ≡ mapAnswer steps (readPlot b ts)
       told = sym (ap judgedAnswer f) ∙ e
 
-      tiles-case : So (valid (boardOf b)) → (a : Answer (List Path)) → readEqualTiles ts ≡ a
+      go : (a : Answer (Board × List Path)) → readPlot b ts ≡ a
           → Accepted b ts × (n ≡ stepOf (pathsIn ts)) × (readPlot b ts ≡ given (boardOf b, pathsIn ts))
-      tiles-case ok (refused k) q =
-          let none : readPlot b ts ≡ refused k = plot-given b ts ok ∙ ap (mapAnswer (beside b)) q in
-          absurd (refused-given k n (sym (told ∙ ap (mapAnswer steps) none)))
-      tiles-case ok (given paths) q =
-          let same : paths ≡ pathsIn ts = readEqualTiles-given ts paths q .1 in
-          let read : readEqualTiles ts ≡ given (pathsIn ts) = q ∙ ap given same in
-          let plot : readPlot b ts ≡ given (boardOf b, pathsIn ts) = plot-given b ts ok ∙ ap (mapAnswer (beside b)) read in
-          (record { board = ok; tiles = read }, given-inj n (stepOf (pathsIn ts)) (told ∙ ap (mapAnswer steps) plot), plot)
-
-      valid-case : (t : Bool) → valid (boardOf b) ≡ t
-          → Accepted b ts × (n ≡ stepOf (pathsIn ts)) × (readPlot b ts ≡ given (boardOf b, pathsIn ts))
-      valid-case true q = tiles-case q (readEqualTiles ts) refl
-      valid-case false q =
-          absurd (refused-given 4 n (sym (told ∙ ap (mapAnswer steps) (plot-refused b ts 4 (readBoard-refused b q)))))
+      go (refused k) q = absurd (refused-given k n (sym (told ∙ ap (mapAnswer steps) q)))
+      go (given p) q =
+          let r = read-accepted b ts p q in
+          (r .1, given-inj n (stepOf (p .1)) (told ∙ ap (mapAnswer steps) q) ∙ ap steps (r .0), q ∙ ap given (r .0))
 
   -- board or tiles are refused
   pub judged-refused : (q : Refusal) → judgedAnswer r ≡ mapAnswer (λ p. stepOf (p .1)) (readPlot b ts) → r ≡ J.Refused q
@@ -147,50 +128,20 @@ module _ (b : RectangularBoard) (ts : Tiles) (r : Judged) where
       go (refused n) s = ap refused (sym (refused-inj (refusalNumber q) n s))
       go (given p) s = absurd (refused-given (refusalNumber q) (stepOf (p .1)) s)
 
--- ---- rooms: no more than the lent words hold, and at most 16,777,216
+-- ---- rooms: no more than the lent words hold
 
-module _ (a ac b bc : ℕ) where
-  pub layerRoom-most : layerRoom a ac b bc ≤ 16777216
-  unfolding layerRoom roomOf
-  layerRoom-most = omega arith
+pub layer-room : (room boardsA countsA boardsB countsB : ℕ) → room ≡ layerRoom boardsA countsA boardsB countsB
+    → (4 * room ≤ boardsA) × (room ≤ countsA) × (4 * room ≤ boardsB) × (room ≤ countsB)
+unfolding layerRoom roomOf
+layer-room room boardsA countsA boardsB countsB e = (omega arith, omega arith, omega arith, omega arith)
 
-  pub layerRoom-boardsA : 4 * layerRoom a ac b bc ≤ a
-  unfolding layerRoom roomOf
-  layerRoom-boardsA = omega arith
+pub node-room : (room nodes counts : ℕ) → room ≡ nodeRoom nodes counts → (4 * room ≤ nodes) × (room ≤ counts)
+unfolding nodeRoom roomOf
+node-room room nodes counts e = (omega arith, omega arith)
 
-  pub layerRoom-countsA : layerRoom a ac b bc ≤ ac
-  unfolding layerRoom roomOf
-  layerRoom-countsA = omega arith
-
-  pub layerRoom-boardsB : 4 * layerRoom a ac b bc ≤ b
-  unfolding layerRoom roomOf
-  layerRoom-boardsB = omega arith
-
-  pub layerRoom-countsB : layerRoom a ac b bc ≤ bc
-  unfolding layerRoom roomOf
-  layerRoom-countsB = omega arith
-
-module _ (n c : ℕ) where
-  pub nodeRoom-most : nodeRoom n c ≤ 16777216
-  unfolding nodeRoom roomOf
-  nodeRoom-most = omega arith
-
-  pub nodeRoom-nodes : 4 * nodeRoom n c ≤ n
-  unfolding nodeRoom roomOf
-  nodeRoom-nodes = omega arith
-
-  pub nodeRoom-counts : nodeRoom n c ≤ c
-  unfolding nodeRoom roomOf
-  nodeRoom-counts = omega arith
-
-module _ (e : ℕ) where
-  pub edgeRoom-most : edgeRoom e ≤ 16777216
-  unfolding edgeRoom roomOf
-  edgeRoom-most = omega arith
-
-  pub edgeRoom-edges : 2 * edgeRoom e ≤ e
-  unfolding edgeRoom roomOf
-  edgeRoom-edges = omega arith
+pub edge-room : (room edges : ℕ) → room ≡ edgeRoom edges → 2 * room ≤ edges
+unfolding edgeRoom roomOf
+edge-room room edges e = omega arith
 
 -- ---- `board_at`: the fixed marks are taken from the marks word by word
 
@@ -226,7 +177,7 @@ abbrev without : Cells → Cells → Cells
 without t s = record { w0 = t .w0 - s .w0; w1 = t .w1 - s .w1; w2 = t .w2 - s .w2; w3 = t .w3 - s .w3 }
 
 module _ (s t : Cells) (hs : Sound s) (ht : Sound t) (w : Within (number s) (number t)) where
-  pub number-without : number (without t s) ≡ number t - number s
+  number-without : number (without t s) ≡ number t - number s
   unfolding number value
   number-without =
       taken (number (without t s)) (number s) (number t)

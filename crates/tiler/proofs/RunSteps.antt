@@ -1,10 +1,13 @@
 -- Laws that the proofs of `layers::run` cite: what a layer in lent words has, and the answer of each way out. Rests on `RunLaws`, `AcceptedLaws`
 -- and `LayerLaws`. Assumes nothing.
 use mathlib.Core.Path.{_≡_, refl, sym, ap, _∙_, subst}
-use mathlib.Core.Bool.{Bool, true, false}
+use mathlib.Core.Bool.{Bool, true, false, cond}
 use mathlib.Core.List.{List, _∷_, map, List·Memᴰ as Mem}
 use Prim.Native.Nat.{ℕ, zero, suc, _-_, _≤_, _<_}
+use native.Mathlib.Decide.{ℕ-discrete}
 use native.Mathlib.Omega.{arith}
+use borrow.Author.Tests.{eq-eqb, ne-eqb}
+use lib.Dec.{eqb}
 use lib.ListN.{getD}
 use Rattle.cells.specs.Arrays.{listFrom, listOf}
 use Rattle.cells.specs.Lists.{setAt}
@@ -23,7 +26,7 @@ use Rattle.tiler.specs.Counting.{weigh}
 use Rattle.tiler.specs.Inner.{Accepted, stepOf, entriesIn, HoldsLayer, nextOf, countFrom, Ready}
 use Rattle.tiler.specs.RunLaws.{count-last, count-short, count-on, ready-next}
 use Rattle.tiler.specs.AcceptedLaws.{stepOf-pos, setting-full, accepted-laws, accepted-steps}
-use Rattle.tiler.proofs.LayerLaws.{held-entries, held-large, held-fits, held-full}
+use Rattle.tiler.proofs.LayerLaws.{held-entries, held-large, held-fits, held-no-room}
 
 -- ---- entries in lent words
 
@@ -66,24 +69,38 @@ module _ (b : RectangularBoard) (ts : Tiles) (bs cs : List ℕ) (n left : ℕ) (
     size-pos : 0 < size
     size-pos = omega (arith, is, stepOf-pos (pathsIn ts))
 
-    pub run-less : (left ≡ 0 → ⊥) → left - size < left
-    run-less z = omega (arith, size-pos)
+    pub run-less : size ≤ left → left - size < left
+    run-less h = omega (arith, size-pos)
 
-    pub run-last : (x : Answer ℕ) → left ≡ 0 → x ≡ given (getD (listOf (λ i. getD cs i 0) n) 0 0) → Right x
-    run-last x z e k h =
-        e ∙ ap (λ (l : List ℕ). given (getD l 0 0)) (sym (counts-entriesIn bs cs n))
+    last-layer : left ≡ 0 → Right (given (getD (listOf (λ i. getD cs i 0) n) 0 0))
+    last-layer z k h =
+        ap (λ (l : List ℕ). given (getD l 0 0)) (sym (counts-entriesIn bs cs n))
         ∙ sym
         (count-last S (accepted-laws b ts A) (setting-full (boardOf b) (pathsIn ts)) size steps room k es (subst (λ (m : ℕ). Ready S m es) z R) size-pos)
 
-    pub run-short : (left ≡ 0 → ⊥) → left < size → Right (given 0)
-    run-short z l k h =
+    short-layer : (left ≡ 0 → ⊥) → left < size → Right (given 0)
+    short-layer z l k h =
         let some : 0 < left = omega arith in
         sym (count-short S (accepted-laws b ts A) (setting-full (boardOf b) (pathsIn ts)) size steps room k left es R some l)
 
-    module _ (z : left ≡ 0 → ⊥) (bs′ cs′ : List ℕ) (g : Layer) (H : HoldsLayer room bs′ cs′ g (nextOf S es)) where
+    -- no piece can be laid on a board of the layer
+    pub run-last : (x : Answer ℕ) → left < size → x ≡ given (cond (eqb left 0) (getD (listOf (λ i. getD cs i 0) n) 0 0) 0) → Right x
+    run-last x l e = go (ℕ-discrete left 0)
+      where
+        go : Dec (left ≡ 0) → Right x
+        go (yes z) k h =
+            e
+            ∙ ap (λ (t : Bool). given (cond t (getD (listOf (λ i. getD cs i 0) n) 0 0) 0)) (eq-eqb left 0 z)
+            ∙ last-layer z k h
+        go (no z) k h =
+            e
+            ∙ ap (λ (t : Bool). given (cond t (getD (listOf (λ i. getD cs i 0) n) 0 0) 0)) (ne-eqb left 0 z)
+            ∙ short-layer z l k h
+
+    module _ (fits : size ≤ left) (bs′ cs′ : List ℕ) (g : Layer) (H : HoldsLayer room bs′ cs′ g (nextOf S es)) where
       next : (k : ℕ) → left ≤ k → countFrom S room k es ≡ bindAnswer (weigh room (nextOf S es)) (countFrom S room (k - 1))
       next k h =
-          let some : 0 < left = omega arith in
+          let some : 0 < left = omega (arith, size-pos) in
           let q : k ≡ suc (k - 1) = omega arith in
           ap (λ (i : ℕ). countFrom S room i es) q
           ∙ count-on S (accepted-laws b ts A) (setting-full (boardOf b) (pathsIn ts)) room (k - 1) left es R some
@@ -93,8 +110,8 @@ module _ (b : RectangularBoard) (ts : Tiles) (bs cs : List ℕ) (n left : ℕ) (
       refuses m w k h =
           ap (λ (x : Answer (List (Entry ℕ))). bindAnswer x (countFrom S room (k - 1))) (sym w) ∙ sym (next k h)
 
-      pub run-full : g ≡ L.Full → Right (refused 8)
-      run-full q = refuses 8 (held-full room bs′ cs′ (nextOf S es) (subst (λ (x : Layer). HoldsLayer room bs′ cs′ x (nextOf S es)) q H))
+      pub run-no-room : g ≡ L.NoRoom → Right (refused 8)
+      run-no-room q = refuses 8 (held-no-room room bs′ cs′ (nextOf S es) (subst (λ (x : Layer). HoldsLayer room bs′ cs′ x (nextOf S es)) q H))
 
       module _ (m : ℕ) (over : Bool) (q : g ≡ L.Boards m over) where
         pub run-large : over ≡ true → Right (refused 9)

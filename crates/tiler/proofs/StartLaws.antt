@@ -1,9 +1,8 @@
--- Laws that the proofs of `layers::weighed`, `layers::counted`, `count_tilings` and `count_tilings_from_graph` cite: layer 0 in lent words, the answer
--- of each way out, and the words that are cleared. Rests on `RunLaws`, `AcceptedLaws`
--- and `PlotLaws`. Assumes nothing.
+-- Laws that the proofs of `layers::start`, `layers::weighed`, `layers::counted`, `count_tilings` and `count_tilings_from_graph` cite: layer 0 in
+-- lent words, the answer of each way out, and the words that are cleared. Rests on `RunLaws`, `AcceptedLaws` and cells' `ListLaws`. Assumes nothing.
 use mathlib.Core.Path.{_≡_, sym, ap, ap₂, _∙_, subst}
 use mathlib.Core.List.{List, [], _∷_}
-use Prim.Native.Nat.{ℕ, _*_, _^_, _≤_, _<_}
+use Prim.Native.Nat.{ℕ, _/_, _^_, _≤_, _<_}
 use native.Mathlib.Nat.{le-refl}
 use native.Mathlib.Omega.{arith}
 use borrow.Author.Tests.{le-ltb, ne-eqb}
@@ -15,7 +14,7 @@ use Rattle.cells.specs.Words.{number}
 use Rattle.cells.specs.Arrays.{listFrom, listOf}
 use Rattle.cells.specs.ArrayLaws.{listOf-ext, replicate-listOf}
 use Rattle.cells.specs.Lists.{setAt, withSet, clearedFrom}
-use Rattle.cells.specs.ListLaws.{storedIn-none, storedIn-snoc, setAt-storedIn}
+use Rattle.cells.specs.ListLaws.{setAt-same}
 use Rattle.tile.specs.declared.Tiles.{Tiles}
 use Rattle.tile.specs.Refusal.{Answer, refused, given, bindAnswer}
 use Rattle.tile.specs.Path.{Path}
@@ -28,36 +27,23 @@ use Rattle.covers.specs.Counts.{Entry, atNode}
 use Rattle.tiler.specs.declared.Complete.{Complete}
 use Rattle.tiler.specs.declared.Complete.the-variants as N
 use Rattle.tiler.specs.Boards.{setting, settingOf, startOf}
-use Rattle.tiler.specs.Counting.{layersAnswer, layerRoom, readPlot, countTilings, completeNode, countFromGraph}
+use Rattle.tiler.specs.Counting.{layersAnswer, readPlot, countTilings, completeNode, countFromGraph}
 use Rattle.tiler.specs.Inner.{Accepted, entriesIn, countFrom, Ready}
 use Rattle.tiler.specs.RunLaws.{ready-start, layers-from, layers-full, layers-no-room}
 use Rattle.tiler.specs.AcceptedLaws.{setting-full, accepted-laws, accepted-start, accepted-free}
-use Rattle.tiler.proofs.PlotLaws.{layerRoom-boardsA, layerRoom-countsA, layerRoom-boardsB, layerRoom-countsB}
 
 -- ---- layer 0 in lent words
 
-set-first : (ws : List ℕ) (x : ℕ) → x < 2 ^ 256 → 4 ≤ length ws → setAt (withSet ws 0 x) 0 ≡ x
-set-first ws x small h =
-    ap (λ (l : List ℕ). setAt l 0) (ap (λ (l : List ℕ). withSet l 0 x) (storedIn-none ws) ∙ storedIn-snoc [] ws x h)
-    ∙ setAt-storedIn (x ∷ []) ws 0 one h small
-  where
-    one : 0 < 1
-    one = omega arith
+one-lent : (n : ℕ) → 4 ≤ n → 0 < n / 4
+one-lent n h = omega arith
 
-module _ (bs cs bs′ : List ℕ) (m s : ℕ) (is : m ≡ s) (put : bs′ ≡ withSet bs 0 m)
-    (room : ℕ) (some : room ≡ 0 → ⊥) (longB : 4 * room ≤ length bs) (longC : room ≤ length cs) where
-  first-count : getD (set cs 0 1) 0 0 ≡ 1
-  first-count = getD-set-same cs 0 1 0 (omega arith)
-
-  four-words : 4 ≤ length bs
-  four-words = omega arith
-
-  first-entries : s < 2 ^ 256 → entriesIn bs′ (set cs 0 1) 1 ≡ (s, 1) ∷ []
-  unfolding entriesIn listOf listFrom
-  first-entries small =
-      let board : setAt bs′ 0 ≡ s =
-      ap (λ (l : List ℕ). setAt l 0) (put ∙ ap (withSet bs 0) is) ∙ set-first bs s small four-words in
-      ap₂ (λ (x y : ℕ). (x, y) ∷ []) board first-count
+pub first-entries : (b : RectangularBoard) (bs cs bs′ : List ℕ) (m : ℕ) → m ≡ startOf b → bs′ ≡ withSet bs 0 m → 4 ≤ length bs → 0 < length cs
+    → entriesIn bs′ (set cs 0 1) 1 ≡ (startOf b, 1) ∷ []
+unfolding entriesIn listOf listFrom
+first-entries b bs cs bs′ m is put longB longC =
+    ap₂ (λ (x y : ℕ). (x, y) ∷ [])
+    (ap (λ (ws : List ℕ). setAt ws 0) (put ∙ ap (withSet bs 0) is) ∙ setAt-same bs 0 (startOf b) (one-lent (length bs) longB) (marks-lt (boardOf b)))
+    (getD-set-same cs 0 1 0 longC)
 
 -- ---- the ways out of `weighed`
 
@@ -66,16 +52,6 @@ start-no-room S s room R e z = sym (ap (layersAnswer S s) (sym e ∙ z) ∙ laye
 
 pub positive : (n : ℕ) → (n ≡ 0 → ⊥) → 0 < n
 positive n h = omega arith
-
--- the room of two layers
-pub room-fits : (boardsA countsA boardsB countsB room : ℕ) → room ≡ layerRoom boardsA countsA boardsB countsB
-    → (4 * room ≤ boardsA) × (room ≤ countsA) × (4 * room ≤ boardsB) × (room ≤ countsB)
-room-fits boardsA countsA boardsB countsB room e = (
-  omega (arith, layerRoom-boardsA boardsA countsA boardsB countsB),
-  omega (arith, layerRoom-countsA boardsA countsA boardsB countsB),
-  omega (arith, layerRoom-boardsB boardsA countsA boardsB countsB),
-  omega (arith, layerRoom-countsB boardsA countsA boardsB countsB),
-)
 
 module _ (b : RectangularBoard) (ts : Tiles) (A : Accepted b ts) (fixedLt : number (b .fixed) < 2 ^ 256) (laidLt : number (b .laid) < 2 ^ 256)
     (free : ℕ) (isFree : free ≡ freeCount (boardOf b)) (room R : ℕ) (is : room ≡ R) (some : room ≡ 0 → ⊥) where
@@ -88,19 +64,15 @@ module _ (b : RectangularBoard) (ts : Tiles) (A : Accepted b ts) (fixedLt : numb
   pub start-full : free ≡ 0 → given 0 ≡ layersAnswer S (startOf b) R
   start-full z = sym (ap (layersAnswer S (startOf b)) (sym is) ∙ layers-full S (startOf b) room (start-free ∙ z) (positive room some))
 
-  module _ (bs cs bs′ : List ℕ) (m : ℕ) (isMarks : m ≡ startOf b) (put : bs′ ≡ withSet bs 0 m)
-      (longB : 4 * room ≤ length bs) (longC : room ≤ length cs) where
-    entries : entriesIn bs′ (set cs 0 1) 1 ≡ (startOf b, 1) ∷ []
-    entries = first-entries bs cs bs′ m (startOf b) isMarks put room some longB longC (marks-lt (boardOf b))
-
-    pub start-ready : Ready S free (entriesIn bs′ (set cs 0 1) 1)
+  module _ (es : List (Entry ℕ)) (entries : es ≡ (startOf b, 1) ∷ []) where
+    pub start-ready : Ready S free es
     unfolding setting
     start-ready =
         subst (λ (es : List (Entry ℕ)). Ready S free es) (sym entries)
         (subst (λ (k : ℕ). Ready S k ((startOf b, 1) ∷ [])) start-free
         (ready-start S (accepted-laws b ts A) (startOf b) (accepted-start b ts A fixedLt laidLt)))
 
-    pub start-run : (free ≡ 0 → ⊥) → (x : Answer ℕ) → ((k : ℕ) → free ≤ k → x ≡ countFrom S room k (entriesIn bs′ (set cs 0 1) 1))
+    pub start-run : (free ≡ 0 → ⊥) → (x : Answer ℕ) → ((k : ℕ) → free ≤ k → x ≡ countFrom S room k es)
         → x ≡ layersAnswer S (startOf b) R
     start-run z x e =
         let notFull : S .full (startOf b) ≡ false =

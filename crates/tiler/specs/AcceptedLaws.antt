@@ -10,7 +10,7 @@ use lib.Dec.{eqb}
 use Rattle.cells.specs.Words.{number}
 use Rattle.tile.specs.declared.Tiles.{Tiles}
 use Rattle.tile.specs.Refusal.{Answer, refused, given, mapAnswer, bindAnswer}
-use Rattle.tile.specs.RefusalLaws.{refused-given}
+use Rattle.tile.specs.RefusalLaws.{refused-given, given-inj}
 use Rattle.tile.specs.Path.{Path, cellCount, EqualCounts, sharedCount}
 use Rattle.tile.specs.Stored.{pathsIn, readEqualTiles}
 use Rattle.tile.specs.EqualLaws.{cellCount-pos, sharedCount-mem, readEqualTiles-given}
@@ -24,10 +24,6 @@ use Rattle.tiler.specs.SettingLaws.{setting-laws, setting-steps, start-a
 
 -- ---- what is read
 
--- the value of an answer that is not refused
-given-value : {A : Type 0} (d : A) (x y : A) → given x ≡ given y → x ≡ y
-given-value d x y e = cc
-
 pub read-accepted : (b : RectangularBoard) (ts : Tiles) (p : Board × List Path) → readPlot b ts ≡ given p → (p ≡ (boardOf b, pathsIn ts)) × Accepted b ts
 unfolding readPlot readBoard bindAnswer mapAnswer
 read-accepted b ts p e = go (valid (boardOf b)) refl (readEqualTiles ts) refl e
@@ -39,11 +35,7 @@ read-accepted b ts p e = go (valid (boardOf b)) refl (readEqualTiles ts) refl e
     go true v (refused n) q f = absurd (refused-given n p f)
     go true v (given paths) q f =
         let r = readEqualTiles-given ts paths q .1 in
-        (sym (given-value p (boardOf b, paths) p f) ∙ ap (λ (ps : List Path). (boardOf b, ps)) r, record { board = v; tiles = q ∙ ap given r })
-
-pub accepted-read : (b : RectangularBoard) (ts : Tiles) → Accepted b ts → readPlot b ts ≡ given (boardOf b, pathsIn ts)
-unfolding readPlot readBoard bindAnswer mapAnswer
-accepted-read b ts h = rw (h .board, h .tiles)
+        (sym (given-inj (boardOf b, paths) p f) ∙ ap (λ (ps : List Path). (boardOf b, ps)) r, record { board = v; tiles = q ∙ ap given r })
 
 -- ---- the setting
 

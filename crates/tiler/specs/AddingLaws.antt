@@ -1,9 +1,9 @@
 -- Laws of one addition to a list of entries and of many: the boards, the counts and whether one is too large; the layer behind a layer is built by
--- adding each child's paths. Rests on `covers` and `cells`. Assumes nothing.
+-- adding each child's paths. Rests on `Inner`, `Counting`, `covers` and `cells`. Assumes nothing.
 use mathlib.Core.Path.{_≡_, refl, sym, ap, _∙_}
 use mathlib.Core.Bool.{Bool, true, false, cond, _||_, false≢true}
 use mathlib.Core.List.{List, [], _∷_, _++_, map, flatMap, append-nil, append-assoc}
-use Prim.Native.Nat.{ℕ, zero, suc, _+_, _^_, _≤_, _<_}
+use Prim.Native.Nat.{ℕ, zero, suc, _+_, _≤_, _<_}
 use native.Mathlib.Omega.{arith}
 use borrow.Author.Tests.{le-leb, lt-leb, leb-true}
 use lib.Dec.{eqb, leb}
@@ -24,7 +24,7 @@ use Rattle.tiler.specs.Inner.{entriesIn, addEach, nextOf}
 
 -- ---- whether a count is too large
 
-pub tooLarge-snoc : (ns : List ℕ) (k : ℕ) → k < 2 ^ 64 → tooLarge (ns ++ k ∷ []) ≡ tooLarge ns
+pub tooLarge-snoc : (ns : List ℕ) (k : ℕ) → k < countLimit → tooLarge (ns ++ k ∷ []) ≡ tooLarge ns
 unfolding tooLarge any
 tooLarge-snoc [] k h = rw (lt-leb countLimit k h)
 tooLarge-snoc (n ∷ ns) k h = ap (λ (t : Bool). leb countLimit n || t) (tooLarge-snoc ns k h)

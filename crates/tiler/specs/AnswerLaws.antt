@@ -1,6 +1,6 @@
 -- What an answer that is given says: board and tiles are not refused, the graph has room and its counts fit, the layer count is the definition's.
 -- Rests on `AcceptedLaws`. Assumes nothing.
-use mathlib.Core.Path.{_≡_, refl, sym, ap, _∙_, subst}
+use mathlib.Core.Path.{_≡_, refl, sym, ap, _∙_, subst, ap₂, fun-ext}
 use mathlib.Core.Bool.{Bool, true, false, So, cond, false≢true}
 use mathlib.Core.List.{List, [], _∷_}
 use mathlib.Core.Option.{Option, none, some, Option·none-ne-some}
@@ -9,27 +9,27 @@ use native.Mathlib.Decide.{decLt}
 use native.Mathlib.Omega.{arith}
 use borrow.Author.Tests.{leb-true, leb-false}
 use lib.Dec.{leb}
-use lib.ListN.{length, getD, List·getD-eq-default}
+use lib.ListN.{length, getD, length-map, List·getD-eq-default}
 use Rattle.cells.specs.FirstsLaws.{any-true, mem-getD}
 use Rattle.tile.specs.declared.Tiles.{Tiles}
-use Rattle.tile.specs.Refusal.{Answer, refused, given, mapAnswer, bindAnswer, refusalOf}
-use Rattle.tile.specs.RefusalLaws.{refused-given}
+use Rattle.tile.specs.Refusal.{Answer, refused, given, mapAnswer, bindAnswer, refusalOf, valueOr}
+use Rattle.tile.specs.RefusalLaws.{refused-given, given-inj}
 use Rattle.tile.specs.Path.{Path, equalCounts}
 use Rattle.tile.specs.Stored.{soundAt, pathsIn, readTiles, readEqualTiles}
-use Rattle.cells.specs.Arrays.{allBelow}
-use Rattle.cells.specs.ArrayLaws.{getD-listOf}
+use Rattle.cells.specs.Arrays.{listOf, allBelow}
+use Rattle.cells.specs.ArrayLaws.{length-listOf, getD-listOf}
+use Rattle.cells.specs.ListLaws.{length-wordsFor}
+use Rattle.graph.specs.GraphLaws.{length-numbersFor, length-edgesFor, edgesIn-edgesFor}
 use Rattle.board.specs.declared.RectangularBoard.{RectangularBoard}
 use Rattle.board.specs.Board.{Board, boardOf, marks, valid, readBoard}
-use Rattle.covers.specs.Counts.{atNode, fullFrom, fullNode, layerCount, layerOf}
+use Rattle.covers.specs.Counts.{Entry, SumRule, atNode, boards, counts, fullFrom, fullNode, layerCount, layerOf}
 use Rattle.covers.specs.CountLaws.{fullNode-some}
-use Rattle.graph.specs.Graph.{numbersFor}
+use Rattle.graph.specs.Graph.{numbersFor, edgesIn}
+use Rattle.tiler.specs.declared.MadeGraph.{MadeGraph}
 use Rattle.tiler.specs.Boards.{setting, settingOf, startOf}
-use Rattle.tiler.specs.Counting.{countLimit, tooLarge, readPlot, weighTo, layersAnswer, Graph, graphOf, weighGraph, nodeRoom, edgeRoom, generateGraph, countFromGraph}
+use Rattle.tiler.specs.Counting.{countLimit, tooLarge, readPlot, weighTo, layersAnswer, Graph, graphOf, roomOf, weighGraph, nodeRoom, edgeRoom, generateGraph, Makes, SoundGraph, countFromGraph}
 use Rattle.tiler.specs.Inner.{Accepted}
 use Rattle.tiler.specs.AcceptedLaws.{read-accepted}
-
-given-is : {A : Type 0} (x y : A) → given x ≡ given y → x ≡ y
-given-is x y e = cc
 
 -- an answer that is given comes from board and tiles that are not refused
 pub from-read : {A : Type 0} (b : RectangularBoard) (ts : Tiles) (f : Board × List Path → Answer A) (x : A) → bindAnswer (readPlot b ts) f ≡ given x
@@ -52,7 +52,7 @@ weighed-graph room space g k e = go (leb (length (g .nodes)) room) refl (leb (le
     go false p t q u r h = absurd (refused-given 8 k h)
     go true p false q u r h = absurd (refused-given 10 k h)
     go true p true q true r h = absurd (refused-given 9 k h)
-    go true p true q false r h = (given-is g k h, leb-true _ _ p, leb-true _ _ q, r)
+    go true p true q false r h = (given-inj g k h, leb-true _ _ p, leb-true _ _ q, r)
 
 -- the layer count that is given is the definition's
 pub counted-layers : (b : RectangularBoard) (ts : Tiles) (room n : ℕ) → layersAnswer (settingOf b ts) (startOf b) room ≡ given n → layerCount (settingOf b ts) (startOf b) ≡ n
@@ -61,7 +61,7 @@ counted-layers b ts room n e = go (weighTo (layerOf (settingOf b ts) (startOf b)
   where
     go : {A : Type 0} (a : Answer A) → mapAnswer (λ es. layerCount (settingOf b ts) (startOf b)) a ≡ given n → layerCount (settingOf b ts) (startOf b) ≡ n
     go (refused k) h = absurd (refused-given k n h)
-    go (given es) h = given-is _ n h
+    go (given es) h = given-inj _ n h
 
 -- each of some counts that fit is below the limit
 pub small-counts : (ns : List ℕ) → tooLarge ns ≡ false → (v : ℕ) → getD ns v 0 < countLimit
@@ -134,3 +134,52 @@ pub read-numbers : (complete : Option ℕ) (ns : List ℕ) (n : ℕ) → ((v : �
 unfolding countFromGraph atNode numbersFor
 read-numbers none ns n h = refl
 read-numbers (some v) ns n h = getD-listOf (λ k. getD ns k 0) n v 0 (h v refl)
+
+-- ---- a graph in its words
+
+-- a node has a count beside it
+pub as-many : (es : List (Entry ℕ)) → length (counts es) ≡ length (boards es)
+as-many es = length-map es (λ (e : Entry ℕ). e .1) ∙ sym (length-map es (λ (e : Entry ℕ). e .0))
+
+getD-numbersFor : (ns : List ℕ) (n v : ℕ) → length ns ≤ n → getD (numbersFor ns n) v 0 ≡ getD ns v 0
+unfolding numbersFor
+getD-numbersFor ns n v h = go (decLt v n)
+  where
+    go : Dec (v < n) → getD (listOf (λ k. getD ns k 0) n) v 0 ≡ getD ns v 0
+    go (yes l) = getD-listOf (λ k. getD ns k 0) n v 0 l
+    go (no l) =
+        List·getD-eq-default (listOf (λ k. getD ns k 0) n) 0 {n = v} (omega (arith, length-listOf (λ k. getD ns k 0) n))
+        ∙ sym (List·getD-eq-default ns 0 {n = v} (omega arith))
+
+-- the rule of sums, read off the words
+read-sums : (g : Graph) (n c e : ℕ) (nodes′ counts′ edges′ : List ℕ) (r : MadeGraph) → Makes (given g) n c e nodes′ counts′ edges′ r
+    → (0 < length (g .nodes)) × (length (g .nodes) ≤ nodeRoom n c) × (length (g .edges) ≤ edgeRoom e) × (length (g .counts) ≡ length (g .nodes))
+    → SumRule (length (g .nodes)) (g .edges) (λ v. getD (g .counts) v 0) → SumRule (r .graph .nodes) (edgesIn edges′ (r .graph .edges)) (λ v. getD counts′ v 0)
+unfolding valueOr nodeRoom edgeRoom roomOf
+read-sums g n c e nodes′ counts′ edges′ r k h sums =
+    let es : g .edges ≡ edgesIn edges′ (r .graph .edges) =
+    sym (ap₂ edgesIn (k .edges) (k .edgeNumber) ∙ edgesIn-edgesFor (g .edges) e (omega (arith, h .2))) in
+    let cs : _≡_ {A = ℕ → ℕ} (λ v. getD (g .counts) v 0) (λ v. getD counts′ v 0) =
+    fun-ext (λ v. sym (ap (λ (ws : List ℕ). getD ws v 0) (k .counts) ∙ getD-numbersFor (g .counts) c v (omega (arith, h .1, h .3)))) in
+    subst (λ (count : ℕ → ℕ). SumRule (r .graph .nodes) (edgesIn edges′ (r .graph .edges)) count) cs
+    (subst (λ (ds : List (ℕ × ℕ)). SumRule (r .graph .nodes) ds (λ v. getD (g .counts) v 0)) es
+    (subst (λ (x : ℕ). SumRule x (g .edges) (λ v. getD (g .counts) v 0)) (sym (k .nodeNumber)) sums))
+
+-- the words that a sound graph leaves are sound
+pub sound-words : (g : Graph) (n c e : ℕ) (nodes′ counts′ edges′ : List ℕ) (r : MadeGraph) → Makes (given g) n c e nodes′ counts′ edges′ r
+    → (0 < length (g .nodes)) × (length (g .nodes) ≤ nodeRoom n c) × (length (g .edges) ≤ edgeRoom e) × (length (g .counts) ≡ length (g .nodes))
+    → ((v : ℕ) → g .complete ≡ some v → v < length (g .nodes)) → SumRule (length (g .nodes)) (g .edges) (λ v. getD (g .counts) v 0)
+    → SoundGraph (r .graph) nodes′ counts′ edges′
+unfolding valueOr
+sound-words g n c e nodes′ counts′ edges′ r k h below sums =
+    let longNodes : length nodes′ ≡ n = ap length (k .nodes) ∙ length-wordsFor (g .nodes) n in
+    let longCounts : length counts′ ≡ c = ap length (k .counts) ∙ length-numbersFor (g .counts) c in
+    let longEdges : length edges′ ≡ e = ap length (k .edges) ∙ length-edgesFor (g .edges) e in
+    record {
+      someNodes = subst (λ (x : ℕ). 0 < x) (sym (k .nodeNumber)) (h .0);
+      nodesLent = subst (λ (x : ℕ). x ≤ nodeRoom (length nodes′) (length counts′)) (sym (k .nodeNumber)) (subst (λ (x : ℕ). length (g .nodes) ≤ nodeRoom x (length counts′)) (sym longNodes)
+          (subst (λ (x : ℕ). length (g .nodes) ≤ nodeRoom n x) (sym longCounts) (h .1)));
+      edgesLent = subst (λ (x : ℕ). x ≤ edgeRoom (length edges′)) (sym (k .edgeNumber)) (subst (λ (x : ℕ). length (g .edges) ≤ edgeRoom x) (sym longEdges) (h .2));
+      fullBelow = λ v q. subst (λ (x : ℕ). v < x) (sym (k .nodeNumber)) (below v (sym (k .complete) ∙ q));
+      sums = read-sums g n c e nodes′ counts′ edges′ r k h sums;
+    }

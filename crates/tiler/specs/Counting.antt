@@ -5,7 +5,7 @@ use mathlib.Core.Path.{_≡_}
 use mathlib.Core.Bool.{Bool, cond}
 use mathlib.Core.List.{List, []}
 use mathlib.Core.Option.{Option, none, some}
-use Prim.Native.Nat.{ℕ, zero, suc, _/_, _^_, min}
+use Prim.Native.Nat.{ℕ, zero, suc, _/_, _^_, _≤_, _<_, min}
 use lib.Dec.{leb}
 use lib.ListN.{length, getD, replicate}
 use Rattle.cells.specs.Firsts.{any}
@@ -17,12 +17,13 @@ use Rattle.tile.specs.Stored.{readEqualTiles}
 use Rattle.board.specs.declared.RectangularBoard.{RectangularBoard}
 use Rattle.board.specs.Board.{Board, marks, readBoard}
 use Rattle.covers.specs.Cuttings.{Setting}
-use Rattle.covers.specs.Counts.{Entry, counts, layer, layers, edgesOf, fullNode, atNode, layerOf, entriesOf, nodesOf, graphEdges, layerCount}
-use Rattle.graph.specs.Graph.{numbersFor, edgesFor}
+use Rattle.covers.specs.Counts.{Entry, SumRule, counts, layer, layers, edgesOf, fullNode, atNode, layerOf, entriesOf, nodesOf, graphEdges, layerCount}
+use Rattle.graph.specs.Graph.{numbersFor, edgesFor, edgesIn}
 use Rattle.tiler.specs.declared.Count.{Count}
 use Rattle.tiler.specs.declared.Count.the-variants as C
 use Rattle.tiler.specs.declared.Complete.{Complete}
 use Rattle.tiler.specs.declared.Complete.the-variants as N
+use Rattle.tiler.specs.declared.Graph.{Graph as Result}
 use Rattle.tiler.specs.declared.MadeGraph.{MadeGraph}
 use Rattle.tiler.specs.Boards.{setting}
 
@@ -37,8 +38,11 @@ unfolding any
 tooLarge ns = any (λ n. leb countLimit n) ns
 
 -- "a room for boards, nodes or edges above 16,777,216 counts as that"
+abbrev pub roomLimit : ℕ
+roomLimit = 16777216
+
 unfoldable pub roomOf : ℕ → ℕ
-roomOf n = min n 16777216
+roomOf n = min n roomLimit
 
 -- ---- what is counted
 
@@ -70,6 +74,7 @@ unfoldable pub layersAnswer : {P : Type 0} → Setting ℕ P → ℕ → ℕ →
 unfolding weighTo layer layerCount mapAnswer
 layersAnswer G s room = mapAnswer (λ es. layerCount G s) (weighTo (layerOf G s) room (G .freeCount s))
 
+-- for a room of so many boards
 unfoldable pub countTilings : RectangularBoard → Tiles → ℕ → Answer ℕ
 unfolding readPlot bindAnswer layersAnswer setting marks
 countTilings b ts room = bindAnswer (readPlot b ts) (λ p. layersAnswer (setting (p .0) (p .1)) (marks (p .0)) room)
@@ -99,6 +104,7 @@ pub record Graph : Type 0 where
 abbrev pub noGraph : Graph
 noGraph = record { nodes = []; counts = []; edges = []; complete = none }
 
+-- the graph of a start
 unfoldable pub graphOf : {P : Type 0} → Setting ℕ P → ℕ → Graph
 unfolding layers edgesOf fullNode
 graphOf G s = record { nodes = nodesOf G s; counts = counts (entriesOf G s); edges = graphEdges G s; complete = fullNode (G .full) (nodesOf G s) }
@@ -110,6 +116,7 @@ unfolding tooLarge
 weighGraph nodeRoom edgeRoom g =
     cond (leb (length (g .nodes)) nodeRoom) (cond (leb (length (g .edges)) edgeRoom) (cond (tooLarge (g .counts)) (refused 9) (given g)) (refused 10)) (refused 8)
 
+-- how many nodes the node words and the count words hold, and how many edges the edge words hold
 unfoldable pub nodeRoom : ℕ → ℕ → ℕ
 unfolding roomOf
 nodeRoom nodeWords countWords = roomOf (min (nodeWords / 4) countWords)
@@ -148,3 +155,15 @@ GeneratesGraph b ts nodes counts edges nodes′ counts′ edges′ r =
 unfoldable pub countFromGraph : Option ℕ → List ℕ → ℕ
 unfolding atNode
 countFromGraph complete counts = atNode (λ v. getD counts v 0) complete
+
+-- ---- graph words that are handed in
+
+-- what refusal 11 asks of a result and graph words, none of its causes standing: "the result has no nodes, its nodes or edges pass the lent words, its
+-- full node is not below the nodes, an edge's parent is not below its child, a child is not below the nodes, node 0's count is not 1, or another's is
+-- not the exact sum of its parents' counts over the edges into it" (the last four are `SumRule`)
+pub record SoundGraph (r : Result) (nodes counts edges : List ℕ) : Type 0 where
+  pub someNodes : 0 < r .nodes
+  pub nodesLent : r .nodes ≤ nodeRoom (length nodes) (length counts)
+  pub edgesLent : r .edges ≤ edgeRoom (length edges)
+  pub fullBelow : (v : ℕ) → completeNode (r .complete) ≡ some v → v < r .nodes
+  pub sums : SumRule (r .nodes) (edgesIn edges (r .edges)) (λ v. getD counts v 0)

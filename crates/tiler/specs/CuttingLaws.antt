@@ -1,5 +1,5 @@
--- The cuttings of the start in the words of `board`; the piece of a step in 01's words; and sound pruning under demand 3's condition on tiles.
--- Rests on `SettingLaws`. Assumes nothing.
+-- Laws for the theorem of demand 3, which comes with the tiling by number: the cuttings of the start in the words of `board`; the piece of a step in
+-- 01's words; and sound pruning under demand 3's condition on tiles. Rests on `SettingLaws`. Assumes nothing.
 use mathlib.Core.Path.{_≡_, refl, sym, ap, _∙_, subst}
 use mathlib.Core.Logic.{_⊎_, inl, inr, _↔_}
 use mathlib.Core.Bool.{Bool, true, false, So, cond, _&&_, false≢true, and-eq-true-iff}

@@ -1,14 +1,25 @@
 -- Examples: small plots by the definitions. Assumes nothing.
-use mathlib.Core.Path.{_≡_, refl}
-use mathlib.Core.List.{List, [], _∷_}
+use mathlib.Core.Path.{_≡_, refl, sym, subst}
+use mathlib.Core.Logic.{⊎-elim}
+use mathlib.Core.Bool.{false, So}
+use mathlib.Core.List.{List, [], _∷_, List·Memᴰ·cases-cons as cases-cons, List·Memᴰ·not-nil as not-nil}
 use mathlib.Core.Option.{none, some}
-use Prim.Native.Nat.{ℕ, _^_}
-use Rattle.tile.specs.Refusal.{Answer, refused, given}
+use Prim.Native.Nat.{ℕ, zero, suc, _-_, _^_, _≤_}
+use lib.Dec.{lit≤}
+use lib.ListN.{length}
+use Rattle.cells.specs.declared.Cells.{Cells}
+use Rattle.cells.specs.Words.{number}
+use Rattle.tile.specs.Refusal.{Answer, refused, given, mapAnswer, bindAnswer}
 use Rattle.tile.specs.Direction.{step, rotate, reflect}
-use Rattle.tile.specs.Path.{Path, orbit}
-use Rattle.board.specs.Board.{Board, marks}
+use Rattle.tile.specs.Path.{Path, codesOk, equalCounts, orbit}
+use Rattle.tile.specs.Stored.{Storable, tilesOf}
+use Rattle.tile.specs.StoredLaws.{readTiles-tilesOf}
+use Rattle.tile.specs.EqualLaws.{readEqualTiles-unequal}
+use Rattle.board.specs.declared.RectangularBoard.{RectangularBoard}
+use Rattle.board.specs.Board.{Board, boardOf, marks, readBoard}
+use Rattle.covers.specs.Counts.{Entry}
 use Rattle.tiler.specs.Boards.{setting}
-use Rattle.tiler.specs.Counting.{layerRoom, layersAnswer, Graph, graphOf, weighGraph, nodeRoom, edgeRoom}
+use Rattle.tiler.specs.Counting.{readPlot, layerRoom, weigh, weighTo, layersAnswer, countTilings, Graph, graphOf, weighGraph, nodeRoom, edgeRoom}
 
 -- a board by its size, its fixed and its laid marks
 abbrev board : ℕ → ℕ → ℕ → ℕ → Board
@@ -90,6 +101,67 @@ fixed-mark = refl
 no-tiles : layersOf (board 2 2 0 0) [] 1 ≡ given 0
 unfolding layersOf
 no-tiles = refl
+
+-- ---- limits: 8 before 9 in a layer, the earliest layer decides, 10 before 9 over the graph
+
+largest-count : weigh 1 ((0, 2 ^ 64 - 1) ∷ []) ≡ given ((0, 2 ^ 64 - 1) ∷ [])
+unfolding weigh
+largest-count = refl
+
+count-too-large : weigh 1 ((0, 2 ^ 64) ∷ []) ≡ refused 9
+unfolding weigh
+count-too-large = refl
+
+no-room-first : weigh 0 ((0, 2 ^ 64) ∷ []) ≡ refused 8
+unfolding weigh
+no-room-first = refl
+
+-- layer 0 has a count too large, layer 1 no room
+unfoldable twoLayers : ℕ → List (Entry ℕ)
+twoLayers zero = (0, 2 ^ 64) ∷ []
+twoLayers (suc n) = (1, 1) ∷ (2, 1) ∷ []
+
+earliest-layer : weighTo twoLayers 1 1 ≡ refused 9
+unfolding weighTo twoLayers
+earliest-layer = refl
+
+edges-before-counts : weighGraph 2 0 (record { nodes = 0 ∷ 1 ∷ []; counts = 1 ∷ 2 ^ 64 ∷ []; edges = (0, 1) ∷ []; complete = none }) ≡ refused 10
+unfolding weighGraph
+edges-before-counts = refl
+
+-- ---- refusals of the input come first, in the order 4, 6, 5, 7: here with no room at all
+
+abbrev set : ℕ → Cells
+set n = record { w0 = n; w1 = 0; w2 = 0; w3 = 0 }
+
+abbrev rectangle : ℕ → ℕ → RectangularBoard
+rectangle w h = record { width = w; height = h; fixed = set 0; laid = set 0 }
+
+-- Right, and Right Right
+abbrev unequal : List Path
+unequal = (3 ∷ []) ∷ (3 ∷ 3 ∷ []) ∷ []
+
+wrong-board : countTilings (rectangle 0 5) (tilesOf unequal) 0 ≡ refused 4
+unfolding countTilings
+wrong-board = refl
+
+stored : Storable unequal
+unfolding codesOk
+stored p m =
+    ⊎-elim (λ e. subst (λ (q : Path). (length q ≤ 32) × So (codesOk q)) (sym e) (lit≤ tt, refl))
+    (λ k. ⊎-elim (λ e. subst (λ (q : Path). (length q ≤ 32) × So (codesOk q)) (sym e) (lit≤ tt, refl)) (λ n. absurd (not-nil n)) (cases-cons k)) (cases-cons m)
+
+unequal-counts : equalCounts unequal ≡ false
+unfolding equalCounts step
+unequal-counts = refl
+
+two-by-two-read : readBoard (rectangle 2 2) ≡ given (boardOf (rectangle 2 2))
+unfolding readBoard number
+two-by-two-read = refl
+
+unequal-tiles : countTilings (rectangle 2 2) (tilesOf unequal) 0 ≡ refused 7
+unfolding countTilings readPlot bindAnswer mapAnswer
+unequal-tiles = rw (two-by-two-read, readEqualTiles-unequal (tilesOf unequal) unequal (readTiles-tilesOf unequal (lit≤ tt) stored) unequal-counts)
 
 -- ---- rooms: "the least of both layers' words ÷ 4 and of both layers' count words", and at most 16,777,216
 

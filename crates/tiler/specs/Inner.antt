@@ -1,5 +1,5 @@
--- Definitions that only contracts of private functions cite: what the lent words hold while a layer or a graph grows, and what is answered from a
--- layer on. Assumes nothing.
+-- Definitions for the contracts of private functions: what the lent words hold while a layer or a graph grows, and what is answered from a layer on.
+-- No contract of a function that can be called from outside cites one; law files do (`Accepted` and `stepOf` most of all). Assumes nothing.
 use mathlib.Core.Path.{_≡_}
 use mathlib.Core.Bool.{Bool, So, true, false, cond}
 use mathlib.Core.List.{List, [], _∷_, List·Memᴰ as Mem}
@@ -50,15 +50,15 @@ unfoldable pub entriesIn : List ℕ → List ℕ → ℕ → List (Entry ℕ)
 unfolding setAt listOf
 entriesIn bs cs n = listOf (λ i. (setAt bs i, getD cs i 0)) n
 
--- how many boards a layer has, and whether a count is too large; full where its boards pass the room
+-- how many boards a layer has, and whether a count is too large; no room where its boards pass it
 unfoldable pub layerState : ℕ → List (Entry ℕ) → Layer
 unfolding tooLarge
-layerState room es = cond (leb (length es) room) (L.Boards (length es) (tooLarge (counts es))) L.Full
+layerState room es = cond (leb (length es) room) (L.Boards (length es) (tooLarge (counts es))) L.NoRoom
 
 -- the boards that a state tells
 abbrev pub boardsIn : Layer → ℕ
 boardsIn (L.Boards n over) = n
-boardsIn L.Full = 0
+boardsIn L.NoRoom = 0
 
 -- the words and the state of a layer that has become es: its boards while they have room, its counts while none is too large
 pub record HoldsLayer (room : ℕ) (bs cs : List ℕ) (layer : Layer) (es : List (Entry ℕ)) : Type 0 where
@@ -91,13 +91,13 @@ pub record Ready (S : Setting ℕ ℕ) (left : ℕ) (es : List (Entry ℕ)) : Ty
 
 -- ---- a graph in lent words: its nodes and its edges
 
--- how many nodes there are, and how many edges, those past the room counting as one; full where the nodes pass the room
+-- how many nodes there are, and how many edges, those past the room counting as one; no room where the nodes pass it
 unfoldable pub growthOf : ℕ → ℕ → List ℕ × List (ℕ × ℕ) → Growth
-growthOf room edgeRoom g = cond (leb (length (g .0)) room) (G.Size (length (g .0)) (min (length (g .1)) (suc edgeRoom))) G.Full
+growthOf room edgeRoom g = cond (leb (length (g .0)) room) (G.Size (length (g .0)) (min (length (g .1)) (suc edgeRoom))) G.NoRoom
 
 abbrev pub nodesIn : Growth → ℕ
 nodesIn (G.Size n e) = n
-nodesIn G.Full = 0
+nodesIn G.NoRoom = 0
 
 -- the words and the number of some edges: the edges while they have room
 pub record HoldsEdges (room : ℕ) (ws : List ℕ) (n : ℕ) (es : List (ℕ × ℕ)) : Type 0 where

@@ -37,7 +37,7 @@ map-plus m k b (given n) e = let q : b + n ≡ m + (k + n) = omega arith in ap g
 -- ---- a layer by itself
 
 -- what is given is the layer
-pub weigh-given : (room : ℕ) (es ds : List (Entry ℕ)) → weigh room es ≡ given ds → es ≡ ds
+weigh-given : (room : ℕ) (es ds : List (Entry ℕ)) → weigh room es ≡ given ds → es ≡ ds
 unfolding weigh
 weigh-given room es ds e = go (leb (length es) room) (tooLarge (counts es)) e
   where
@@ -50,16 +50,16 @@ weigh-given room es ds e = go (leb (length es) room) (tooLarge (counts es)) e
     go true false e = ap value e
     go false b e = absurd (refused-given 8 ds e)
 
-pub weigh-none : (room : ℕ) → weigh room [] ≡ given []
+weigh-none : (room : ℕ) → weigh room [] ≡ given []
 unfolding weigh tooLarge any
 weigh-none room = rw (le-leb 0 room (omega arith))
 
 -- layer 0
-pub weigh-start : (room s : ℕ) → 0 < room → weigh room ((s, 1) ∷ []) ≡ given ((s, 1) ∷ [])
+weigh-start : (room s : ℕ) → 0 < room → weigh room ((s, 1) ∷ []) ≡ given ((s, 1) ∷ [])
 unfolding weigh tooLarge any
 weigh-start room s h = rw (le-leb 1 room (omega arith))
 
-pub weigh-no-room : (s : ℕ) → weigh 0 ((s, 1) ∷ []) ≡ refused 8
+weigh-no-room : (s : ℕ) → weigh 0 ((s, 1) ∷ []) ≡ refused 8
 unfolding weigh
 weigh-no-room s = refl
 
@@ -71,7 +71,7 @@ module _ (S : Setting ℕ ℕ) where
   next-of-none = refl
 
   -- no board, no count
-  pub count-none : (room k : ℕ) → countFrom S room k [] ≡ given 0
+  count-none : (room k : ℕ) → countFrom S room k [] ≡ given 0
   unfolding countFrom fullCount sumOf mapAnswer bindAnswer
   count-none room zero = refl
   count-none room (suc k) =
@@ -112,7 +112,7 @@ module _ (S : Setting ℕ ℕ) where
         free = λ t m. omega (arith, next-free t m);
       }
 
-      pub next-none : left < a → nextOf S es ≡ []
+      next-none : left < a → nextOf S es ≡ []
       next-none h = no-member (nextOf S es) (λ e m. let f = next-free (e .0) (mem-boards (nextOf S es) e m) in omega arith)
 
     -- ---- full boards: those with no free cell
@@ -125,7 +125,7 @@ module _ (S : Setting ℕ ℕ) where
       full-some n h = fullIs n ∙ ne-eqb (S .freeCount n) 0 (λ e. omega arith)
 
       -- a last layer has one board at most
-      pub last-full : (es : List (Entry ℕ)) → Ready S 0 es → fullCount (S .full) es ≡ getD (counts es) 0 0
+      last-full : (es : List (Entry ℕ)) → Ready S 0 es → fullCount (S .full) es ≡ getD (counts es) 0 0
       unfolding fullCount sumOf
       last-full [] R = refl
       last-full (e ∷ []) R = omega (arith, ap (λ (b : Bool). cond b (e .1) 0) (full-none (e .0) (R .free (e .0) (here refl))))
@@ -136,7 +136,7 @@ module _ (S : Setting ℕ ℕ) where
           (L .full-one (e .0) (d .0) (R .ok (e .0) (here refl)) (R .ok (d .0) (there (here refl)))
           (full-none (e .0) (R .free (e .0) (here refl))) (full-none (d .0) (R .free (d .0) (there (here refl)))))))
 
-      pub not-full : (left : ℕ) (es : List (Entry ℕ)) → Ready S left es → 0 < left → fullCount (S .full) es ≡ 0
+      not-full : (left : ℕ) (es : List (Entry ℕ)) → Ready S left es → 0 < left → fullCount (S .full) es ≡ 0
       unfolding fullCount
       not-full left es R h = sum-zero (λ e. cond (S .full (e .0)) (e .1) 0) es
           (λ e m.

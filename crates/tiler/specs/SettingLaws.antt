@@ -3,7 +3,7 @@
 use mathlib.Core.Path.{_≡_, refl, sym, ap, _∙_, subst}
 use mathlib.Core.Logic.{_↔_}
 use mathlib.Core.Bool.{Bool, true, false, So, cond, false≢true}
-use mathlib.Core.List.{List, [], _∷_, map, List·Memᴰ as Mem, List·Memᴰ·head as here, List·Memᴰ·not-nil as not-nil}
+use mathlib.Core.List.{List, [], map, List·Memᴰ as Mem, List·Memᴰ·not-nil as not-nil}
 use mathlib.Core.Option.{Option, none, some}
 use Prim.Native.Nat.{ℕ, _+_, _-_, _^_, _≤_, _<_}
 use native.Mathlib.Nat.{lt-of-le-of-lt}
@@ -14,7 +14,7 @@ use Rattle.cells.specs.BitLaws.{bit-ext, bit-high, bit-add}
 use Rattle.cells.specs.SetLaws.{within-le, bit-unionOf, unionOf-lt, unionOf-disjoint, bit-sub}
 use Rattle.cells.specs.Firsts.{Once}
 use Rattle.cells.specs.MemberLaws.{eqb-tells}
-use Rattle.tile.specs.Path.{Path, cellCount, EqualCounts}
+use Rattle.tile.specs.Path.{Path, cellCount}
 use Rattle.board.specs.Board.{Board, boardAt, marks, isFree, freeCount, isFull, valid}
 use Rattle.board.specs.Children.{IsPiece, chosen, pieces, lay, pruned, childrenOn, children}
 use Rattle.board.specs.BoardLaws.{marks-lt, none-full, full-none, valid-width, valid-height, valid-disjoint}
@@ -163,13 +163,6 @@ module _ (b : Board) (paths : List Path) (good : So (valid b)) where
       let x = fits-piece n p ok .0 f in
       let t = f .tile in
       ap (λ (k : ℕ). freeCount (boardAt b (marks (lay (boardAt b n) p))) + k) (sym (piece-size b good paths p t ∙ same (t .0) (t .1))) ∙ counted n p ok x
-
-  pub equal-steps : EqualCounts paths → (a : ℕ) × EqualSteps (setting b paths) a
-  equal-steps same = go paths refl
-    where
-      go : (ps : List Path) → paths ≡ ps → (a : ℕ) × EqualSteps (setting b paths) a
-      go [] e = (1, setting-steps 1 (λ path m. absurd (not-nil (subst (Mem path) e m))))
-      go (p ∷ ps) e = (cellCount p, setting-steps (cellCount p) (λ path m. same path p m (subst (Mem p) (sym e) (here refl))))
 
   -- ---- the start
 

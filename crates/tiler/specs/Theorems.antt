@@ -7,7 +7,7 @@ use mathlib.Core.Logic.{_↔_}
 use mathlib.Core.Bool.{false, So}
 use mathlib.Core.List.{List, _∷_, flatMap, List·Memᴰ as Mem}
 use mathlib.Core.Option.{none, some}
-use Prim.Native.Nat.{ℕ, _/_, _≤_, _<_}
+use Prim.Native.Nat.{ℕ, _≤_, _<_}
 use native.Mathlib.Omega.{arith}
 use lib.Dec.{eqb}
 use lib.ListN.{length, getD}
@@ -15,23 +15,22 @@ use Rattle.cells.specs.Firsts.{firsts}
 use Rattle.cells.specs.Words.{Sound}
 use Rattle.cells.specs.WordLaws.{number-lt}
 use Rattle.tile.specs.declared.Tiles.{Tiles}
-use Rattle.tile.specs.Refusal.{given, valueOr, verdictNumber}
+use Rattle.tile.specs.Refusal.{Answer, given, valueOr, verdictNumber}
 use Rattle.tile.specs.Stored.{pathsIn}
 use Rattle.board.specs.declared.RectangularBoard.{RectangularBoard}
 use Rattle.board.specs.Board.{boardOf, boardAt, isFull}
 use Rattle.board.specs.Children.{children}
 use Rattle.covers.specs.Cuttings.{Exactly, childBoards, Laws, EqualSteps}
-use Rattle.covers.specs.Counts.{ChildSequence, SumRule, counts, entriesOf, graphCount, nodesOf, pathCountOf}
-use Rattle.covers.specs.Theorems.{nodes-are-reached, nodes-by-first-finding, graph-sum-rule, graph-tilings, full-counts-none, counts-are-equal, none-reached-counts-none, count-is-child-sequences}
+use Rattle.covers.specs.Counts.{ChildSequence, SumRule, counts, entriesOf, graphCount, graphEdges, nodesOf, pathCountOf}
+use Rattle.covers.specs.Theorems.{nodes-are-reached, nodes-by-first-finding, graph-sum-rule, graph-edges-are-children, graph-tilings, full-counts-none, counts-are-equal, none-reached-counts-none, count-is-child-sequences}
 use Rattle.covers.specs.SettingLaws.{some-node}
-use Rattle.graph.specs.Graph.{numbersFor}
 use Rattle.tiler.specs.declared.MadeGraph.{MadeGraph}
 use Rattle.tiler.specs.Boards.{setting, settingOf, startOf}
-use Rattle.tiler.specs.Counting.{countLimit, tooLarge, roomOf, layersAnswer, countTilings, Graph, noGraph, graphOf, weighGraph, nodeRoom, edgeRoom, generateGraph, completeNode, GeneratesGraph, countFromGraph}
+use Rattle.tiler.specs.Counting.{countLimit, tooLarge, roomOf, layersAnswer, countTilings, Graph, graphOf, weighGraph, nodeRoom, edgeRoom, generateGraph, completeNode, Makes, SoundGraph, GeneratesGraph, countFromGraph}
 use Rattle.tiler.specs.Inner.{Accepted, stepOf}
 use Rattle.tiler.specs.SettingLaws.{children-are}
 use Rattle.tiler.specs.AcceptedLaws.{accepted-laws, accepted-steps, accepted-start, accepted-at}
-use Rattle.tiler.specs.AnswerLaws.{from-read, weighed-graph, counted-layers, small-counts, node-behind, given-graph, read-numbers}
+use Rattle.tiler.specs.AnswerLaws.{from-read, weighed-graph, counted-layers, small-counts, node-behind, given-graph, read-numbers, as-many, sound-words}
 
 -- the children of the board of a number: those of `place_tile`
 abbrev pub childrenAt : RectangularBoard → Tiles → ℕ → List ℕ
@@ -84,7 +83,19 @@ module _ (b : RectangularBoard) (fixed : Sound (b .fixed)) (laid : Sound (b .lai
         (subst (λ (ns : List ℕ). ns ≡ firsts eqb (startOf b ∷ flatMap (childBoards (settingOf b ts)) ns)) (sym nodes-is)
         (nodes-by-first-finding (settingOf b ts) laws (startOf b) ok (stepOf (pathsIn ts)) steps))
 
-    -- "A board's path count is the number of child sequences that reach it", and beside each node stands its path count, below 2^64.
+    -- "Edges are (parent, child)": there is one from a node to each child of its board, and no other.
+    pub edges-are-children : (p c : ℕ) → Mem (p, c) (g .edges)
+        ↔ ((p < length (g .nodes)) × (c < length (g .nodes)) × Mem (getD (g .nodes) c (startOf b)) (childrenAt b ts (getD (g .nodes) p (startOf b))))
+    unfolding graphOf
+    edges-are-children p c =
+        subst (λ (k : Graph). Mem (p, c) (k .edges)
+        ↔ ((p < length (k .nodes)) × (c < length (k .nodes)) × Mem (getD (k .nodes) c (startOf b)) (childrenAt b ts (getD (k .nodes) p (startOf b))))) (is .0)
+        (subst (λ (ch : ℕ → List ℕ). Mem (p, c) (graphEdges (settingOf b ts) (startOf b))
+        ↔ ((p < length (nodesOf (settingOf b ts) (startOf b))) × (c < length (nodesOf (settingOf b ts) (startOf b)))
+        × Mem (getD (nodesOf (settingOf b ts) (startOf b)) c (startOf b)) (ch (getD (nodesOf (settingOf b ts) (startOf b)) p (startOf b))))) (same-children b ts)
+        (graph-edges-are-children (settingOf b ts) laws (startOf b) ok (stepOf (pathsIn ts)) steps p c))
+
+    -- "Beside each node stands its path count", and "A board's path count is the number of child sequences that reach it".
     pub path-count-is-number-of-sequences : (v : ℕ) → v < length (g .nodes) → Exactly (getD (g .counts) v 0) (Reaches (getD (g .nodes) v (startOf b)))
     unfolding graphOf
     path-count-is-number-of-sequences v h =
@@ -92,30 +103,50 @@ module _ (b : RectangularBoard) (fixed : Sound (b .fixed)) (laid : Sound (b .lai
         (subst (λ (ch : ℕ → List ℕ). Exactly (pathCountOf (settingOf b ts) (startOf b) v) (ChildSequence ch (startOf b) (getD (nodesOf (settingOf b ts) (startOf b)) v (startOf b)))) (same-children b ts)
         (_, graph-tilings (settingOf b ts) laws (startOf b) ok (stepOf (pathsIn ts)) steps v (subst (λ (ns : List ℕ). v < length ns) nodes-is h)))
 
+    -- Each path count is below 2^64.
     pub path-counts-fit : (v : ℕ) → getD (g .counts) v 0 < countLimit
     unfolding graphOf
     path-counts-fit v = subst (λ (k : Graph). getD (k .counts) v 0 < countLimit) (is .0) (small-counts (counts (entriesOf (settingOf b ts) (startOf b))) (is .3) v)
 
-    -- Our own graph meets every condition of refusal 11: it has nodes; its nodes and edges don't pass the lent words; its full node is below the
-    -- nodes, and is never node 0; parents stand before children and children below the nodes; node 0's count is 1, and another's is "the exact sum of
-    -- its parents' counts over the edges into it".
-    pub own-graph-is-sound : (0 < length (g .nodes)) × (length (g .nodes) ≤ nodeWords / 4) × (length (g .nodes) ≤ countWords) × (length (g .edges) ≤ edgeWords / 2)
-        × ((v : ℕ) → g .complete ≡ some v → (0 < v) × (v < length (g .nodes)) × So (isFull (boardAt (boardOf b) (getD (g .nodes) v (startOf b)))))
-        × SumRule (length (g .nodes)) (g .edges) (λ v. getD (g .counts) v 0)
-    unfolding graphOf nodeRoom edgeRoom roomOf setting
-    own-graph-is-sound =
-        subst (λ (k : Graph). (0 < length (k .nodes)) × (length (k .nodes) ≤ nodeWords / 4) × (length (k .nodes) ≤ countWords) × (length (k .edges) ≤ edgeWords / 2)
-        × ((v : ℕ) → k .complete ≡ some v → (0 < v) × (v < length (k .nodes)) × So (isFull (boardAt (boardOf b) (getD (k .nodes) v (startOf b)))))
-        × SumRule (length (k .nodes)) (k .edges) (λ v. getD (k .counts) v 0)) (is .0) (
-          some-node (settingOf b ts) laws (startOf b) ok,
-          omega (arith, is .1),
-          omega (arith, is .1),
-          omega (arith, is .2),
-          λ v e. node-behind (λ n. isFull (boardAt (boardOf b) n)) (nodesOf (settingOf b ts) (startOf b)) v (startOf b) e,
-          graph-sum-rule (settingOf b ts) laws (startOf b) ok (stepOf (pathsIn ts)) steps,
-        )
+    -- The full node is a node behind node 0, and full.
+    pub full-node-is-full : (v : ℕ) → g .complete ≡ some v → (0 < v) × (v < length (g .nodes)) × So (isFull (boardAt (boardOf b) (getD (g .nodes) v (startOf b))))
+    unfolding graphOf setting
+    full-node-is-full v e =
+        subst (λ (k : Graph). (0 < v) × (v < length (k .nodes)) × So (isFull (boardAt (boardOf b) (getD (k .nodes) v (startOf b))))) (is .0)
+        (node-behind (λ n. isFull (boardAt (boardOf b) n)) (nodesOf (settingOf b ts) (startOf b)) v (startOf b) (ap (λ (k : Graph). k .complete) (is .0) ∙ e))
 
-  -- ---- 2. The layer count that is given
+    -- the rule of sums, and the rooms
+    sums-hold : SumRule (length (g .nodes)) (g .edges) (λ v. getD (g .counts) v 0)
+    unfolding graphOf
+    sums-hold = subst (λ (k : Graph). SumRule (length (k .nodes)) (k .edges) (λ v. getD (k .counts) v 0)) (is .0)
+        (graph-sum-rule (settingOf b ts) laws (startOf b) ok (stepOf (pathsIn ts)) steps)
+
+    rooms-hold : (0 < length (g .nodes)) × (length (g .nodes) ≤ nodeRoom nodeWords countWords) × (length (g .edges) ≤ edgeRoom edgeWords)
+        × (length (g .counts) ≡ length (g .nodes))
+    unfolding graphOf
+    rooms-hold =
+        subst (λ (k : Graph). (0 < length (k .nodes)) × (length (k .nodes) ≤ nodeRoom nodeWords countWords) × (length (k .edges) ≤ edgeRoom edgeWords)
+        × (length (k .counts) ≡ length (k .nodes))) (is .0)
+        (some-node (settingOf b ts) laws (startOf b) ok, is .1, is .2, as-many (entriesOf (settingOf b ts) (startOf b)))
+
+  -- ---- 2. The words and the result that `generate_graph` leaves, where it does not refuse
+
+  module _ (nodes counts edges nodes′ counts′ edges′ : List ℕ) (r : MadeGraph) (made : GeneratesGraph b ts nodes counts edges nodes′ counts′ edges′ r) where
+    stored-graph : (g : Graph) → generateGraph b ts (length nodes) (length counts) (length edges) ≡ given g
+        → Makes (given g) (length nodes) (length counts) (length edges) nodes′ counts′ edges′ r
+    stored-graph g e = subst (λ (a : Answer Graph). Makes a (length nodes) (length counts) (length edges) nodes′ counts′ edges′ r) e made
+
+    -- Our own graph meets every condition of refusal 11.
+    pub own-graph-is-sound : verdictNumber (r .verdict) ≡ 0 → SoundGraph (r .graph) nodes′ counts′ edges′
+    own-graph-is-sound fine =
+        let a = given-graph b ts (length nodes) (length counts) (length edges) (sym (made .verdict) ∙ fine) in
+        let k = stored-graph (a .0) (a .1) in
+        let h = rooms-hold (length nodes) (length counts) (length edges) (a .0) (a .1) in
+        sound-words (a .0) (length nodes) (length counts) (length edges) nodes′ counts′ edges′ r k h
+        (λ v e. full-node-is-full (length nodes) (length counts) (length edges) (a .0) (a .1) v e .1)
+        (sums-hold (length nodes) (length counts) (length edges) (a .0) (a .1))
+
+  -- ---- 3. The layer count that is given
 
   module _ (room n : ℕ) (told : countTilings b ts room ≡ given n) where
     plot : Accepted b ts × (layersAnswer (settingOf b ts) (startOf b) room ≡ given n)
@@ -154,7 +185,7 @@ module _ (b : RectangularBoard) (fixed : Sound (b .fixed)) (laid : Sound (b .lai
         ∙ full-counts-none (settingOf b ts) (accepted-laws b ts (plot .0)) (startOf b) (accepted-start b ts (plot .0) (number-lt (b .fixed) fixed) (number-lt (b .laid) laid))
         (ap isFull (accepted-at b ts (plot .0) (number-lt (b .fixed) fixed) (number-lt (b .laid) laid)) ∙ full) .0
 
-    -- ---- 3. Both counts
+    -- ---- 4. Both counts
 
     -- Both counts agree where neither is refused: over the definitions,
     pub counts-agree : (nodeWords countWords edgeWords : ℕ) (g : Graph) → generateGraph b ts nodeWords countWords edgeWords ≡ given g
@@ -168,12 +199,12 @@ module _ (b : RectangularBoard) (fixed : Sound (b .fixed)) (laid : Sound (b .lai
     -- and over the result and the count words that `generate_graph` leaves, as `count_tilings_from_graph` reads them.
     pub calls-agree : (nodes counts edges nodes′ counts′ edges′ : List ℕ) (r : MadeGraph) → GeneratesGraph b ts nodes counts edges nodes′ counts′ edges′ r
         → verdictNumber (r .verdict) ≡ 0 → countFromGraph (completeNode (r .graph .complete)) counts′ ≡ n
-    unfolding valueOr
+    unfolding valueOr nodeRoom roomOf
     calls-agree nodes counts edges nodes′ counts′ edges′ r made fine =
         let a = given-graph b ts (length nodes) (length counts) (length edges) (sym (made .verdict) ∙ fine) in
-        let q : valueOr noGraph (generateGraph b ts (length nodes) (length counts) (length edges)) ≡ a .0 = ap (valueOr noGraph) (a .1) in
-        let sound = own-graph-is-sound (length nodes) (length counts) (length edges) (a .0) (a .1) in
-        ap₂ countFromGraph (made .complete ∙ ap (λ (g : Graph). g .complete) q)
-        (made .counts ∙ ap (λ (g : Graph). numbersFor (g .counts) (length counts)) q)
-        ∙ read-numbers (a .0 .complete) (a .0 .counts) (length counts) (λ v e. omega (arith, sound .2, sound .4 v e .1))
+        let k = stored-graph nodes counts edges nodes′ counts′ edges′ r made (a .0) (a .1) in
+        let h = rooms-hold (length nodes) (length counts) (length edges) (a .0) (a .1) in
+        ap₂ countFromGraph (k .complete) (k .counts)
+        ∙ read-numbers (a .0 .complete) (a .0 .counts) (length counts)
+        (λ v e. omega (arith, h .1, full-node-is-full (length nodes) (length counts) (length edges) (a .0) (a .1) v e .1))
         ∙ counts-agree (length nodes) (length counts) (length edges) (a .0) (a .1)

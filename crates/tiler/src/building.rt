@@ -1,5 +1,6 @@
 // The graph in lent words: nodes and edges found in order, then the path counts by one pass over the
-// edges. Private helpers; they ask that board and tiles have been tested, and that the rooms are lent.
+// edges. Private helpers; they ask that board and tiles have been tested, and that the rooms are lent:
+// `room` is the nodes' room, `space` the edges' room (`room` in `add_edge`, which has no other).
 use crate::Complete;
 use crate::Graph;
 use crate::MadeGraph;
@@ -13,7 +14,6 @@ use tile::Tiles;
 use tile::refusal::Refusal;
 use tile::refusal::Verdict;
 ghost use mathlib.Core.Path.{_≡_};
-ghost use mathlib.Core.Bool.{Bool, true, false};
 ghost use mathlib.Core.List.{List, [], _∷_, _++_};
 ghost use Prim.Native.Nat.{ℕ, _+_, _*_, _-_, _≤_, _<_};
 ghost use lib.Dec.{eqb};
@@ -31,16 +31,16 @@ ghost use Rattle.tiler.specs.Boards.{From, settingOf, startOf};
 ghost use Rattle.tiler.specs.Counting.{completeNode, Makes, weighGraph, graphOf, nodeRoom, edgeRoom};
 ghost use Rattle.tiler.specs.Inner.{Accepted, nodesIn, HoldsEdges, HoldsGraph, firstCount, AddsCount, PassesEdges, Finishes};
 
-// How many nodes and edges a graph has, the edges past their room counting as one; full where there
+// How many nodes and edges a graph has, the edges past their room counting as one; no room where there
 // was one node more than the room.
 pub enum Growth {
     Size(usize, usize),
-    Full,
+    NoRoom,
 }
 
 // One more edge, stored if there is room for it.
 fn add_edge(edges: &mut [u64], n: usize, room: usize, parent: usize, child: usize) -> usize
-    requires { ⌜ (2 * room ≤ length (now edges)) × (room ≤ 16777216) ⌝ }
+    requires { ⌜ (2 * room ≤ length (now edges)) ⌝ }
     ensures { λ r. ⌜ ((es : List (ℕ × ℕ)) → HoldsEdges room (now (edges .entry)) n es → HoldsEdges room (now (edges .exit)) r (es ++ (parent, child) ∷ [])) ⌝ }
 {
     if room <= n {
@@ -62,16 +62,16 @@ fn add_child(
     parent: usize,
     child: Cells,
 ) -> Growth
-    requires { ⌜ (nodesIn growth ≤ room) × (4 * room ≤ length (now nodes)) × (2 * space ≤ length (now edges)) × (space ≤ 16777216) ⌝ }
+    requires { ⌜ (nodesIn growth ≤ room) × (4 * room ≤ length (now nodes)) × (2 * space ≤ length (now edges)) ⌝ }
     ensures { λ r. ⌜ (nodesIn r ≤ room) × ((g : List ℕ × List (ℕ × ℕ)) → HoldsGraph room space (now (nodes .entry)) (now (edges .entry)) growth g → HoldsGraph room space (now (nodes .exit)) (now (edges .exit)) r (addChild eqb parent (number child) g)) ⌝ }
 {
     let Growth::Size(n, e) = growth else {
-        return Growth::Full;
+        return Growth::NoRoom;
     };
     let found = graph::find_node(nodes, 0, n, child);
     let Found::At(i) = found else {
         if room <= n {
-            return Growth::Full;
+            return Growth::NoRoom;
         }
         list::put(nodes, n, child);
         return Growth::Size(n + 1, add_edge(edges, e, space, parent, n));
@@ -90,7 +90,7 @@ fn add_children(
     children: &[u64],
     n: usize,
 ) -> Growth
-    requires { ⌜ (nodesIn growth ≤ room) × (4 * room ≤ length (now nodes)) × (2 * space ≤ length (now edges)) × (space ≤ 16777216) ⌝ }
+    requires { ⌜ (nodesIn growth ≤ room) × (4 * room ≤ length (now nodes)) × (2 * space ≤ length (now edges)) ⌝ }
     ensures { λ r. ⌜ (nodesIn r ≤ room) × ((g : List ℕ × List (ℕ × ℕ)) → HoldsGraph room space (now (nodes .entry)) (now (edges .entry)) growth g → HoldsGraph room space (now (nodes .exit)) (now (edges .exit)) r (addChildren eqb parent (listOf (setAt (now (children .entry))) n) g)) ⌝ }
 {
     let mut state = growth;
@@ -122,7 +122,7 @@ fn expand_node(
     space: usize,
     i: usize,
 ) -> Growth
-    requires { ⌜ Accepted board tiles × From (boardOf board) (setAt (now nodes) i) × (8448 ≤ length (now children)) × (nodesIn growth ≤ room) × (4 * room ≤ length (now nodes)) × (2 * space ≤ length (now edges)) × (space ≤ 16777216) ⌝ }
+    requires { ⌜ Accepted board tiles × From (boardOf board) (setAt (now nodes) i) × (8448 ≤ length (now children)) × (nodesIn growth ≤ room) × (4 * room ≤ length (now nodes)) × (2 * space ≤ length (now edges)) ⌝ }
     ensures { λ r. ⌜ (nodesIn r ≤ room) × ((g : List ℕ × List (ℕ × ℕ)) → HoldsGraph room space (now (nodes .entry)) (now (edges .entry)) growth g → HoldsGraph room space (now (nodes .exit)) (now (edges .exit)) r (addChildren eqb i (childBoards (settingOf board tiles) (setAt (now (nodes .entry)) i)) g)) ⌝ }
 {
     let n = plot::expand(board, tiles, list::get(nodes, i), children);
@@ -135,7 +135,7 @@ fn node_count(growth: Growth) -> usize
 {
     match growth {
         Growth::Size(n, _) => n,
-        Growth::Full => 0,
+        Growth::NoRoom => 0,
     }
 }
 
@@ -149,7 +149,7 @@ fn build(
     room: usize,
     space: usize,
 ) -> Growth
-    requires { ⌜ Accepted board tiles × (8448 ≤ length (now children)) × (0 < room) × (4 * room ≤ length (now nodes)) × (2 * space ≤ length (now edges)) × (space ≤ 16777216) × (setAt (now nodes) 0 ≡ startOf board) ⌝ }
+    requires { ⌜ Accepted board tiles × (8448 ≤ length (now children)) × (0 < room) × (4 * room ≤ length (now nodes)) × (2 * space ≤ length (now edges)) × (setAt (now nodes) 0 ≡ startOf board) ⌝ }
     ensures { λ r. ⌜ (nodesIn r ≤ room) × HoldsGraph room space (now (nodes .exit)) (now (edges .exit)) r (nodesOf (settingOf board tiles) (startOf board), graphEdges (settingOf board tiles) (startOf board)) ⌝ }
 {
     let mut growth = Growth::Size(1, 0);
@@ -172,13 +172,14 @@ fn grown(
     room: usize,
     space: usize,
 ) -> Growth
-    requires { ⌜ Accepted board tiles × (4 * room ≤ length (now nodes)) × (2 * space ≤ length (now edges)) × (space ≤ 16777216) ⌝ }
+    requires { ⌜ Accepted board tiles × (4 * room ≤ length (now nodes)) × (2 * space ≤ length (now edges)) ⌝ }
     ensures { λ r. ⌜ (nodesIn r ≤ room) × HoldsGraph room space (now (nodes .exit)) (now (edges .exit)) r (nodesOf (settingOf board tiles) (startOf board), graphEdges (settingOf board tiles) (startOf board)) ⌝ }
 {
     if room == 0 {
-        return Growth::Full;
+        return Growth::NoRoom;
     }
-    list::put(nodes, 0, board.marks());
+    let fixed = board.fixed;
+    list::put(nodes, 0, fixed.union(board.laid));
     let mut children = [0u64; 8448];
     build(board, tiles, nodes, edges, &mut children, room, space)
 }

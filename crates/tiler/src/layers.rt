@@ -10,7 +10,8 @@ use graph::Found;
 use tile::Tiles;
 use tile::refusal::Refusal;
 ghost use mathlib.Core.Path.{_≡_};
-ghost use mathlib.Core.List.{List};
+ghost use mathlib.Core.Bool.{cond};
+ghost use mathlib.Core.List.{List, [], _∷_};
 ghost use Prim.Native.Nat.{ℕ, _*_, _≤_, _<_};
 ghost use lib.Dec.{eqb};
 ghost use lib.ListN.{length, getD};
@@ -27,11 +28,11 @@ ghost use Rattle.tiler.specs.Boards.{From, settingOf, startOf};
 ghost use Rattle.tiler.specs.Counting.{layersAnswer, layerRoom, countTilings, countAnswer};
 ghost use Rattle.tiler.specs.Inner.{Accepted, stepOf, entriesIn, boardsIn, HoldsLayer, addEach, nextOf, countFrom, Ready, AddsCount};
 
-// How many boards a layer has, and whether a path count is too large; full where there was one
+// How many boards a layer has, and whether a path count is too large; no room where there was one
 // board more than the room.
 pub enum Layer {
     Boards(usize, bool),
-    Full,
+    NoRoom,
 }
 
 // Some paths more for count i, unless the sum would be too large.
@@ -60,12 +61,12 @@ fn add_paths(
     ensures { λ r. ⌜ (boardsIn r ≤ room) × ((es : List (Entry ℕ)) → HoldsLayer room (now (boards .entry)) (now (counts .entry)) layer es → HoldsLayer room (now (boards .exit)) (now (counts .exit)) r (addPaths eqb (number board) paths es)) ⌝ }
 {
     let Layer::Boards(n, over) = layer else {
-        return Layer::Full;
+        return Layer::NoRoom;
     };
     let found = graph::find_node(boards, 0, n, board);
     let Found::At(i) = found else {
         if room <= n {
-            return Layer::Full;
+            return Layer::NoRoom;
         }
         list::put(boards, n, board);
         counts[n] = paths;
@@ -129,12 +130,12 @@ fn grow(
     n: usize,
     next: &mut [u64],
     totals: &mut [u64],
-    children: &mut [u64],
     room: usize,
 ) -> Layer
-    requires { ⌜ Accepted board tiles × ((i : ℕ) → i < n → From (boardOf board) (setAt (now boards) i)) × (n ≤ length (now counts)) × (8448 ≤ length (now children)) × (4 * room ≤ length (now next)) × (room ≤ length (now totals)) ⌝ }
+    requires { ⌜ Accepted board tiles × ((i : ℕ) → i < n → From (boardOf board) (setAt (now boards) i)) × (n ≤ length (now counts)) × (4 * room ≤ length (now next)) × (room ≤ length (now totals)) ⌝ }
     ensures { λ r. ⌜ (boardsIn r ≤ room) × HoldsLayer room (now (next .exit)) (now (totals .exit)) r (nextOf (settingOf board tiles) (entriesIn (now (boards .entry)) (now (counts .entry)) n)) ⌝ }
 {
+    let mut children = [0u64; 8448];
     let mut state = Layer::Boards(0, false);
     let mut i = 0;
     while i < n {
@@ -146,7 +147,7 @@ fn grow(
             i,
             next,
             totals,
-            children,
+            &mut children,
             state,
             room,
         );
@@ -155,11 +156,15 @@ fn grow(
     state
 }
 
-// The count of the one board of a last layer, 0 if it has none.
-fn last_count(counts: &[u64], n: usize) -> Count
+// The count of a layer of n boards on which no piece can be laid: that of its one board if no cell
+// is left free, 0 if some are or if there is no board.
+fn last_count(counts: &[u64], n: usize, left: usize) -> Count
     requires { ⌜ n ≤ length (now counts) ⌝ }
-    ensures { λ r. ⌜ countAnswer r ≡ given (getD (listOf (λ i. getD (now (counts .entry)) i 0) n) 0 0) ⌝ }
+    ensures { λ r. ⌜ countAnswer r ≡ given (cond (eqb left 0) (getD (listOf (λ i. getD (now (counts .entry)) i 0) n) 0 0) 0) ⌝ }
 {
+    if 0 < left {
+        return Count::Number(0);
+    }
     if n == 0 {
         return Count::Number(0);
     }
@@ -174,32 +179,18 @@ fn run(
     counts: &mut [u64],
     next: &mut [u64],
     totals: &mut [u64],
-    children: &mut [u64],
     n: usize,
     room: usize,
     left: usize,
     size: usize,
 ) -> Count
-    requires { ⌜ Accepted board tiles × (size ≡ stepOf (pathsIn tiles)) × (4 * room ≤ length (now boards)) × (room ≤ length (now counts)) × (4 * room ≤ length (now next)) × (room ≤ length (now totals)) × (8448 ≤ length (now children)) × (n ≤ room) × Ready (settingOf board tiles) left (entriesIn (now boards) (now counts) n) ⌝ }
+    requires { ⌜ Accepted board tiles × (size ≡ stepOf (pathsIn tiles)) × (4 * room ≤ length (now boards)) × (room ≤ length (now counts)) × (4 * room ≤ length (now next)) × (room ≤ length (now totals)) × (n ≤ room) × Ready (settingOf board tiles) left (entriesIn (now boards) (now counts) n) ⌝ }
     ensures { λ r. ⌜ ((k : ℕ) → left ≤ k → countAnswer r ≡ countFrom (settingOf board tiles) room k (entriesIn (now (boards .entry)) (now (counts .entry)) n)) ⌝ }
 {
-    if left == 0 {
-        return last_count(counts, n);
-    }
     if left < size {
-        return Count::Number(0);
+        return last_count(counts, n, left);
     }
-    let grown = grow(
-        board,
-        tiles,
-        boards,
-        counts,
-        n,
-        next,
-        totals,
-        children,
-        room,
-    );
+    let grown = grow(board, tiles, boards, counts, n, next, totals, room);
     let Layer::Boards(m, over) = grown else {
         return Count::Refused(Refusal::NoRoom);
     };
@@ -213,12 +204,20 @@ fn run(
         totals,
         boards,
         counts,
-        children,
         m,
         room,
         left - size,
         size,
     )
+}
+
+// Layer 0: the start, with the count 1.
+fn start(board: RectangularBoard, boards: &mut [u64], counts: &mut [u64])
+    requires { ⌜ (4 ≤ length (now boards)) × (0 < length (now counts)) ⌝ }
+    ensures { λ _. ⌜ entriesIn (now (boards .exit)) (now (counts .exit)) 1 ≡ (startOf board, 1) ∷ [] ⌝ }
+{
+    list::put(boards, 0, board.marks());
+    counts[0] = 1;
 }
 
 // The count of a board and tiles that are not refused.
@@ -247,9 +246,7 @@ fn weighed(
     if free == 0 {
         return Count::Number(0);
     }
-    list::put(boards_a, 0, board.marks());
-    counts_a[0] = 1;
-    let mut children = [0u64; 8448];
+    start(board, boards_a, counts_a);
     run(
         board,
         tiles,
@@ -257,7 +254,6 @@ fn weighed(
         counts_a,
         boards_b,
         counts_b,
-        &mut children,
         1,
         room,
         free,

@@ -7,7 +7,8 @@ use lib.Dec.{eqb}
 use Rattle.cells.specs.Words.{number}
 use Rattle.cells.specs.Lists.{setAt}
 use Rattle.cells.proofs.ListLoops.{looked-at}
-use Rattle.graph.proofs.GraphLoops.{missed-more, node-found, node-missed}
+use Rattle.graph.specs.GraphLaws.{missed-more}
+use Rattle.graph.proofs.GraphLoops.{node-found, node-missed}
 use borrow.Author.Needs.{needs}
 use native.Mathlib.Omega.{arith}
 use Rattle.graph.proofs.find_node.Statement.{statement}
@@ -33,8 +34,11 @@ returns-2 c =
 
 loop-again : tie.Need-loop-again Inv-loop μ-loop
 loop-again c =
-    let inv = c .before .before .before .before .before .loop .inv in
-    (omega (arith, inv .0), missed-more _ _ _ _ (inv .1) (looked-at _ _ _ _ _ _ (c .before .before .get .ensures) (c .before .equal .ensures) (c .if2 .left)))
+    let inv = c .before .before .before .before .before .loop .inv in (
+      omega (arith, inv .0),
+      missed-more _ _ _ (inv .1)
+          (looked-at _ _ _ _ _ _ (c .before .before .get .ensures) (c .before .equal .ensures) (c .if2 .left)),
+    )
 
 returns-3 : tie.Need-returns-3 Inv-loop μ-loop
 returns-3 c = node-missed _ _ _ _ _ (c .before .loop .inv .1) (omega (arith, c .loop-test .left))

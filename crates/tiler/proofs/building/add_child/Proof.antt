@@ -4,7 +4,7 @@
 use Prim.Native.Nat.{_^_, _<_}
 use Rattle.cells.specs.Words.{number}
 use Rattle.cells.specs.WordLaws.{number-lt}
-use Rattle.tiler.proofs.BuildLaws.{child-full, child-old, child-over, child-put, size-within}
+use Rattle.tiler.proofs.BuildLaws.{child-no-room, child-old, child-over, child-put, size-within}
 use native.Mathlib.Omega.{arith}
 use borrow.Author.Needs.{needs}
 use Rattle.tiler.proofs.building.add_child.Statement.{statement}
@@ -14,7 +14,7 @@ small : (c : tie.Start) → number (c .args .child) < 2 ^ 256
 small c = number-lt _ (record { s0 = search needs; s1 = search needs; s2 = search needs; s3 = search needs })
 
 returns : tie.Need-returns
-returns c = (omega arith, λ g k. child-full _ _ _ _ _ _ k _ _ (c .enum-told .given .1))
+returns c = (omega arith, λ g k. child-no-room _ _ _ _ _ _ k _ _ (c .enum-told .given .1))
 
 returns-2 : tie.Need-returns-2
 returns-2 c =

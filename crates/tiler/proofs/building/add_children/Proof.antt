@@ -31,7 +31,7 @@ add-child-requires : tie.Need-add-child-requires Inv-loop μ-loop
 add-child-requires c κs =
     let l = c .before .before .before .before in
     let s = l .before .before .before .before in
-    (l .loop .inv .1, omega (arith, s .pre .1, l .loop .inv .2), omega (arith, s .pre .2, l .loop .inv .3), s .pre .3)
+    (l .loop .inv .1, omega (arith, s .pre .1, l .loop .inv .2), omega (arith, s .pre .2, l .loop .inv .3))
 
 loop-again : tie.Need-loop-again Inv-loop μ-loop
 loop-again c =

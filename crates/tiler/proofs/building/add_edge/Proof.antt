@@ -15,7 +15,7 @@ slice-write-edges-2 : tie.Need-slice-write-edges-2
 slice-write-edges-2 c = simp length-set (omega arith)
 
 returns-2 : tie.Need-returns-2
-returns-2 c = λ es k. edge-put _ _ _ _ k _ _ (c .if1 .left) (c .before .pre .0) _ refl
+returns-2 c = λ es k. edge-put _ _ _ _ k _ _ (c .if1 .left) (c .before .pre) _ refl
 
 pub add-edge-spec : {M : Type 1} → statement M
 add-edge-spec =

@@ -38,7 +38,7 @@ loop-holds c =
       refl,
       refl,
       omega arith,
-      build-start (s .args .board) (s .args .tiles) (s .pre .0) (fixed-small s) (laid-small s) _ _ _ _ (s .pre .2) (s .pre .6),
+      build-start (s .args .board) (s .args .tiles) (s .pre .0) (fixed-small s) (laid-small s) _ _ _ _ (s .pre .2) (s .pre .5),
     )
 
 expand-node-requires : tie.Need-expand-node-requires Inv-loop μ-loop
@@ -53,7 +53,6 @@ expand-node-requires c κs =
       l .loop .inv .1,
       omega (arith, s .pre .3, l .loop .inv .2),
       omega (arith, s .pre .4, l .loop .inv .3),
-      s .pre .5,
     )
 
 loop-again : tie.Need-loop-again Inv-loop μ-loop

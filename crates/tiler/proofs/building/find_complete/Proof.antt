@@ -6,7 +6,8 @@ use Prim.Native.Nat.{ℕ, _-_, _≤_, _<_}
 use Rattle.cells.specs.Lists.{setAt}
 use Rattle.board.specs.Board.{boardOf, boardAt, isFull}
 use Rattle.tiler.specs.Boards.{From}
-use Rattle.tiler.proofs.FinishLaws.{full-at, complete-more, complete-found, complete-none}
+use Rattle.graph.specs.GraphLaws.{missed-more}
+use Rattle.tiler.proofs.FinishLaws.{full-at, complete-found, complete-none}
 use borrow.Author.Needs.{needs}
 use native.Mathlib.Omega.{arith}
 use Rattle.tiler.proofs.building.find_complete.Statement.{statement}
@@ -34,7 +35,7 @@ loop-again : tie.Need-loop-again Inv-loop μ-loop
 loop-again c =
     let loop = c .before .before .before .before in
     let test = full-at (loop .before .before .args .board) _ _ _ _ (c .before .is-full .ensures) (c .before .before .get .ensures) (c .if1 .left) in
-    (omega (arith, loop .loop .inv .0), complete-more _ _ (loop .loop .inv .1) test)
+    (omega (arith, loop .loop .inv .0), missed-more _ _ _ (loop .loop .inv .1) test)
 
 returns-2 : tie.Need-returns-2 Inv-loop μ-loop
 returns-2 c = complete-none _ _ (c .before .loop .inv .1) _ (c .loop-test .left)

@@ -2,7 +2,8 @@
 -- Assumes nothing.
 use borrow.Author.Tests.{not-true, not-false}
 use Rattle.cells.specs.Words.{Sound}
-use Rattle.tiler.proofs.FinishLaws.{node-room, edge-room, count-asks, finish-asks, made-full, made-crowded, made-large, made-finished}
+use Rattle.tiler.proofs.PlotLaws.{node-room, edge-room}
+use Rattle.tiler.proofs.FinishLaws.{count-asks, finish-asks, made-no-room, made-no-room-for-edges, made-large, made-finished}
 use borrow.Author.Needs.{needs}
 use Rattle.tiler.proofs.building.made.Statement.{statement}
 use Rattle.tiler.proofs.building.made.Tie as tie
@@ -17,7 +18,7 @@ grown-requires : tie.Need-grown-requires
 grown-requires c κs =
     let nodes = node-room _ _ _ (c .before .before .before .node-room .ensures) in
     let edges = edge-room _ _ (c .before .before .edge-room .ensures) in
-    (c .before .before .before .before .before .before .before .pre, nodes .0, edges .0, edges .1)
+    (c .before .before .before .before .before .before .before .pre, nodes .0, edges)
 
 returns : tie.Need-returns
 returns c =
@@ -25,7 +26,7 @@ returns c =
     let told = r .before .before .before .before in
     let g = told .before .before .before .before .before .before in
     let start = g .before .before .before .before .before .before .before .before in
-    made-full _ _ (start .pre) (fixed start) (laid start) _ _ _ _ _ (g .before .before .before .before .node-room .ensures)
+    made-no-room _ _ (start .pre) (fixed start) (laid start) _ _ _ _ _ (g .before .before .before .before .node-room .ensures)
     (g .before .before .before .edge-room .ensures) _ _ _ (g .grown .ensures .1) (g .grown .kept .1 .1 .0) (g .grown .kept .1 .1 .1 .0)
     _ _ _ _ (told .enum-told .given .1) (r .refused .ensures)
 
@@ -36,7 +37,7 @@ returns-2 c =
     let sized = many .before .before in
     let g = sized .before .before .before .before .before .before in
     let start = g .before .before .before .before .before .before .before .before in
-    made-crowded _ _ (start .pre) (fixed start) (laid start) _ _ _ _ _ (g .before .before .before .before .node-room .ensures)
+    made-no-room-for-edges _ _ (start .pre) (fixed start) (laid start) _ _ _ _ _ (g .before .before .before .before .node-room .ensures)
     (g .before .before .before .edge-room .ensures) _ _ _ (g .grown .ensures .1) (g .grown .kept .1 .1 .0) (g .grown .kept .1 .1 .1 .0)
     _ _ (sized .growth .given .1) _ _ _ _ (many .if1 .taken) (r .refused2 .ensures)
 

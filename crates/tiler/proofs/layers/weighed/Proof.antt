@@ -1,11 +1,10 @@
 -- `layers::weighed` meets its contract: no room, a full start, or layer 0 in the first words and the layers from it on. Assumes nothing.
-use mathlib.Core.Path.{_∙_}
 use Prim.Native.Nat.{_^_, _<_}
 use native.Mathlib.Omega.{arith}
-use lib.ListN.{length-set}
 use Rattle.cells.specs.Words.{number}
 use Rattle.cells.specs.WordLaws.{number-lt}
-use Rattle.tiler.proofs.StartLaws.{positive, room-fits, start-no-room, start-full, start-ready, start-run}
+use Rattle.tiler.proofs.PlotLaws.{layer-room}
+use Rattle.tiler.proofs.StartLaws.{positive, start-no-room, start-full, start-ready, start-run}
 use borrow.Author.Needs.{needs}
 use Rattle.tiler.proofs.layers.weighed.Statement.{statement}
 use Rattle.tiler.proofs.layers.weighed.Tie as tie
@@ -20,7 +19,7 @@ small-laid c = number-lt _ (record { s0 = search needs; s1 = search needs; s2 = 
 returns : tie.Need-returns
 returns c = start-no-room _ _ _ _ (c .before .layer-room .ensures) (c .if1 .taken)
 
--- s is what is known at the start, f after `free_cells`, m after `put`, r after `run`
+-- s is what is known at the start, f after `free_cells`, m after `start`, r after `run`; w is that the room is lent
 returns-2 : tie.Need-returns-2
 returns-2 c =
     let f = c .before in
@@ -28,47 +27,38 @@ returns-2 c =
     start-full _ _ (s .pre .0) (small-fixed s) (small-laid s) _ (f .free-cells .ensures) _ _ (f .before .before .layer-room .ensures) (f .before .if1 .left)
     (c .if2 .taken)
 
-slice-write-counts-a : tie.Need-slice-write-counts-a
-slice-write-counts-a c =
-    let f = c .before .before .before .before .before .before in
-    let w = room-fits _ _ _ _ _ (f .before .before .layer-room .ensures) in
-    omega (arith, w .1, positive _ (f .before .if1 .left))
+start-requires : tie.Need-start-requires
+start-requires c κs =
+    let f = c .before .before .before in
+    let w = layer-room _ _ _ _ _ (f .before .before .layer-room .ensures) in
+    let some = positive _ (f .before .if1 .left) in
+    (omega (arith, w .0, some), omega (arith, w .1, some))
 
 run-requires : tie.Need-run-requires
 run-requires c κs =
-    let m = c .before .before .before .before .before .before .before in
+    let m = c .before .before .before .before .before .before .before .before in
     let f = m .before .before .before .before in
     let s = f .before .before .before .before .before .before .before in
-    let w = room-fits _ _ _ _ _ (f .before .before .layer-room .ensures) in
-    let long = length-set (s .args .counts-a .now) 0 1 in (
+    let w = layer-room _ _ _ _ _ (f .before .before .layer-room .ensures) in (
       s .pre .0,
       s .pre .1,
-      omega (arith, w .0, m .put .kept .0),
-      omega (arith, w .1, long),
+      omega (arith, w .0, m .start .kept .1 .0),
+      omega (arith, w .1, m .start .kept .1 .1 .0),
       w .2,
       w .3,
-      omega arith,
       positive _ (f .before .if1 .left),
       start-ready _ _ (s .pre .0) (small-fixed s) (small-laid s) _ (f .free-cells .ensures) _ _ (f .before .before .layer-room .ensures) (f .before .if1 .left)
-          _ (s .args .counts-a .now) _ _ (m .before .marks .ensures) (m .put .ensures) (w .0) (w .1),
+          _ (m .start .ensures),
     )
-
-same-length-2 : tie.Need-same-length-2
-same-length-2 c =
-    let r = c .before .before .before .before .before .before .before .before .before in
-    let s = r .before .before .before .before .before .before .before .before .before .before .before .before .before .before .before .before .before .before .before in
-    r .run .kept .1 .1 .1 .0 ∙ length-set (s .args .counts-a .now) 0 1
 
 returns-3 : tie.Need-returns-3
 returns-3 c =
-    let r = c .before .before .before .before .before .before .before .before .before in
-    let m = r .before .before .before .before .before .before .before .before in
+    let r = c .before .before .before .before .before .before .before .before in
+    let m = r .before .before .before .before .before .before .before .before .before in
     let f = m .before .before .before .before in
     let s = f .before .before .before .before .before .before .before in
-    let w = room-fits _ _ _ _ _ (f .before .before .layer-room .ensures) in
     start-run _ _ (s .pre .0) (small-fixed s) (small-laid s) _ (f .free-cells .ensures) _ _ (f .before .before .layer-room .ensures) (f .before .if1 .left)
-    _ (s .args .counts-a .now) _ _ (m .before .marks .ensures) (m .put .ensures) (w .0) (w .1)
-    (m .before .before .before .if2 .left) _ (r .run .ensures)
+    _ (m .start .ensures) (m .before .before .before .if2 .left) _ (r .run .ensures)
 
 pub weighed-spec : {M : Type 1} → statement M
 weighed-spec =
@@ -78,13 +68,10 @@ weighed-spec =
     returns
     (λ c κs. search needs)
     returns-2
-    (λ c κs. search needs)
-    (λ c κs. search needs)
-    slice-write-counts-a
-    (λ c. search needs)
+    start-requires
     run-requires
     (λ c. search needs)
-    same-length-2
+    (λ c. search needs)
     (λ c. search needs)
     (λ c. search needs)
     returns-3)
