@@ -1,4 +1,4 @@
-"""Random boards and tiles for make-answers and compare, and the running of the oracle.
+"""Random boards and tiles for make-answers and the comparisons, and the running of the oracle.
 
 A set of cells is a number, cell (row, column) being bit 16 * row + column. What stands here about
 neighbour counts and the chosen cell only picks and counts cases; answers are the programs' own.
@@ -25,6 +25,10 @@ DOMINOES = "3,1,2,0"
 ORBITS = [DOMINOES, "20,03,31,12,21,02,30,13", "306,137,214,025,315,126,207,034", "33,11,22,00"]
 # Tiles that make one piece from several points, or of which several make one piece.
 EQUAL_PIECES = ["3,2", "32", "0101", "3021", "33,22", "313,202", "5,7,57", "3021,0213", "44,66"]
+# Lists of one number of cells, of pieces that are connected along edges: 2, 3, 4, 4, 4 cells.
+TROMINOES = "33,11,31,13,30,21"
+TETROMINOES = "333,221,3103,331,130,211,313,311,133,1103,131,113,111,212,1233,121,1102,112,122"
+ONE_SIZE = ["3,1,32,0101", TROMINOES, TETROMINOES, "3021,0213,333", "331,3032,1103"]
 
 COLUMNS = [sum(1 << (16 * row + column) for row in range(16)) for column in range(16)]
 ROWS = [0xFFFF << (16 * row) for row in range(16)]
@@ -99,8 +103,8 @@ class Plot:
     def board(self):
         return f"{self.width} {self.height} {self.fixed:x} {self.laid:x}"
 
-    def command(self):
-        return f"children {self.board()} {self.tiles}"
+    def command(self, name="children"):
+        return f"{name} {self.board()} {self.tiles}"
 
     def child(self, marks):
         """The plot of a child, whose marks of both kinds are given as in an answer."""
@@ -284,6 +288,112 @@ def some_plot(draws, with_laid):
     return plot
 
 
+def cells_of(path):
+    """The cells of a path as steps from its first point."""
+    row = column = 0
+    found = {(0, 0)}
+    for code in path.strip("-"):
+        down, right = STEPS[int(code)]
+        row, column = row + down, column + right
+        found.add((row, column))
+    return found
+
+
+def covering_path(draws, number):
+    """A random path that covers so many cells."""
+    codes = draws.one_of(["0123", CODES])
+    while True:
+        path = ""
+        while len(cells_of(path)) < number and len(path) < 2 * number:
+            path += draws.one_of(codes)
+        if len(cells_of(path)) == number:
+            return path or "-"
+
+
+def equal_tiles(draws):
+    """Tiles of one number of cells: known lists, orbits, and paths that cover as many."""
+    kind = draws.below(16)
+    if kind == 0:
+        tiles = ["-"]
+    elif kind < 8:
+        tiles = draws.one_of(ORBITS + ONE_SIZE).split(",")
+    elif kind < 12:
+        tiles = orbit(draws.path(1 + draws.below(4), draws.one_of(["0123", CODES])))
+    else:
+        number = 2 + draws.below(4)
+        tiles = [covering_path(draws, number) for _ in range(1 + draws.below(6))]
+    if draws.one_in(4):
+        tiles.append(reversed_path(draws.one_of(tiles)))
+    return ",".join(tiles)
+
+
+def cut_cells(draws, plot):
+    """Cells that some tiles cut: each is laid at a random place, if the place is still free."""
+    found = 0
+    for _ in range(2 * plot.width * plot.height):
+        path = draws.one_of(plot.tiles.split(","))
+        row, column = draws.below(plot.height), draws.below(plot.width)
+        at = [(row + down, column + right) for down, right in cells_of(path)]
+        if all(0 <= r < plot.height and 0 <= c < plot.width for r, c in at):
+            piece = sum(cell(r, c) for r, c in at)
+            found |= piece if not piece & found else 0
+    return found
+
+
+def counted_plot(draws, most):
+    """A plot to count, with tiles of one number of cells and sides of at most so many cells.
+
+    In half of them the free cells are some that the tiles cut, so that many counts are not 0.
+    """
+    width, height = (1 + max(draws.below(most), draws.below(most)) for _ in range(2))
+    plot = Plot(width, height, tiles=equal_tiles(draws))
+    inside = plot.inside()
+    if draws.one_in(2):
+        marked = inside & ~cut_cells(draws, plot)
+    else:
+        marked = inside & draws.cells(-3) if draws.one_in(2) else 0
+    plot.laid = marked & draws.half() if draws.one_in(3) else 0
+    plot.fixed = marked & ~plot.laid
+    return plot
+
+
+def blocks(columns, rows, tiles):
+    """A plot of rectangles of these widths and heights, parted by lines of fixed marks."""
+    plot = Plot(sum(columns) + len(columns) - 1, sum(rows) + len(rows) - 1, tiles=tiles)
+    for i in range(1, len(columns)):
+        plot.fixed |= COLUMNS[sum(columns[:i]) + i - 1] & plot.inside()
+    for i in range(1, len(rows)):
+        plot.fixed |= ROWS[sum(rows[:i]) + i - 1] & plot.inside()
+    return plot
+
+
+class Weight:
+    """How large a graph and its layers are, by the oracle's answer to `weigh`."""
+
+    def __init__(self, answer):
+        nodes, edges, sequences, over, sizes = answer.split()
+        self.nodes, self.edges, self.sequences = int(nodes), int(edges), int(sequences)
+        self.over = None if over == "none" else int(over)
+        self.sizes = [int(size) for size in sizes.split(",")]
+        self.largest = max(self.sizes)
+
+
+def weights_of(ask, plots, most=20_000):
+    """The weights of some plots; none for unequal tiles or a graph of more nodes than the most."""
+    answers = ask([f"{plot.command('weigh')} {most}" for plot in plots])
+    return [Weight(answer) if " " in answer else None for answer in answers]
+
+
+# What the program replay lends where a command doesn't say: boards a layer; nodes and edges.
+USUAL_ROOMS = {"layers": ["512"], "graph": ["1024", "4096"]}
+
+
+def with_rooms(command):
+    """A command with its rooms written out, as the oracle asks for them."""
+    name, *fields = command.split()
+    return command if len(fields) > 5 else " ".join([command, *USUAL_ROOMS.get(name, [])])
+
+
 def stop(message):
     sys.exit(f"{os.path.basename(sys.argv[0])}: {message}")
 
@@ -295,15 +405,15 @@ def build_oracle(sources, folder):
     return os.path.join(folder, "oracle")
 
 
-def answers_of(program, commands):
-    """Runs a program on commands, one a line; its answers."""
+def answers_of(program, commands, threads=1):
+    """Runs a program on commands, one a line; its answers. The Rust has so many threads."""
     run = subprocess.run(
         [program],
         input="".join(command + "\n" for command in commands),
         stdout=subprocess.PIPE,
         check=True,
         encoding="ascii",
-        env={**os.environ, "RAYON_NUM_THREADS": "1"},
+        env={**os.environ, "RAYON_NUM_THREADS": str(threads)},
     )
     answers = run.stdout.splitlines()
     if len(answers) != len(commands):

@@ -1,10 +1,10 @@
-// Reads commands from standard input, one a line, and writes what crates tile and board answer, one
-// line each: the file stdout has the answers of the Rust for the commands of the file stdin.
+// Reads commands from standard input, one a line, and writes what crates tile, board, graph and tiler
+// answer, one line each: the file stdout has the answers of the Rust for the commands of the file stdin.
 //
 // A line has fields parted by one blank, the first of them the command. A path is digits 0 to 7,
 // `-` for the empty one; tiles are paths joined by commas, `.` for none. Marks are a hexadecimal
 // number with no zeros in front, cell (row, column) being bit 16 * row + column. Another command is
-// a function of commands.rt and a line of `answer`.
+// a function of commands.rt or counts.rt and a line of `answer`.
 use text::field;
 use text::find;
 use text::same;
@@ -12,6 +12,7 @@ ghost use Prim.Native.Nat.{_≤_};
 ghost use lib.ListN.{length};
 
 mod commands;
+mod counts;
 mod text;
 mod write;
 
@@ -125,6 +126,10 @@ fn answer(line: &[u8]) {
         commands::full(line);
     } else if same(command, b"children") {
         commands::children(line);
+    } else if same(command, b"layers") {
+        counts::layers(line);
+    } else if same(command, b"graph") {
+        counts::graph(line);
     } else {
         write::bytes(b"unknown command");
     }

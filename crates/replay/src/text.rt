@@ -79,6 +79,26 @@ pub fn number_in(text: &[u8]) -> usize {
     n
 }
 
+// The smaller of two numbers.
+pub fn least(m: usize, n: usize) -> usize
+    ensures { λ r. ⌜ (r ≤ m) × (r ≤ n) ⌝ }
+{
+    if m < n {
+        return m;
+    }
+    n
+}
+
+// The number of a field, most at most; where there is no such field, the usual number.
+pub fn room_in(text: &[u8], usual: usize, most: usize) -> usize
+    ensures { λ r. ⌜ r ≤ most ⌝ }
+{
+    if text.len() == 0 {
+        return least(usual, most);
+    }
+    least(number_in(text), most)
+}
+
 // The code of a direction. Other texts have a code that tile refuses.
 pub fn code_in(text: &[u8]) -> u8 {
     if text.len() != 1 {

@@ -9,6 +9,8 @@ use tile::Tiles;
 use tile::direction::Code;
 use tile::refusal::Refusal;
 use tile::refusal::Verdict;
+use tiler::Complete;
+use tiler::Graph;
 
 pub fn bytes(text: &[u8]) {
     io::write_all(STDOUT_FILENO, text);
@@ -16,6 +18,11 @@ pub fn bytes(text: &[u8]) {
 
 pub fn number(n: usize) {
     io::print_decimal(STDOUT_FILENO, n as u64);
+}
+
+// A number of tilings.
+pub fn count(n: u64) {
+    io::print_decimal(STDOUT_FILENO, n);
 }
 
 pub fn truth(is: bool) {
@@ -164,4 +171,55 @@ pub fn made_board(answer: MadeBoard) {
         }
         Verdict::Refused(refusal) => refused(refusal),
     }
+}
+
+// The full board's node, or none.
+fn complete(node: Complete) {
+    match node {
+        Complete::Node(n) => number(n),
+        Complete::Nothing => bytes(b"none"),
+    }
+}
+
+// A graph: its count, its numbers of nodes and of edges, the full board's node, the marks of each node
+// and the edges as they are stored.
+pub fn graph(shown: Graph, nodes: &[u64], counts: &[u64], edges: &[u64]) {
+    let node = shown.complete;
+    count(tiler::count_tilings_from_graph(shown, counts));
+    bytes(b" ");
+    number(shown.nodes);
+    bytes(b" ");
+    number(shown.edges);
+    bytes(b" ");
+    complete(node);
+    graph_nodes(nodes, shown.nodes);
+    graph_edges(edges, shown.edges);
+}
+
+// The marks of the first n nodes.
+fn graph_nodes(nodes: &[u64], n: usize) {
+    let mut i = 0;
+    while i < n {
+        board_at(graph::get_node(nodes, i), 0);
+        i += 1;
+    }
+}
+
+// The first n edges, or as many as are lent.
+fn graph_edges(edges: &[u64], n: usize) {
+    let mut i = 0;
+    while i < n {
+        if edges.len() / 2 <= i {
+            return;
+        }
+        edge(edges[2 * i], edges[2 * i + 1]);
+        i += 1;
+    }
+}
+
+fn edge(parent: u64, child: u64) {
+    bytes(b" ");
+    count(parent);
+    bytes(b">");
+    count(child);
 }

@@ -3,11 +3,13 @@
 
 use crate::tiler::Tiler;
 use crate::tiles::free_cells;
+use crate::walk::{self, Walk};
 use dcc_tiler::board::RectangularBoard;
 use dcc_tiler::graph::BoardGraph;
 use dcc_tiler::marks::{Marks, hex};
 use dcc_tiler::render::take_collected;
 use dcc_tiler::tile::{Tile, TileCollection};
+use num::BigUint;
 
 /// A board with any fixed and laid marks, set up through public items alone.
 ///
@@ -82,27 +84,73 @@ pub fn layers(b: RectangularBoard, tiles: TileCollection) -> String {
     Tiler::new(tiles, b).count_tilings().to_string()
 }
 
+/// The same with room for so many boards a layer, as document 01 has it: the count, or `refused N`.
+pub fn layers_in(b: RectangularBoard, tiles: TileCollection, room: usize) -> String {
+    match walk::layer_count(&b, &tiles, room) {
+        Ok(count) => count.to_string(),
+        Err(refusal) => format!("refused {refusal}"),
+    }
+}
+
 /// `COUNT NODES EDGES FULL HEX ... PARENT>CHILD ...`, in the Rust's numbering; FULL is the full
 /// board's node or `none`; or `several`.
 pub fn graph(b: RectangularBoard, tiles: TileCollection) -> String {
-    let mut tiler = Tiler::new(tiles, b);
+    let mut tiler = Tiler::new(tiles.clone(), b);
     let shared = tiler.graph();
     let graph = shared.read().unwrap();
     if several_full(&graph) {
         return "several".to_string();
     }
-    let nodes = nodes_of(&graph);
-    let edges = edges_of(&graph, nodes.len());
+    let edges = found_edges(&graph, &tiles);
     let full = graph.get_complete_index();
+    graph_text(tiler.count_tilings(), &nodes_of(&graph), &edges, full)
+}
+
+fn graph_text(
+    count: BigUint,
+    nodes: &[&RectangularBoard],
+    edges: &[(usize, usize)],
+    full: Option<usize>,
+) -> String {
     let mut fields = vec![
-        tiler.count_tilings().to_string(),
+        count.to_string(),
         nodes.len().to_string(),
         edges.len().to_string(),
         full.map_or("none".to_string(), |node| node.to_string()),
     ];
-    fields.extend(nodes.into_iter().map(hex));
+    fields.extend(nodes.iter().map(|node| hex(node)));
     fields.extend(edges.iter().map(|(parent, child)| format!("{parent}>{child}")));
     fields.join(" ")
+}
+
+/// The same with room for so many nodes and edges, as document 01 has it: the graph, or `refused N`.
+/// Where the Rust has too many child sequences to build its graph, the walk stands alone; its count
+/// is the Rust's layer count all the same.
+pub fn graph_in(b: RectangularBoard, tiles: TileCollection, nodes: usize, edges: usize) -> String {
+    let walk = match walk::graph(&b, &tiles, nodes, edges) {
+        Ok(walk) => walk,
+        Err(refusal) => return format!("refused {refusal}"),
+    };
+    if walk.is_compared(&b, &tiles) {
+        return graph(b, tiles);
+    }
+    graph_text(walk.count(), &walk.nodes.iter().collect::<Vec<_>>(), &walk.edges, walk.full)
+}
+
+/// `NODES EDGES SEQUENCES OVER LAYER,...`: how large the graph and each layer are, for the choice of
+/// rooms; OVER is the first layer with a path count of 2^64 or more, or `none`. `unequal` for unequal
+/// tiles, `large` if there are more nodes than the most.
+pub fn weigh(b: RectangularBoard, tiles: TileCollection, most: usize) -> String {
+    if walk::are_unequal(&tiles) {
+        return "unequal".to_string();
+    }
+    let Some(walk) = Walk::new(&b, &tiles, most) else {
+        return "large".to_string();
+    };
+    let (sizes, over) = walk.layers();
+    let over = over.map_or("none".to_string(), |layer| layer.to_string());
+    let sizes = sizes.iter().map(usize::to_string).collect::<Vec<_>>().join(",");
+    format!("{} {} {} {over} {sizes}", walk.nodes.len(), walk.edges.len(), walk.sequences())
 }
 
 /// With unequal tiles a graph may have several full nodes. The Rust then takes any one of them,
@@ -116,9 +164,28 @@ pub fn nodes_of(graph: &BoardGraph) -> Vec<&RectangularBoard> {
     (0..).map_while(|node| graph.get_node(node)).collect()
 }
 
+/// All edges in the order in which document 01 finds them: parents in number order, and of each its
+/// children in the order in which `place_tile` gives them. The Rust keeps a node's edges in a hash
+/// set; a child's number is looked up there by the child's board.
+pub fn found_edges(graph: &BoardGraph, tiles: &TileCollection) -> Vec<(usize, usize)> {
+    let nodes = nodes_of(graph);
+    let mut found = Vec::new();
+    for (node, board) in nodes.iter().enumerate() {
+        for child in board.place_tile(tiles) {
+            let mut kept = graph.get_edges(node).into_iter().flatten();
+            let number = kept.find(|number| *nodes[**number] == child);
+            found.push((node, *number.expect("a child of the node")));
+        }
+    }
+    let mut sorted = found.clone();
+    sorted.sort();
+    assert!(sorted == edges_of(graph, nodes.len()), "the edges in their order are others");
+    found
+}
+
 /// All edges, sorted by parent and then by child. The edges that the Rust keeps backward beside
 /// them are the same ones.
-pub fn edges_of(graph: &BoardGraph, nodes: usize) -> Vec<(usize, usize)> {
+fn edges_of(graph: &BoardGraph, nodes: usize) -> Vec<(usize, usize)> {
     let mut forward = Vec::new();
     let mut backward = Vec::new();
     for node in 0..nodes {

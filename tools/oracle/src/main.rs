@@ -11,6 +11,7 @@ mod text;
 #[path = "../upstream/cli/tiler.rs"]
 mod tiler;
 mod tiles;
+mod walk;
 
 use dcc_tiler::board::RectangularBoard;
 use dcc_tiler::marks::Marks;
@@ -77,22 +78,34 @@ fn answer(line: &str) -> Result<String, String> {
         ["full", width, height, fixed, laid] => {
             read_board(width, height, fixed, laid)?.is_all_marked().to_string()
         }
-        ["children", width, height, fixed, laid, list] => {
+        [name, width, height, fixed, laid, list, ref rooms @ ..] => {
             let board = read_board(width, height, fixed, laid)?;
-            boards::children(board, Marks::read(fixed)?, collection(list)?)
-        }
-        [name, width, height, fixed, laid, list] => {
-            let board = read_board(width, height, fixed, laid)?;
-            let answer = match name {
-                "layers" => boards::layers,
-                "graph" => boards::graph,
-                "tilings" => boards::tilings,
-                "one" => boards::one,
-                _ => return Err(format!("no such command: {line}")),
-            };
-            answer(board, collection(list)?)
+            let rooms: Result<Vec<_>, _> = rooms.iter().map(|room| read_number(room)).collect();
+            answer_with_tiles(name, board, Marks::read(fixed)?, collection(list)?, &rooms?)
+                .ok_or(format!("no such command: {line}"))?
         }
         _ => return Err(format!("no such command: {line}")),
+    })
+}
+
+/// Answers a command on a board and tiles, with rooms behind them or with none.
+fn answer_with_tiles(
+    name: &str,
+    board: RectangularBoard,
+    fixed: Marks,
+    tiles: TileCollection,
+    rooms: &[usize],
+) -> Option<String> {
+    Some(match (name, rooms) {
+        ("children", []) => boards::children(board, fixed, tiles),
+        ("layers", []) => boards::layers(board, tiles),
+        ("layers", [room]) => boards::layers_in(board, tiles, *room),
+        ("graph", []) => boards::graph(board, tiles),
+        ("graph", [nodes, edges]) => boards::graph_in(board, tiles, *nodes, *edges),
+        ("weigh", [most]) => boards::weigh(board, tiles, *most),
+        ("tilings", []) => boards::tilings(board, tiles),
+        ("one", []) => boards::one(board, tiles),
+        _ => return None,
     })
 }
 
