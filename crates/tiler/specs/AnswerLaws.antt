@@ -1,15 +1,17 @@
 -- What an answer that is given says: board and tiles are not refused, the graph has room and its counts fit, the layer count is the definition's.
 -- Rests on `AcceptedLaws`. Assumes nothing.
 use mathlib.Core.Path.{_≡_, refl, sym, ap, _∙_, subst, ap₂, fun-ext}
+use mathlib.Core.Logic.{⊎-elim}
 use mathlib.Core.Bool.{Bool, true, false, So, cond, false≢true}
-use mathlib.Core.List.{List, [], _∷_}
+use mathlib.Core.List.{List, [], _∷_, List·Memᴰ as Mem, List·Memᴰ·cases-cons as cases-cons, List·Memᴰ·not-nil as not-nil}
 use mathlib.Core.Option.{Option, none, some, Option·none-ne-some}
-use Prim.Native.Nat.{ℕ, _≤_, _<_}
+use Prim.Native.Nat.{ℕ, _*_, _^_, _≤_, _<_}
 use native.Mathlib.Decide.{decLt}
 use native.Mathlib.Omega.{arith}
 use borrow.Author.Tests.{leb-true, leb-false}
-use lib.Dec.{leb}
+use lib.Dec.{leb, lit<}
 use lib.ListN.{length, getD, length-map, List·getD-eq-default}
+use Rattle.cells.specs.Lists.{setsIn}
 use Rattle.cells.specs.FirstsLaws.{any-true, mem-getD}
 use Rattle.tile.specs.declared.Tiles.{Tiles}
 use Rattle.tile.specs.Refusal.{Answer, refused, given, mapAnswer, bindAnswer, refusalOf, valueOr}
@@ -18,12 +20,12 @@ use Rattle.tile.specs.Path.{Path, equalCounts}
 use Rattle.tile.specs.Stored.{soundAt, pathsIn, readTiles, readEqualTiles}
 use Rattle.cells.specs.Arrays.{listOf, allBelow}
 use Rattle.cells.specs.ArrayLaws.{length-listOf, getD-listOf}
-use Rattle.cells.specs.ListLaws.{length-wordsFor}
+use Rattle.cells.specs.ListLaws.{length-wordsFor, setsIn-wordsFor}
 use Rattle.graph.specs.GraphLaws.{length-numbersFor, length-edgesFor, edgesIn-edgesFor}
 use Rattle.board.specs.declared.RectangularBoard.{RectangularBoard}
 use Rattle.board.specs.Board.{Board, boardOf, marks, valid, readBoard}
 use Rattle.covers.specs.Counts.{Entry, SumRule, atNode, boards, counts, fullFrom, fullNode, layerCount, layerOf}
-use Rattle.covers.specs.CountLaws.{fullNode-some}
+use Rattle.covers.specs.CountLaws.{fullNode-some, fullNode-none}
 use Rattle.graph.specs.Graph.{numbersFor, edgesIn}
 use Rattle.tiler.specs.declared.MadeGraph.{MadeGraph}
 use Rattle.tiler.specs.Boards.{setting, settingOf, startOf}
@@ -151,16 +153,56 @@ getD-numbersFor ns n v h = go (decLt v n)
         List·getD-eq-default (listOf (λ k. getD ns k 0) n) 0 {n = v} (omega (arith, length-listOf (λ k. getD ns k 0) n))
         ∙ sym (List·getD-eq-default ns 0 {n = v} (omega arith))
 
+lent-nodes : (m n c : ℕ) → m ≤ nodeRoom n c → 4 * m ≤ n
+unfolding nodeRoom roomOf
+lent-nodes m n c h = omega arith
+
+lent-counts : (m k n c : ℕ) → m ≤ nodeRoom n c → k ≡ m → k ≤ c
+unfolding nodeRoom roomOf
+lent-counts m k n c h e = omega arith
+
+lent-edges : (m e : ℕ) → m ≤ edgeRoom e → 2 * m ≤ e
+unfolding edgeRoom roomOf
+lent-edges m e h = omega arith
+
+-- every element of a list of sets is small, and so is what stands behind it
+pub small-at : (ns : List ℕ) → ((n : ℕ) → Mem n ns → n < 2 ^ 256) → (i : ℕ) → getD ns i 0 < 2 ^ 256
+small-at ns h i = go (decLt i (length ns))
+  where
+    go : Dec (i < length ns) → getD ns i 0 < 2 ^ 256
+    go (yes l) = h (getD ns i 0) (mem-getD ns i 0 l)
+    go (no l) = subst (λ (x : ℕ). x < 2 ^ 256) (sym (List·getD-eq-default ns 0 {n = i} (omega arith))) (lit< tt)
+
+-- with no full node, only node 0 may be full
+pub only-start : (full : ℕ → Bool) (s : ℕ) (ns : List ℕ) → getD ns 0 s ≡ s → fullNode full ns ≡ none → (t : ℕ) → Mem t ns → So (full t) → t ≡ s
+only-start full s [] first e t m f = absurd (not-nil m)
+only-start full s (n ∷ ns) first e t m f =
+    ⊎-elim (λ q. q ∙ first) (λ k. absurd (false≢true (sym (fullNode-none full n ns e t k) ∙ f))) (cases-cons m)
+
+-- what is stored is read back
+pub read-back : (g : Graph) (n c e : ℕ) (nodes′ counts′ edges′ : List ℕ) (r : MadeGraph) → Makes (given g) n c e nodes′ counts′ edges′ r
+    → (0 < length (g .nodes)) × (length (g .nodes) ≤ nodeRoom n c) × (length (g .edges) ≤ edgeRoom e) × (length (g .counts) ≡ length (g .nodes))
+    → ((i : ℕ) → getD (g .nodes) i 0 < 2 ^ 256)
+    → (setsIn nodes′ (r .graph .nodes) ≡ g .nodes) × ((v : ℕ) → getD counts′ v 0 ≡ getD (g .counts) v 0) × (edgesIn edges′ (r .graph .edges) ≡ g .edges)
+unfolding valueOr
+read-back g n c e nodes′ counts′ edges′ r k h small = (
+  ap₂ setsIn (k .nodes) (k .nodeNumber) ∙ setsIn-wordsFor (g .nodes) n (lent-nodes (length (g .nodes)) n c (h .1)) small,
+  λ v. ap (λ (ws : List ℕ). getD ws v 0) (k .counts) ∙ getD-numbersFor (g .counts) c v (lent-counts (length (g .nodes)) (length (g .counts)) n c (h .1) (h .3)),
+  ap₂ edgesIn (k .edges) (k .edgeNumber) ∙ edgesIn-edgesFor (g .edges) e (lent-edges (length (g .edges)) e (h .2)),
+)
+
 -- the rule of sums, read off the words
 read-sums : (g : Graph) (n c e : ℕ) (nodes′ counts′ edges′ : List ℕ) (r : MadeGraph) → Makes (given g) n c e nodes′ counts′ edges′ r
     → (0 < length (g .nodes)) × (length (g .nodes) ≤ nodeRoom n c) × (length (g .edges) ≤ edgeRoom e) × (length (g .counts) ≡ length (g .nodes))
     → SumRule (length (g .nodes)) (g .edges) (λ v. getD (g .counts) v 0) → SumRule (r .graph .nodes) (edgesIn edges′ (r .graph .edges)) (λ v. getD counts′ v 0)
-unfolding valueOr nodeRoom edgeRoom roomOf
+unfolding valueOr
 read-sums g n c e nodes′ counts′ edges′ r k h sums =
     let es : g .edges ≡ edgesIn edges′ (r .graph .edges) =
-    sym (ap₂ edgesIn (k .edges) (k .edgeNumber) ∙ edgesIn-edgesFor (g .edges) e (omega (arith, h .2))) in
+    sym (ap₂ edgesIn (k .edges) (k .edgeNumber) ∙ edgesIn-edgesFor (g .edges) e (lent-edges (length (g .edges)) e (h .2))) in
     let cs : _≡_ {A = ℕ → ℕ} (λ v. getD (g .counts) v 0) (λ v. getD counts′ v 0) =
-    fun-ext (λ v. sym (ap (λ (ws : List ℕ). getD ws v 0) (k .counts) ∙ getD-numbersFor (g .counts) c v (omega (arith, h .1, h .3)))) in
+    fun-ext (λ v.
+    sym (ap (λ (ws : List ℕ). getD ws v 0) (k .counts)
+    ∙ getD-numbersFor (g .counts) c v (lent-counts (length (g .nodes)) (length (g .counts)) n c (h .1) (h .3)))) in
     subst (λ (count : ℕ → ℕ). SumRule (r .graph .nodes) (edgesIn edges′ (r .graph .edges)) count) cs
     (subst (λ (ds : List (ℕ × ℕ)). SumRule (r .graph .nodes) ds (λ v. getD (g .counts) v 0)) es
     (subst (λ (x : ℕ). SumRule x (g .edges) (λ v. getD (g .counts) v 0)) (sym (k .nodeNumber)) sums))

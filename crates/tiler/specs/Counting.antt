@@ -1,6 +1,6 @@
 -- Definitions: what `count_tilings` and `generate_graph` answer, and what they leave in the lent words, for every input. Layers, path counts, nodes and
 -- edges are those of `covers`, for the boards of the start and the tiles. What stands in quotation marks is 01's, from its sections on the layer
--- count and the graph. Assumes nothing.
+-- count, the graph and the tiling by number. Assumes nothing.
 use mathlib.Core.Path.{_≡_}
 use mathlib.Core.Bool.{Bool, cond}
 use mathlib.Core.List.{List, []}
@@ -160,7 +160,8 @@ countFromGraph complete counts = atNode (λ v. getD counts v 0) complete
 
 -- what refusal 11 asks of a result and graph words, none of its causes standing: "the result has no nodes, its nodes or edges pass the lent words, its
 -- full node is not below the nodes, an edge's parent is not below its child, a child is not below the nodes, node 0's count is not 1, or another's is
--- not the exact sum of its parents' counts over the edges into it" (the last four are `SumRule`)
+-- not the exact sum of its parents' counts over the edges into it" (the last four
+-- are `SumRule`; the lent words are meant by their rooms)
 pub record SoundGraph (r : Result) (nodes counts edges : List ℕ) : Type 0 where
   pub someNodes : 0 < r .nodes
   pub nodesLent : r .nodes ≤ nodeRoom (length nodes) (length counts)

@@ -1,25 +1,27 @@
--- Examples: small plots by the definitions. Assumes nothing.
-use mathlib.Core.Path.{_≡_, refl, sym, subst}
+-- Examples: small plots by the definitions, and one at which theorems are applied. Rests on `Theorems`. Assumes nothing.
+use mathlib.Core.Path.{_≡_, refl, sym, ap, _∙_, subst}
 use mathlib.Core.Logic.{⊎-elim}
-use mathlib.Core.Bool.{false, So}
+use mathlib.Core.Bool.{true, false, So}
 use mathlib.Core.List.{List, [], _∷_, List·Memᴰ·cases-cons as cases-cons, List·Memᴰ·not-nil as not-nil}
 use mathlib.Core.Option.{none, some}
 use Prim.Native.Nat.{ℕ, zero, suc, _-_, _^_, _≤_}
-use lib.Dec.{lit≤}
+use lib.Dec.{lit≤, lit<}
 use lib.ListN.{length}
 use Rattle.cells.specs.declared.Cells.{Cells}
-use Rattle.cells.specs.Words.{number}
+use Rattle.cells.specs.Words.{number, Sound}
 use Rattle.tile.specs.Refusal.{Answer, refused, given, mapAnswer, bindAnswer}
 use Rattle.tile.specs.Direction.{step, rotate, reflect}
 use Rattle.tile.specs.Path.{Path, codesOk, equalCounts, orbit}
-use Rattle.tile.specs.Stored.{Storable, tilesOf}
-use Rattle.tile.specs.StoredLaws.{readTiles-tilesOf}
-use Rattle.tile.specs.EqualLaws.{readEqualTiles-unequal}
+use Rattle.tile.specs.Stored.{Storable, tilesOf, readEqualTiles}
+use Rattle.tile.specs.StoredLaws.{readTiles-tilesOf, readTiles-orbit}
+use Rattle.tile.specs.EqualLaws.{readEqualTiles-equal, readEqualTiles-unequal}
 use Rattle.board.specs.declared.RectangularBoard.{RectangularBoard}
 use Rattle.board.specs.Board.{Board, boardOf, marks, readBoard}
+use Rattle.covers.specs.Cuttings.{Exactly}
 use Rattle.covers.specs.Counts.{Entry}
 use Rattle.tiler.specs.Boards.{setting}
-use Rattle.tiler.specs.Counting.{readPlot, layerRoom, weigh, weighTo, layersAnswer, countTilings, Graph, graphOf, weighGraph, nodeRoom, edgeRoom}
+use Rattle.tiler.specs.Counting.{readPlot, layerRoom, weigh, weighTo, layersAnswer, countTilings, Graph, graphOf, weighGraph, nodeRoom, edgeRoom, generateGraph, countFromGraph}
+use Rattle.tiler.specs.Theorems.{Reaches, path-count-is-number-of-sequences, counts-agree}
 
 -- a board by its size, its fixed and its laid marks
 abbrev board : ℕ → ℕ → ℕ → ℕ → Board
@@ -45,13 +47,15 @@ two-by-two : layersOf (board 2 2 0 0) dominoes 2 ≡ given 2
 unfolding layersOf dominoes step
 two-by-two = refl
 
-two-by-two-graph : graphFor (board 2 2 0 0) dominoes 16 4 8
-    ≡ given record {
-      nodes = 0 ∷ 3 ∷ 65537 ∷ 196611 ∷ [];
-      counts = 1 ∷ 1 ∷ 1 ∷ 2 ∷ [];
-      edges = (0, 1) ∷ (0, 2) ∷ (1, 3) ∷ (2, 3) ∷ [];
-      complete = some 3;
-    }
+abbrev twoByTwo : Graph
+twoByTwo = record {
+  nodes = 0 ∷ 3 ∷ 65537 ∷ 196611 ∷ [];
+  counts = 1 ∷ 1 ∷ 1 ∷ 2 ∷ [];
+  edges = (0, 1) ∷ (0, 2) ∷ (1, 3) ∷ (2, 3) ∷ [];
+  complete = some 3;
+}
+
+two-by-two-graph : graphFor (board 2 2 0 0) dominoes 16 4 8 ≡ given twoByTwo
 unfolding graphFor dominoes step
 two-by-two-graph = refl
 
@@ -176,3 +180,37 @@ room-of-counts = refl
 room-at-most : layerRoom (2 ^ 40) (2 ^ 40) (2 ^ 40) (2 ^ 40) ≡ 16777216
 unfolding layerRoom
 room-at-most = refl
+
+-- ---- the conditions of the theorems can be met: 2 by 2 dominoes are read, counted and given as a graph
+
+equal-dominoes : equalCounts dominoes ≡ true
+unfolding equalCounts dominoes step
+equal-dominoes = refl
+
+dominoes-read : readEqualTiles (tilesOf dominoes) ≡ given dominoes
+unfolding dominoes codesOk
+dominoes-read = readEqualTiles-equal (tilesOf dominoes) dominoes (readTiles-orbit (3 ∷ []) (lit≤ tt) refl) equal-dominoes
+
+two-by-two-plot : readPlot (rectangle 2 2) (tilesOf dominoes) ≡ given (board 2 2 0 0, dominoes)
+unfolding readPlot bindAnswer mapAnswer number
+two-by-two-plot = rw dominoes-read
+
+two-by-two-counted : countTilings (rectangle 2 2) (tilesOf dominoes) 2 ≡ given 2
+unfolding countTilings layersOf bindAnswer
+two-by-two-counted = ap (λ (a : Answer (Board × List Path)). bindAnswer a (λ p. layersOf (p .0) (p .1) 2)) two-by-two-plot ∙ two-by-two
+
+two-by-two-given : generateGraph (rectangle 2 2) (tilesOf dominoes) 16 4 8 ≡ given twoByTwo
+unfolding generateGraph graphFor bindAnswer
+two-by-two-given = ap (λ (a : Answer (Board × List Path)). bindAnswer a (λ p. graphFor (p .0) (p .1) 16 4 8)) two-by-two-plot ∙ two-by-two-graph
+
+-- the set of no cells has words of 64 bits
+no-marks : Sound (set 0)
+no-marks = record { s0 = lit< tt; s1 = lit< tt; s2 = lit< tt; s3 = lit< tt }
+
+-- the last node's path count: two child sequences reach the full board
+two-sequences : Exactly 2 (Reaches (rectangle 2 2) no-marks no-marks (tilesOf dominoes) 196611)
+two-sequences = path-count-is-number-of-sequences (rectangle 2 2) no-marks no-marks (tilesOf dominoes) 16 4 8 twoByTwo two-by-two-given 3 (lit< tt)
+
+-- both counts are 2
+both-counts : countFromGraph (twoByTwo .complete) (twoByTwo .counts) ≡ 2
+both-counts = counts-agree (rectangle 2 2) no-marks no-marks (tilesOf dominoes) 2 2 two-by-two-counted 16 4 8 twoByTwo two-by-two-given

@@ -7,11 +7,13 @@ use mathlib.Core.Logic.{_↔_}
 use mathlib.Core.Bool.{false, So}
 use mathlib.Core.List.{List, _∷_, flatMap, List·Memᴰ as Mem}
 use mathlib.Core.Option.{none, some}
-use Prim.Native.Nat.{ℕ, _≤_, _<_}
+use Prim.Native.Nat.{ℕ, _^_, _≤_, _<_}
 use native.Mathlib.Omega.{arith}
 use lib.Dec.{eqb}
 use lib.ListN.{length, getD}
-use Rattle.cells.specs.Firsts.{firsts}
+use Rattle.cells.specs.Firsts.{Once, firsts}
+use Rattle.cells.specs.Lists.{setsIn}
+use Rattle.graph.specs.Graph.{edgesIn}
 use Rattle.cells.specs.Words.{Sound}
 use Rattle.cells.specs.WordLaws.{number-lt}
 use Rattle.tile.specs.declared.Tiles.{Tiles}
@@ -22,15 +24,15 @@ use Rattle.board.specs.Board.{boardOf, boardAt, isFull}
 use Rattle.board.specs.Children.{children}
 use Rattle.covers.specs.Cuttings.{Exactly, childBoards, Laws, EqualSteps}
 use Rattle.covers.specs.Counts.{ChildSequence, SumRule, counts, entriesOf, graphCount, graphEdges, nodesOf, pathCountOf}
-use Rattle.covers.specs.Theorems.{nodes-are-reached, nodes-by-first-finding, graph-sum-rule, graph-edges-are-children, graph-tilings, full-counts-none, counts-are-equal, none-reached-counts-none, count-is-child-sequences}
-use Rattle.covers.specs.SettingLaws.{some-node}
+use Rattle.covers.specs.Theorems.{nodes-are-reached, nodes-by-first-finding, graph-sum-rule, graph-edges-are-children, graph-edges-once, graph-tilings, full-counts-none, counts-are-equal, none-reached-counts-none, count-is-child-sequences}
+use Rattle.covers.specs.SettingLaws.{some-node, start-node, node-ok}
 use Rattle.tiler.specs.declared.MadeGraph.{MadeGraph}
 use Rattle.tiler.specs.Boards.{setting, settingOf, startOf}
 use Rattle.tiler.specs.Counting.{countLimit, tooLarge, roomOf, layersAnswer, countTilings, Graph, graphOf, weighGraph, nodeRoom, edgeRoom, generateGraph, completeNode, Makes, SoundGraph, GeneratesGraph, countFromGraph}
 use Rattle.tiler.specs.Inner.{Accepted, stepOf}
 use Rattle.tiler.specs.SettingLaws.{children-are}
 use Rattle.tiler.specs.AcceptedLaws.{accepted-laws, accepted-steps, accepted-start, accepted-at}
-use Rattle.tiler.specs.AnswerLaws.{from-read, weighed-graph, counted-layers, small-counts, node-behind, given-graph, read-numbers, as-many, sound-words}
+use Rattle.tiler.specs.AnswerLaws.{from-read, weighed-graph, counted-layers, small-counts, node-behind, given-graph, read-numbers, as-many, sound-words, read-back, only-start, small-at}
 
 -- the children of the board of a number: those of `place_tile`
 abbrev pub childrenAt : RectangularBoard → Tiles → ℕ → List ℕ
@@ -115,6 +117,23 @@ module _ (b : RectangularBoard) (fixed : Sound (b .fixed)) (laid : Sound (b .lai
         subst (λ (k : Graph). (0 < v) × (v < length (k .nodes)) × So (isFull (boardAt (boardOf b) (getD (k .nodes) v (startOf b))))) (is .0)
         (node-behind (λ n. isFull (boardAt (boardOf b) n)) (nodesOf (settingOf b ts) (startOf b)) v (startOf b) (ap (λ (k : Graph). k .complete) (is .0) ∙ e))
 
+    -- With none, no full board is reached but the start itself.
+    pub no-full-node : g .complete ≡ none → (t : ℕ) → Mem t (g .nodes) → So (isFull (boardAt (boardOf b) t)) → t ≡ startOf b
+    unfolding graphOf setting
+    no-full-node e t m full =
+        only-start (λ n. isFull (boardAt (boardOf b) n)) (startOf b) (nodesOf (settingOf b ts) (startOf b)) (start-node (settingOf b ts) laws (startOf b) ok)
+        (ap (λ (k : Graph). k .complete) (is .0) ∙ e) t (subst (Mem t) nodes-is m) full
+
+    -- Each edge stands once.
+    pub edges-once : Once (g .edges)
+    unfolding graphOf
+    edges-once = subst (λ (k : Graph). Once (k .edges)) (is .0) (graph-edges-once (settingOf b ts) laws (startOf b) ok (stepOf (pathsIn ts)) steps)
+
+    -- each node is a set of 256 cells
+    nodes-small : (i : ℕ) → getD (g .nodes) i 0 < 2 ^ 256
+    unfolding setting
+    nodes-small i = small-at (g .nodes) (λ t m. node-ok (settingOf b ts) laws (startOf b) ok t (subst (Mem t) nodes-is m) .small) i
+
     -- the rule of sums, and the rooms
     sums-hold : SumRule (length (g .nodes)) (g .edges) (λ v. getD (g .counts) v 0)
     unfolding graphOf
@@ -135,6 +154,13 @@ module _ (b : RectangularBoard) (fixed : Sound (b .fixed)) (laid : Sound (b .lai
     stored-graph : (g : Graph) → generateGraph b ts (length nodes) (length counts) (length edges) ≡ given g
         → Makes (given g) (length nodes) (length counts) (length edges) nodes′ counts′ edges′ r
     stored-graph g e = subst (λ (a : Answer Graph). Makes a (length nodes) (length counts) (length edges) nodes′ counts′ edges′ r) e made
+
+    -- They read back as the graph.
+    pub words-are-the-graph : (g : Graph) → generateGraph b ts (length nodes) (length counts) (length edges) ≡ given g
+        → (setsIn nodes′ (r .graph .nodes) ≡ g .nodes) × ((v : ℕ) → getD counts′ v 0 ≡ getD (g .counts) v 0) × (edgesIn edges′ (r .graph .edges) ≡ g .edges)
+    words-are-the-graph g e =
+        read-back g (length nodes) (length counts) (length edges) nodes′ counts′ edges′ r (stored-graph g e) (rooms-hold (length nodes) (length counts) (length edges) g e)
+        (nodes-small (length nodes) (length counts) (length edges) g e)
 
     -- Our own graph meets every condition of refusal 11.
     pub own-graph-is-sound : verdictNumber (r .verdict) ≡ 0 → SoundGraph (r .graph) nodes′ counts′ edges′

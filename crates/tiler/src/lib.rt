@@ -44,9 +44,10 @@ pub struct MadeGraph {
 }
 
 // The number of child sequences that reach the full board, layer by layer. Two layers are lent, each
-// as boards, four words a board, and as many counts; all their words are zero afterwards. Refusals:
-// 4, 6, 5, 7; then, of the earliest layer that has one, 8 if its boards pass the room, else 9 if a
-// path count is 2^64 or more.
+// as boards, four words a board, and counts; all their words are zero afterwards. The room is the
+// least number of boards that the four slices hold, at most 16,777,216. Refusals: 4, 6, 5, 7; then,
+// of the earliest layer that has one, 8 if its boards pass the room, else 9 if a path count is 2^64
+// or more.
 pub fn count_tilings(
     board: RectangularBoard,
     tiles: Tiles,
@@ -68,7 +69,7 @@ pub fn count_tilings(
 // The graph of the boards that are reached: nodes, four words each, by first finding; beside each its
 // path count; and edges, as pairs of a parent and a child. The words behind them are zero, and all of
 // them after a refusal: 4, 6, 5, 7, then 8 for the nodes, 10 for the edges and 9 for a path count,
-// each over the whole graph.
+// each over the whole graph. A room is at most 16,777,216.
 pub fn generate_graph(
     board: RectangularBoard,
     tiles: Tiles,
