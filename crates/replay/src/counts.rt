@@ -12,7 +12,7 @@ use graph::Edges;
 use tile::Tiles;
 use tile::refusal::Verdict;
 use tiler::Count;
-use tiler::Graph;
+use tiler::GraphResult;
 ghost use Prim.Native.Nat.{_≤_};
 
 // layers WIDTH HEIGHT FIXED LAID TILES [ROOM]: the layer count. The room is 512 boards a layer unless
@@ -132,7 +132,7 @@ fn is_zero_from(words: &[u64], from: usize) -> bool {
 }
 
 // Whether the edges of the nodes in order, as get_edges gives them, are all the stored ones.
-fn has_edges(graph: Graph, edges: &[u64]) -> bool {
+fn has_edges(graph: GraphResult, edges: &[u64]) -> bool {
     let n = graph.nodes;
     let e = graph.edges;
     let mut at = 0;

@@ -10,7 +10,7 @@ use tile::direction::Code;
 use tile::refusal::Refusal;
 use tile::refusal::Verdict;
 use tiler::Complete;
-use tiler::Graph;
+use tiler::GraphResult;
 
 pub fn bytes(text: &[u8]) {
     io::write_all(STDOUT_FILENO, text);
@@ -183,7 +183,7 @@ fn complete(node: Complete) {
 
 // A graph: its count, its numbers of nodes and of edges, the full board's node, the marks of each node
 // and the edges as they are stored.
-pub fn graph(shown: Graph, nodes: &[u64], counts: &[u64], edges: &[u64]) {
+pub fn graph(shown: GraphResult, nodes: &[u64], counts: &[u64], edges: &[u64]) {
     let node = shown.complete;
     count(tiler::count_tilings_from_graph(shown, counts));
     bytes(b" ");

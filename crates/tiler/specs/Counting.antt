@@ -23,7 +23,7 @@ use Rattle.tiler.specs.declared.Count.{Count}
 use Rattle.tiler.specs.declared.Count.the-variants as C
 use Rattle.tiler.specs.declared.Complete.{Complete}
 use Rattle.tiler.specs.declared.Complete.the-variants as N
-use Rattle.tiler.specs.declared.Graph.{Graph as Result}
+use Rattle.tiler.specs.declared.GraphResult.{GraphResult}
 use Rattle.tiler.specs.declared.MadeGraph.{MadeGraph}
 use Rattle.tiler.specs.Boards.{setting}
 
@@ -162,7 +162,7 @@ countFromGraph complete counts = atNode (λ v. getD counts v 0) complete
 -- full node is not below the nodes, an edge's parent is not below its child, a child is not below the nodes, node 0's count is not 1, or another's is
 -- not the exact sum of its parents' counts over the edges into it" (the last four
 -- are `SumRule`; the lent words are meant by their rooms)
-pub record SoundGraph (r : Result) (nodes counts edges : List ℕ) : Type 0 where
+pub record SoundGraph (r : GraphResult) (nodes counts edges : List ℕ) : Type 0 where
   pub someNodes : 0 < r .nodes
   pub nodesLent : r .nodes ≤ nodeRoom (length nodes) (length counts)
   pub edgesLent : r .edges ≤ edgeRoom (length edges)

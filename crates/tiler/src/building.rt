@@ -2,7 +2,7 @@
 // edges. Private helpers; they ask that board and tiles have been tested, and that the rooms are lent:
 // `room` is the nodes' room, `space` the edges' room (`room` in `add_edge`, which has no other).
 use crate::Complete;
-use crate::Graph;
+use crate::GraphResult;
 use crate::MadeGraph;
 use crate::layers;
 use crate::plot;
@@ -250,7 +250,7 @@ pub fn refused(
     list::clear_from(edges, 0);
     MadeGraph {
         verdict: Verdict::Refused(refusal),
-        graph: Graph {
+        graph: GraphResult {
             nodes: 0,
             edges: 0,
             complete: Complete::Nothing,
@@ -274,7 +274,7 @@ fn finished(
     list::clear_from(edges, 2 * e);
     MadeGraph {
         verdict: Verdict::Accepted,
-        graph: Graph {
+        graph: GraphResult {
             nodes: n,
             edges: e,
             complete,

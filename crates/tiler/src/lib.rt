@@ -31,7 +31,7 @@ pub enum Complete {
 
 // What comes back of a graph whose nodes, counts and edges are in lent words: how many nodes and
 // edges there are, and the full board's node.
-pub struct Graph {
+pub struct GraphResult {
     pub nodes: usize,
     pub edges: usize,
     pub complete: Complete,
@@ -40,7 +40,7 @@ pub struct Graph {
 // A graph, or a refusal and a graph of no nodes.
 pub struct MadeGraph {
     pub verdict: Verdict,
-    pub graph: Graph,
+    pub graph: GraphResult,
 }
 
 // The number of child sequences that reach the full board, layer by layer. Two layers are lent, each
@@ -88,7 +88,7 @@ pub fn generate_graph(
 
 // The graph count: the path count of the full board's node, 0 with none, of any result and any count
 // words.
-pub fn count_tilings_from_graph(graph: Graph, counts: &[u64]) -> u64
+pub fn count_tilings_from_graph(graph: GraphResult, counts: &[u64]) -> u64
     ensures { λ r. ⌜ r ≡ countFromGraph (completeNode (graph .complete)) (now (counts .entry)) ⌝ }
 {
     let complete = graph.complete;
