@@ -160,8 +160,7 @@ countFromGraph complete counts = atNode (λ v. getD counts v 0) complete
 
 -- what refusal 11 asks of a result and graph words, none of its causes standing: "the result has no nodes, its nodes or edges pass the lent words, its
 -- full node is not below the nodes, an edge's parent is not below its child, a child is not below the nodes, node 0's count is not 1, or another's is
--- not the exact sum of its parents' counts over the edges into it" (the last four
--- are `SumRule`; the lent words are meant by their rooms)
+-- not the exact sum of its parents' counts over the edges into it" (the last four are `SumRule`; the lent words are meant by their rooms)
 pub record SoundGraph (r : GraphResult) (nodes counts edges : List ℕ) : Type 0 where
   pub someNodes : 0 < r .nodes
   pub nodesLent : r .nodes ≤ nodeRoom (length nodes) (length counts)
