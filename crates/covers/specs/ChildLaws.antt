@@ -3,12 +3,23 @@
 use mathlib.Core.Path.{_≡_, refl, sym, ap, ap₂, subst, _∙_}
 use mathlib.Core.Bool.{So}
 use mathlib.Core.List.{List, [], _∷_, nil≢cons, cons≢nil, head-eq-of-cons-eq, tail-eq-of-cons-eq, List·Memᴰ as Mem, Memᴰ·cast as cast, Memᴰ·map as mem-map, Memᴰ·of-map as of-map}
-use Prim.Native.Nat.{ℕ, _<_, _+_}
+use Prim.Native.Nat.{ℕ, suc, _<_, _≤_, _+_}
+use native.Mathlib.Omega.{arith}
+use lib.ListN.{length}
 use Rattle.cells.specs.Firsts.{Once}
 use Rattle.cells.specs.MemberLaws.{once-map}
 use Rattle.covers.specs.Cuttings.{Numbering, Setting, Laws, FitsOn, childBoards, PlacingSequence, EqualSteps}
 use Rattle.covers.specs.Counts.{Steps, ChildSequence, piecesFrom, piecesOf}
 use Rattle.covers.specs.NumberingLaws.{carry}
+
+-- a list of boards has one board more than steps
+length-piecesFrom : {B P : Type 0} (step : B → B → P) (t : B) (us : List B) → length (piecesFrom step t us) ≡ length us
+length-piecesFrom step t [] = refl
+length-piecesFrom step t (u ∷ us) = ap suc (length-piecesFrom step u us)
+
+pub length-piecesOf : {B P : Type 0} (step : B → B → P) (ts : List B) → length ts ≤ length (piecesOf step ts) + 1
+length-piecesOf step [] = omega arith
+length-piecesOf step (t ∷ ts) = omega (arith, length-piecesFrom step t ts)
 
 module _ {B P : Type 0} (G : Setting B P) (L : Laws G) where
   -- ---- a child
@@ -47,11 +58,11 @@ module _ {B P : Type 0} (G : Setting B P) (L : Laws G) where
 
   -- a placing sequence is made of the steps of a child sequence to a full board
   pub sequence-children : (s : B) (ps : List P) → G .Ok s → PlacingSequence G s ps
-      → (v : B) × (xs : List B) × G .Ok v × So (G .full v) × ChildSequence (childBoards G) s v xs × (piecesOf G xs ≡ ps)
+      → (v : B) × (xs : List B) × G .Ok v × So (G .full v) × ChildSequence (childBoards G) s v xs × (piecesOf (G .stepPiece) xs ≡ ps)
   sequence-children s ps ok r = let k = go s ps ok r in (k .0, s ∷ k .1, k .2, k .3, (refl, k .4), k .5)
     where
       go : (s : B) (ps : List P) → G .Ok s → PlacingSequence G s ps
-          → (v : B) × (xs : List B) × G .Ok v × So (G .full v) × Steps (λ s t. Mem t (childBoards G s)) s xs v × (piecesFrom G s xs ≡ ps)
+          → (v : B) × (xs : List B) × G .Ok v × So (G .full v) × Steps (λ s t. Mem t (childBoards G s)) s xs v × (piecesFrom (G .stepPiece) s xs ≡ ps)
       go s [] ok r = (s, [], ok, r, refl, refl)
       go s (p ∷ ps) ok r =
           let k = go (G .lay s p) ps (L .lay-ok s p ok (L .piece-fits s p ok (r .0))) (r .1) in
@@ -62,14 +73,14 @@ module _ {B P : Type 0} (G : Setting B P) (L : Laws G) where
     Way s xs = Steps (λ s t. Mem t (childBoards G s)) s xs v
 
     -- the pieces of the steps of a child sequence to a full board are a placing sequence
-    steps-sequence : (s : B) (xs : List B) → G .Ok s → So (G .full v) → Way s xs → PlacingSequence G s (piecesFrom G s xs)
+    steps-sequence : (s : B) (xs : List B) → G .Ok s → So (G .full v) → Way s xs → PlacingSequence G s (piecesFrom (G .stepPiece) s xs)
     steps-sequence s [] ok h w = subst (λ (z : B). So (G .full z)) (sym w) h
     steps-sequence s (t ∷ xs) ok h w =
         let r = child-fits s t ok (w .0) in
-        (r .2, subst (λ (z : B). PlacingSequence G z (piecesFrom G t xs)) (sym (r .1)) (steps-sequence t xs (child-ok s t ok (w .0)) h (w .1)))
+        (r .2, subst (λ (z : B). PlacingSequence G z (piecesFrom (G .stepPiece) t xs)) (sym (r .1)) (steps-sequence t xs (child-ok s t ok (w .0)) h (w .1)))
 
     -- two child sequences with the same pieces are one
-    steps-unique : (s : B) (xs ys : List B) → G .Ok s → Way s xs → Way s ys → piecesFrom G s xs ≡ piecesFrom G s ys → xs ≡ ys
+    steps-unique : (s : B) (xs ys : List B) → G .Ok s → Way s xs → Way s ys → piecesFrom (G .stepPiece) s xs ≡ piecesFrom (G .stepPiece) s ys → xs ≡ ys
     steps-unique s [] [] ok a b e = refl
     steps-unique s [] (y ∷ ys) ok a b e = absurd (nil≢cons e)
     steps-unique s (x ∷ xs) [] ok a b e = absurd (cons≢nil e)
@@ -77,28 +88,28 @@ module _ {B P : Type 0} (G : Setting B P) (L : Laws G) where
         let h : x ≡ y = sym (child-fits s x ok (a .0) .1) ∙ ap (G .lay s) (head-eq-of-cons-eq e) ∙ child-fits s y ok (b .0) .1 in
         ap₂ _∷_ h
         (steps-unique x xs ys (child-ok s x ok (a .0)) (a .1) (subst (λ (z : B). Way z ys) (sym h) (b .1))
-        (tail-eq-of-cons-eq e ∙ ap (λ (z : B). piecesFrom G z ys) (sym h)))
+        (tail-eq-of-cons-eq e ∙ ap (λ (z : B). piecesFrom (G .stepPiece) z ys) (sym h)))
 
   -- so a numbering of the child sequences to the full board is one of the placing sequences
   pub sequences-numbered : {n : ℕ} {f : ℕ → List B} (s v : B) → G .Ok s → G .Ok v → So (G .full v)
-      → Numbering (ChildSequence (childBoards G) s v) n f → Numbering (PlacingSequence G s) n (λ m. piecesOf G (f m))
-  sequences-numbered s v ok okv h F = carry (piecesOf G) to inj onto F
+      → Numbering (ChildSequence (childBoards G) s v) n f → Numbering (PlacingSequence G s) n (λ m. piecesOf (G .stepPiece) (f m))
+  sequences-numbered s v ok okv h F = carry (piecesOf (G .stepPiece)) to inj onto F
     where
-      to : (xs : List B) → ChildSequence (childBoards G) s v xs → PlacingSequence G s (piecesOf G xs)
+      to : (xs : List B) → ChildSequence (childBoards G) s v xs → PlacingSequence G s (piecesOf (G .stepPiece) xs)
       to [] w = absurd w
       to (x ∷ xs) w =
-          subst (λ (z : B). PlacingSequence G z (piecesFrom G x xs)) (w .0) (steps-sequence v x xs (subst (G .Ok) (sym (w .0)) ok) h (w .1))
+          subst (λ (z : B). PlacingSequence G z (piecesFrom (G .stepPiece) x xs)) (w .0) (steps-sequence v x xs (subst (G .Ok) (sym (w .0)) ok) h (w .1))
 
-      inj : (xs ys : List B) → ChildSequence (childBoards G) s v xs → ChildSequence (childBoards G) s v ys → piecesOf G xs ≡ piecesOf G ys → xs ≡ ys
+      inj : (xs ys : List B) → ChildSequence (childBoards G) s v xs → ChildSequence (childBoards G) s v ys → piecesOf (G .stepPiece) xs ≡ piecesOf (G .stepPiece) ys → xs ≡ ys
       inj [] ys w u e = absurd w
       inj (x ∷ xs) [] w u e = absurd u
       inj (x ∷ xs) (y ∷ ys) w u e =
           let k : x ≡ y = w .0 ∙ sym (u .0) in
           ap₂ _∷_ k
           (steps-unique v x xs ys (subst (G .Ok) (sym (w .0)) ok) (w .1) (subst (λ (z : B). Way v z ys) (sym k) (u .1))
-          (e ∙ ap (λ (z : B). piecesFrom G z ys) (sym k)))
+          (e ∙ ap (λ (z : B). piecesFrom (G .stepPiece) z ys) (sym k)))
 
-      onto : (ps : List P) → PlacingSequence G s ps → (xs : List B) × ChildSequence (childBoards G) s v xs × (piecesOf G xs ≡ ps)
+      onto : (ps : List P) → PlacingSequence G s ps → (xs : List B) × ChildSequence (childBoards G) s v xs × (piecesOf (G .stepPiece) xs ≡ ps)
       onto ps r =
           let k = sequence-children s ps ok r in
           (k .1, subst (λ (z : B). ChildSequence (childBoards G) s z (k .1)) (L .full-one (k .0) v (k .2) okv (k .3) h) (k .4), k .5)

@@ -7,7 +7,7 @@ use mathlib.Core.Logic.{_⊎_, ⊎-elim}
 use mathlib.Core.Bool.{Bool, true, false, So, cond, false≢true}
 use mathlib.Core.Option.{Option, none, some, Option·none-ne-some, Option·some-injective}
 use mathlib.Core.List.{List, [], _∷_, _++_, map, flatMap, List·Memᴰ as Mem, List·Memᴰ·cases-cons as cases-cons, List·Memᴰ·not-nil as not-nil}
-use Prim.Native.Nat.{ℕ, zero, suc, _+_, _<_}
+use Prim.Native.Nat.{ℕ, zero, suc, _+_, _≤_, _<_}
 use native.Mathlib.Nat.{add-zero}
 use native.Mathlib.Omega.{arith}
 use lib.ListN.{length, getD}
@@ -17,8 +17,8 @@ use Rattle.covers.specs.Cuttings.{Numbering, Exactly, Setting, CuttingOf
 use Rattle.covers.specs.Counts.{ChildSequence, Entry, boards, sumOf, shares, gather, weight, layer, layers, numberIn, tiling, fullCount, fullFrom, fullNode, atNode, layerOf, entriesOf, nodesOf, pathCountOf, graphEdges, layerCountTo, layerCount, graphCount, piecesOf, tilingOf, cuttingAt}
 use Rattle.covers.specs.NumberingLaws.{numbering-none}
 use Rattle.covers.specs.SumLaws.{sum-append, sum-ext, sum-zero}
-use Rattle.covers.specs.SequenceLaws.{full-pieces, cuttings-numbered}
-use Rattle.covers.specs.ChildLaws.{sequence-children, sequences-numbered}
+use Rattle.covers.specs.SequenceLaws.{full-pieces, sequence-length, cuttings-numbered}
+use Rattle.covers.specs.ChildLaws.{length-piecesOf, sequence-children, sequences-numbered}
 use Rattle.covers.specs.GatherLaws.{mem-boards, mem-entry, weight-entry}
 use Rattle.covers.specs.LayerLaws.{layers-first}
 use Rattle.covers.specs.SettingLaws.{node-ok, node-reached}
@@ -182,7 +182,7 @@ module _ {B P : Type 0} (G : Setting B P) (L : Laws G) (a : ℕ) (E : EqualSteps
 
     -- the pieces of the steps of the tiling with the number m to a node, or to node 0 with none
     readTo : Option ℕ → ℕ → List P
-    readTo o m = piecesOf G (map (λ v. getD (nodesOf G s) v s) (tiling (graphEdges G s) (pathCountOf G s) (atNode (λ v. v) o) m))
+    readTo o m = piecesOf (G .stepPiece) (map (λ v. getD (nodesOf G s) v s) (tiling (graphEdges G s) (pathCountOf G s) (atNode (λ v. v) o) m))
 
     no-sequence : fullNode (G .full) (nodesOf G s) ≡ none → (ps : List P) → PlacingSequence G s ps → ⊥
     no-sequence e ps r =
@@ -198,9 +198,14 @@ module _ {B P : Type 0} (G : Setting B P) (L : Laws G) (a : ℕ) (E : EqualSteps
         sequences-numbered G L s (getD (nodesOf G s) v s) ok o (r .1) (tilings-numbered G L a E s ok v (r .0))
 
     -- the numbers below the graph count number the placing sequences: the pieces that the steps of a tiling mark, in order
-    pub sequences-by-number : Numbering (PlacingSequence G s) (graphCount G s) (λ m. piecesOf G (tilingOf G s m))
+    pub sequences-by-number : Numbering (PlacingSequence G s) (graphCount G s) (λ m. piecesOf (G .stepPiece) (tilingOf G s m))
     unfolding graphCount readTo
     sequences-by-number = numbered-to (fullNode (G .full) (nodesOf G s)) refl
+
+    -- a tiling by number has at most one board more than there are free cells
+    pub tiling-length : (m : ℕ) → m < graphCount G s → length (tilingOf G s m) ≤ G .freeCount s + 1
+    tiling-length m h =
+        omega (arith, sequence-length G L s (piecesOf (G .stepPiece) (tilingOf G s m)) ok (sequences-by-number .each m h), length-piecesOf (G .stepPiece) (tilingOf G s m))
 
     -- and, where only boards without a cutting are pruned, the cuttings: the set of those pieces
     pub cuttings-by-number : SoundPruning G → Numbering (CuttingOf G s) (graphCount G s) (cuttingAt G s)

@@ -137,11 +137,11 @@ unfoldable pub atNode : (ℕ → ℕ) → Option ℕ → ℕ
 atNode f none = 0
 atNode f (some v) = f v
 
-module _ {B P : Type 0} (G : Setting B P) where
-  -- the pieces of the steps of a list of boards
+-- the pieces of the steps of a list of boards, `step` giving the piece of a step
+module _ {B P : Type 0} (step : B → B → P) where
   abbrev pub piecesFrom : B → List B → List P
   piecesFrom t [] = []
-  piecesFrom t (u ∷ us) = G .stepPiece t u ∷ piecesFrom u us
+  piecesFrom t (u ∷ us) = step t u ∷ piecesFrom u us
 
   abbrev pub piecesOf : List B → List P
   piecesOf [] = []
@@ -185,4 +185,4 @@ module _ {B P : Type 0} (G : Setting B P) (s : B) where
   tilingOf m = map (λ v. getD nodesOf v s) (tiling graphEdges pathCountOf (atNode (λ v. v) (fullNode (G .full) nodesOf)) m)
 
   abbrev pub cuttingAt : ℕ → P → Bool
-  cuttingAt m = holds (G .samePiece) (piecesOf G (tilingOf m))
+  cuttingAt m = holds (G .samePiece) (piecesOf (G .stepPiece) (tilingOf m))

@@ -7,6 +7,7 @@ use mathlib.Core.Bool.{Bool, true, false, So, cond, false≢true}
 use mathlib.Core.List.{List, [], _∷_, List·Memᴰ as Mem, List·Memᴰ·head as here, List·Memᴰ·tail as there, List·Memᴰ·cases-cons as cases-cons}
 use Prim.Native.Nat.{ℕ, zero, suc, _≤_, _<_}
 use native.Mathlib.Omega.{arith}
+use lib.ListN.{length}
 use Rattle.cells.specs.Firsts.{Once, Tells, holds}
 use Rattle.cells.specs.FirstsLaws.{so-eq, holds-iff}
 use Rattle.cells.specs.MemberLaws.{no-member}
@@ -158,6 +159,14 @@ module _ {B P : Type 0} (G : Setting B P) (L : Laws G) where
     λ m. first-once s p ps ok r (in-set ps p .1 m),
     sequence-once (G .lay s p) ps (L .lay-ok s p ok (L .piece-fits s p ok (r .0))) (r .1),
   )
+
+  -- a placing sequence has no more pieces than there are free cells
+  pub sequence-length : (s : B) (ps : List P) → G .Ok s → PlacingSequence G s ps → length ps ≤ G .freeCount s
+  sequence-length s [] ok r = omega arith
+  sequence-length s (p ∷ ps) ok r =
+      let f = L .piece-fits s p ok (r .0) in
+      let rest = sequence-length (G .lay s p) ps (L .lay-ok s p ok f) (r .1) in
+      omega (arith, L .lay-count s p ok f)
 
   -- the first piece is the one that covers the chosen cell
   first-same : (s : B) (p q : P) (ps qs : List P) → G .Ok s → PlacingSequence G s (p ∷ ps) → PlacingSequence G s (q ∷ qs)

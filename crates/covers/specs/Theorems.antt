@@ -151,7 +151,7 @@ module _ {B P : Type 0} (G : Setting B P) (L : Laws G) (a : ℕ) (E : EqualSteps
   count-is-child-sequences = full-sequences G L a E s ok notFull
 
   -- and the number of placing sequences, whatever is pruned: the pieces of the tilings by number, in order.
-  pub tilings-are-sequences : Numbering (PlacingSequence G s) (graphCount G s) (λ m. piecesOf G (tilingOf G s m))
+  pub tilings-are-sequences : Numbering (PlacingSequence G s) (graphCount G s) (λ m. piecesOf (G .stepPiece) (tilingOf G s m))
   tilings-are-sequences = sequences-by-number G L a E s ok notFull
 
   -- Where only boards without a cutting are pruned, the pieces of the tilings by number are the cuttings, each once and all.

@@ -3,7 +3,7 @@
 use mathlib.Core.Path.{_≡_, refl, sym, ap, subst, _∙_}
 use mathlib.Core.Logic.{_⊎_, inl, inr, _↔_, ⊎-elim}
 use mathlib.Core.Bool.{Bool, true, false, cond}
-use mathlib.Core.List.{List, [], _∷_, _++_, append-cancel-right, List·Memᴰ as Mem, List·Memᴰ·head as here, List·Memᴰ·tail as there, List·Memᴰ·cases-cons as cases-cons, List·Memᴰ·not-nil as not-nil, Memᴰ·cast as cast}
+use mathlib.Core.List.{List, [], _∷_, _++_, append-cancel-right, List·Memᴰ as Mem, List·Memᴰ·head as here, List·Memᴰ·tail as there, List·Memᴰ·cases-cons as cases-cons, List·Memᴰ·not-nil as not-nil, List·Memᴰ·append-cases as append-cases, Memᴰ·cast as cast}
 use Prim.Native.Nat.{ℕ, zero, suc, _+_, _-_, _≤_, _<_}
 use native.Mathlib.Omega.{arith}
 use borrow.Author.Tests.{eqb-true, eqb-false, ne-eqb, ltb-true, ltb-false, lt-ltb, le-ltb}
@@ -212,7 +212,8 @@ module _ (n : ℕ) (es : List (ℕ × ℕ)) (count : ℕ → ℕ) (S : SumRule n
   lower : (v p : ℕ) → Mem p (parentsOf es v) → p < v
   lower v p m = S .rises p v (mem-parentsOf es p v .0 m) .0
 
-  back-in : (v m : ℕ) → suc v < n → m < count (suc v)
+  -- a number of another node gives a parent, which stands before it, and a number of the parent
+  pub back-in : (v m : ℕ) → suc v < n → m < count (suc v)
       → let t = back es count (suc v) m in (t .0 < suc v) × (t .1 < count (t .0)) × Mem (t .0) (parentsOf es (suc v))
   back-in v m l h =
       let r = turn-in count (parentsOf es (suc v)) m (omega (arith, S .sums (suc v) (omega arith) l)) in
@@ -282,6 +283,21 @@ module _ (n : ℕ) (es : List (ℕ × ℕ)) (count : ℕ → ℕ) (S : SumRule n
           let h : t .0 < count (suc v) = omega (arith, t .1, S .sums (suc v) (omega arith) l) in
           let same = ap (λ (x : ℕ × ℕ). tiling es count (x .0) (x .1)) (t .2) ∙ r .2 in
           (t .0, h, tiling-next v (t .0) l h ∙ ap (λ (ys : List ℕ). ys ++ suc v ∷ []) same ∙ c .2)
+
+  -- each node of a tiling is one of the n
+  pub tiling-below : (v m : ℕ) → v < n → m < count v → (u : ℕ) → Mem u (tiling es count v m) → u < n
+  unfolding tiling
+  tiling-below v m l h = below n first next v l m h
+    where
+      first : (m : ℕ) → m < count 0 → (u : ℕ) → Mem u (tiling es count 0 m) → u < n
+      first m h u i = ⊎-elim (λ e. omega arith) (λ k. absurd (not-nil k)) (cases-cons i)
+
+      next : Next n (λ v. (m : ℕ) → m < count v → (u : ℕ) → Mem u (tiling es count v m) → u < n)
+      next v l rec m h u i =
+          let t = back es count (suc v) m in
+          let r = back-in v m l h in
+          ⊎-elim (λ k. rec (t .0) (r .0) (t .1) (r .1) u k) (λ k. ⊎-elim (λ e. omega arith) (λ z. absurd (not-nil z)) (cases-cons k))
+          (append-cases (tiling es count (t .0) (t .1)) (subst (Mem u) (tiling-next v m l h) i))
 
   -- ---- where each edge stands once, the tilings by number are the chains, each once
 
