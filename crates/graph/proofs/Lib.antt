@@ -1,2 +1,4 @@
 -- What belongs to no one function's proof.
 pub mod GraphLoops
+pub mod CheckLaws
+pub mod WalkLoops

@@ -12,13 +12,13 @@ use native.Mathlib.Omega.{arith}
 use borrow.Author.Tests.{lt-ltb, le-ltb, eq-eqb, ne-eqb}
 use lib.Dec.{eqb, ltb}
 use lib.Pow.{pow-pos}
-use lib.ListN.{length, getD, set, length-set, List·getD-eq-default}
+use lib.ListN.{length, getD, set, take, length-set, List·getD-eq-default}
 use lib.Seq.{getD-set-same, getD-set-other}
 use Rattle.cells.specs.Firsts.{any, holds}
 use Rattle.cells.specs.Words.{value, wordsOf, Small}
 use Rattle.cells.specs.WordLaws.{wordsOf-value}
-use Rattle.cells.specs.Arrays.{listOf}
-use Rattle.cells.specs.ArrayLaws.{length-listOf, getD-listOf, listOf-ext, listOf-eta, listOf-snoc}
+use Rattle.cells.specs.Arrays.{listFrom, listOf}
+use Rattle.cells.specs.ArrayLaws.{length-listOf, getD-listOf, listOf-ext, listOf-eta, listOf-getD, listOf-snoc}
 use Rattle.cells.specs.Lists.{setAt, clearedFrom, wordAt, wordsFor}
 use Rattle.cells.specs.ListLaws.{setAt-value, wordAt-past}
 use Rattle.covers.specs.Counts.{numberIn}
@@ -164,18 +164,32 @@ pub length-numbersFor : (ns : List ℕ) (count : ℕ) → length (numbersFor ns 
 unfolding numbersFor
 length-numbersFor ns count = length-listOf (λ k. getD ns k 0) count
 
+take-listFrom : {A : Type 0} (f : ℕ → A) (i k n : ℕ) → k ≤ n → take k (listFrom f i n) ≡ listFrom f i k
+unfolding listFrom
+take-listFrom f i zero n h = refl
+take-listFrom f i (suc k) zero h = absurd (omega arith)
+take-listFrom f i (suc k) (suc n) h = ap (λ (l : List _). f i ∷ l) (take-listFrom f (suc i) k n (omega arith))
+
+-- a list that is stored is read back
+pub take-numbersFor : (ns : List ℕ) (count : ℕ) → length ns ≤ count → take (length ns) (numbersFor ns count) ≡ ns
+unfolding numbersFor listOf
+take-numbersFor ns count h = take-listFrom (λ k. getD ns k 0) 0 (length ns) count h ∙ listOf-getD 0 ns
+
 edgeAt-edgesFor : (es : List (ℕ × ℕ)) (count i : ℕ) → i < length es → 2 * length es ≤ count → edgeAt (edgesFor es count) i ≡ getD es i (0, 0)
 unfolding edgeAt edgesFor
 edgeAt-edgesFor es count i h l =
     ap₂ (λ (a b : ℕ). (a, b)) (getD-listOf (edgeWord es) count (2 * i) 0 (omega arith) ∙ edgeWord-even es i)
     (getD-listOf (edgeWord es) count (2 * i + 1) 0 (omega arith) ∙ edgeWord-odd es i)
 
+-- edges that are all lent
+pub edgesIn-lent : (ws : List ℕ) (n : ℕ) → 2 * n ≤ length ws → edgesIn ws n ≡ listOf (edgeAt ws) n
+unfolding edgesIn
+edgesIn-lent ws n h = let all : min n (length ws / 2) ≡ n = omega arith in ap (listOf (edgeAt ws)) all
+
 -- what is stored is read back
 pub edgesIn-edgesFor : (es : List (ℕ × ℕ)) (count : ℕ) → 2 * length es ≤ count → edgesIn (edgesFor es count) (length es) ≡ es
-unfolding edgesIn
 edgesIn-edgesFor es count h =
-    let all : min (length es) (length (edgesFor es count) / 2) ≡ length es = omega (arith, length-edgesFor es count) in
-    ap (listOf (edgeAt (edgesFor es count))) all
+    edgesIn-lent (edgesFor es count) (length es) (omega (arith, length-edgesFor es count))
     ∙ sym (listOf-eta (0, 0) es (edgeAt (edgesFor es count)) (length es) refl (λ i l. sym (edgeAt-edgesFor es count i l h)))
 
 -- ---- words that hold a list of edges or nodes in front

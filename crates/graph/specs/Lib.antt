@@ -1,5 +1,10 @@
--- A graph in lent words. `Graph` is what a reader must believe; `Inner` serves a private contract; the rest are laws, and examples.
+-- A graph in lent words. `Rooms`, `Graph` and `Tilings` are what a reader must believe; `Inner` serves private contracts; the rest are laws, and
+-- examples.
+pub mod Rooms
 pub mod Graph
+pub mod Tilings
 pub mod Inner
+pub mod RoomLaws
 pub mod GraphLaws
+pub mod TilingLaws
 pub mod Examples

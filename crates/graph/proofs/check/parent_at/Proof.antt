@@ -1,0 +1,13 @@
+-- `graph::check::parent_at` meets its contract: the first word of the edge.
+-- Assumes nothing.
+use Rattle.graph.specs.Graph.{edgeAt}
+use borrow.Author.Needs.{needs}
+use Rattle.graph.proofs.check.parent_at.Statement.{statement}
+use Rattle.graph.proofs.check.parent_at.Tie as tie
+
+returns : tie.Need-returns
+unfolding edgeAt
+returns c = search needs
+
+pub parent-at-spec : {M : Type 1} → statement M
+parent-at-spec = tie.close (tie.spec (λ c. search needs) (λ c. search needs) (λ c. search needs) returns)

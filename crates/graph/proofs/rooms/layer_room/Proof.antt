@@ -1,0 +1,17 @@
+-- `graph::rooms::layer_room` meets its contract: by definition.
+-- Assumes nothing.
+use mathlib.Core.Path.{ap, ap₂, _∙_}
+use Prim.Native.Nat.{min}
+use borrow.Author.Needs.{needs}
+use Rattle.graph.specs.Rooms.{roomOf, layerRoom}
+use Rattle.graph.proofs.rooms.layer_room.Statement.{statement}
+use Rattle.graph.proofs.rooms.layer_room.Tie as tie
+
+returns : tie.Need-returns
+unfolding layerRoom
+returns c =
+    c .room .ensures
+    ∙ ap roomOf (c .before .least3 .ensures ∙ ap₂ min (c .before .before .before .least .ensures) (c .before .before .least2 .ensures))
+
+pub layer-room-spec : {M : Type 1} → statement M
+layer-room-spec = tie.close (tie.spec (λ c κs. search needs) (λ c κs. search needs) (λ c κs. search needs) (λ c κs. search needs) returns)
