@@ -4,7 +4,7 @@ use mathlib.Core.Path.{_≡_, refl, sym, ap, _∙_, subst}
 use mathlib.Core.Bool.{Bool, true, false}
 use mathlib.Core.List.{List, [], _∷_}
 use Prim.Native.Nat.{ℕ, suc, _+_, _-_, _*_, _^_, _≤_, _<_, min}
-use native.Mathlib.Nat.{add-zero}
+use native.Mathlib.Nat.{add-zero, le-of-eq}
 use native.Mathlib.Omega.{arith}
 use borrow.Author.Tests.{le-leb, lt-leb}
 use lib.ListN.{length, getD}
@@ -29,15 +29,17 @@ use Rattle.covers.specs.SettingLaws.{node-ok, some-node}
 use Rattle.covers.specs.PassLaws.{edge-in}
 use Rattle.graph.specs.Graph.{firstFrom, edgeAt, numbersFor, edgesFor}
 use Rattle.graph.specs.GraphLaws.{firstFrom-found, firstFrom-missed, cleared-nodes, cleared-edges, cleared-numbers}
-use Rattle.tiler.specs.declared.Complete.the-variants as N
+use Rattle.graph.specs.declared.Complete.the-variants as N
 use Rattle.tiler.specs.declared.MadeGraph.{MadeGraph}
 use Rattle.tiler.specs.declared.building.Growth.{Growth}
 use Rattle.tiler.specs.declared.building.Growth.the-variants as G
 use Rattle.tiler.specs.Boards.{From, setting, settingOf, startOf}
-use Rattle.tiler.specs.Counting.{Graph, Makes, completeNode, readPlot, graphOf, weighGraph, countLimit, tooLarge, nodeRoom, edgeRoom, generateGraph}
+use Rattle.graph.specs.Rooms.{nodeRoom, edgeRoom}
+use Rattle.graph.specs.Tilings.{completeNode}
+use Rattle.tiler.specs.Counting.{Graph, Makes, readPlot, graphOf, weighGraph, countLimit, tooLarge, generateGraph}
 use Rattle.tiler.specs.Inner.{Accepted, stepOf, HoldsGraph, PassesEdges, firstCount, Finishes}
 use Rattle.tiler.specs.AcceptedLaws.{accepted-laws, accepted-steps, accepted-start}
-use Rattle.tiler.proofs.PlotLaws.{node-room, edge-room}
+use Rattle.graph.specs.RoomLaws.{node-room, edge-room}
 use Rattle.tiler.proofs.BuildLaws.{size-held, no-room-held}
 use Rattle.tiler.proofs.PassingLaws.{pass-counts, pass-too-large, words-fit, counts-words}
 
@@ -238,8 +240,8 @@ module _ (b : RectangularBoard) (ts : Tiles) (accepted : Accepted b ts) (fixed :
       -- what the calls ask
       pub count-asks : e ≤ space → (2 * e ≤ length es) × (0 < wc) × ((i : ℕ) → i < e → (edgeAt es i .0 < wc) × (edgeAt es i .1 < wc))
       count-asks few =
-          let inRoom = node-room room wn wc atRoom .1 in (
-            omega (arith, edge-room space we atSpace),
+          let inRoom = node-room room wn wc (le-of-eq atRoom) .1 in (
+            omega (arith, edge-room space we (le-of-eq atSpace)),
             omega (arith, room-some room space ns es growth n e holds size few),
             λ i h.
                 let ends = edge-ends room space ns es growth n e holds size few i h in
@@ -250,8 +252,8 @@ module _ (b : RectangularBoard) (ts : Tiles) (accepted : Accepted b ts) (fixed :
       finish-asks few =
           let fits = sized room space ns es growth n e holds size in (
             node-from room space ns es growth n e holds size,
-            omega (arith, node-room room wn wc atRoom .0, fits .0, fits .1),
-            omega (arith, edge-room space we atSpace),
+            omega (arith, node-room room wn wc (le-of-eq atRoom) .0, fits .0, fits .1),
+            omega (arith, edge-room space we (le-of-eq atSpace)),
           )
 
       pub made-no-room-for-edges : (ns′ cs′ es′ : List ℕ) (r : MadeGraph) → space < e → Makes (refused 10) (length ns) wc (length es) ns′ cs′ es′ r
@@ -273,7 +275,7 @@ module _ (b : RectangularBoard) (ts : Tiles) (accepted : Accepted b ts) (fixed :
             (rooms
             ∙ weigh-large room space (graphOf S start) (sized room space ns es growth n e holds size .0)
             (all-edges room space ns es growth n e holds size few .1)
-            (counts-large room space ns es growth n e holds size few wc cs t (node-room room wn wc atRoom .1) pass f))
+            (counts-large room space ns es growth n e holds size few wc cs t (node-room room wn wc (le-of-eq atRoom) .1) pass f))
             longNodes longCounts longEdges
 
         pub made-finished : (ns′ es′ : List ℕ) (r : MadeGraph) → ((i : ℕ) → getD ns i 0 < 2 ^ 64) → ((i : ℕ) → getD cs i 0 < countLimit) → t ≡ true
@@ -297,13 +299,13 @@ module _ (b : RectangularBoard) (ts : Tiles) (accepted : Accepted b ts) (fixed :
             })
           where
             are : (v : ℕ) → getD cs v 0 ≡ getD (counts (entriesOf S start)) v 0
-            are = counts-are room space ns es growth n e holds size few wc cs t (node-room room wn wc atRoom .1) pass f
+            are = counts-are room space ns es growth n e holds size few wc cs t (node-room room wn wc (le-of-eq atRoom) .1) pass f
 
             wideNodes : 4 * room ≤ length ns
-            wideNodes = omega (arith, node-room room wn wc atRoom .0)
+            wideNodes = omega (arith, node-room room wn wc (le-of-eq atRoom) .0)
 
             wideEdges : 2 * space ≤ length es
-            wideEdges = omega (arith, edge-room space we atSpace)
+            wideEdges = omega (arith, edge-room space we (le-of-eq atSpace))
 
 -- ---- board and tiles that are judged
 

@@ -1,5 +1,5 @@
--- What the functions of `plot` answer: the refusals of board and tiles and the step that they tell, the rooms of lent words, and a board of the
--- start with its free cells and its children. Rests on `Counting`, `Inner`, `SettingLaws` and on the laws of `cells`, `tile` and `board`.
+-- What the functions of `plot` answer: the refusals of board and tiles and the step that they tell, and a board of the start
+-- with its free cells and its children. Rests on `Counting`, `Inner`, `SettingLaws` and on the laws of `cells`, `tile` and `board`.
 -- Assumes nothing.
 use mathlib.Core.Path.{_≡_, refl, sym, ap, _∙_, subst}
 use mathlib.Core.Bool.{Bool, true, So, cond}
@@ -43,7 +43,7 @@ use Rattle.covers.specs.Cuttings.{childBoards}
 use Rattle.tiler.specs.declared.plot.Judged.{Judged}
 use Rattle.tiler.specs.declared.plot.Judged.the-variants as J
 use Rattle.tiler.specs.Boards.{From, settingOf}
-use Rattle.tiler.specs.Counting.{readPlot, roomOf, layerRoom, nodeRoom, edgeRoom}
+use Rattle.tiler.specs.Counting.{readPlot}
 use Rattle.tiler.specs.Inner.{Accepted, stepOf, judgedAnswer}
 use Rattle.tiler.specs.SettingLaws.{children-are}
 use Rattle.tiler.specs.AcceptedLaws.{read-accepted}
@@ -127,21 +127,6 @@ module _ (b : RectangularBoard) (ts : Tiles) (r : Judged) where
       go : (a : Answer (Board × List Path)) → refused (refusalNumber q) ≡ mapAnswer steps a → a ≡ refused (refusalNumber q)
       go (refused n) s = ap refused (sym (refused-inj (refusalNumber q) n s))
       go (given p) s = absurd (refused-given (refusalNumber q) (stepOf (p .1)) s)
-
--- ---- rooms: no more than the lent words hold
-
-pub layer-room : (room boardsA countsA boardsB countsB : ℕ) → room ≡ layerRoom boardsA countsA boardsB countsB
-    → (4 * room ≤ boardsA) × (room ≤ countsA) × (4 * room ≤ boardsB) × (room ≤ countsB)
-unfolding layerRoom roomOf
-layer-room room boardsA countsA boardsB countsB e = (omega arith, omega arith, omega arith, omega arith)
-
-pub node-room : (room nodes counts : ℕ) → room ≡ nodeRoom nodes counts → (4 * room ≤ nodes) × (room ≤ counts)
-unfolding nodeRoom roomOf
-node-room room nodes counts e = (omega arith, omega arith)
-
-pub edge-room : (room edges : ℕ) → room ≡ edgeRoom edges → 2 * room ≤ edges
-unfolding edgeRoom roomOf
-edge-room room edges e = omega arith
 
 -- ---- `board_at`: the fixed marks are taken from the marks word by word
 

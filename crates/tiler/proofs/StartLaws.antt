@@ -1,5 +1,5 @@
--- Laws that the proofs of `layers::start`, `layers::weighed`, `layers::counted`, `count_tilings` and `count_tilings_from_graph` cite: layer 0 in
--- lent words, the answer of each way out, and the words that are cleared. Rests on `RunLaws`, `AcceptedLaws` and cells' `ListLaws`. Assumes nothing.
+-- Laws that the proofs of `layers::start`, `layers::weighed`, `layers::counted`, `count_tilings` and `generate_graph` cite: layer 0 in lent words, the
+-- answer of each way out, the words that are cleared, and a contract with what follows from it. Rests on `RunLaws`, `AcceptedLaws` and cells' `ListLaws`. Assumes nothing.
 use mathlib.Core.Path.{_≡_, sym, ap, ap₂, _∙_, subst}
 use mathlib.Core.List.{List, [], _∷_}
 use Prim.Native.Nat.{ℕ, _/_, _^_, _≤_, _<_}
@@ -7,7 +7,7 @@ use native.Mathlib.Nat.{le-refl}
 use native.Mathlib.Omega.{arith}
 use borrow.Author.Tests.{le-ltb, ne-eqb}
 use lib.Dec.{eqb, ltb}
-use lib.ListN.{length, getD, set, replicate, List·getD-eq-default}
+use lib.ListN.{length, getD, set, replicate}
 use lib.Seq.{getD-set-same}
 use mathlib.Core.Bool.{Bool, false, cond}
 use Rattle.cells.specs.Words.{number}
@@ -23,11 +23,9 @@ use Rattle.board.specs.declared.RectangularBoard.{RectangularBoard}
 use Rattle.board.specs.Board.{Board, boardOf, marks, freeCount}
 use Rattle.board.specs.BoardLaws.{marks-lt}
 use Rattle.covers.specs.Cuttings.{Setting}
-use Rattle.covers.specs.Counts.{Entry, atNode}
-use Rattle.tiler.specs.declared.Complete.{Complete}
-use Rattle.tiler.specs.declared.Complete.the-variants as N
+use Rattle.covers.specs.Counts.{Entry}
 use Rattle.tiler.specs.Boards.{setting, settingOf, startOf}
-use Rattle.tiler.specs.Counting.{layersAnswer, readPlot, countTilings, completeNode, countFromGraph}
+use Rattle.tiler.specs.Counting.{layersAnswer, readPlot, countTilings}
 use Rattle.tiler.specs.Inner.{Accepted, entriesIn, countFrom, Ready}
 use Rattle.tiler.specs.RunLaws.{ready-start, layers-from, layers-full, layers-no-room}
 use Rattle.tiler.specs.AcceptedLaws.{setting-full, accepted-laws, accepted-start, accepted-free}
@@ -105,16 +103,7 @@ cleared-zeros n ws ws′ e h =
     ∙ sym (replicate-listOf 0 (length ws) 0)
     ∙ ap (λ (n : ℕ). replicate n 0) h
 
--- ---- the ways out of `count_tilings_from_graph`
+-- ---- a contract and what follows from it
 
-module _ (complete : Complete) (cs : List ℕ) where
-  pub graph-none : complete ≡ N.Nothing → 0 ≡ countFromGraph (completeNode complete) cs
-  unfolding countFromGraph atNode
-  graph-none e = ap (λ (n : Complete). countFromGraph (completeNode n) cs) (sym e)
-
-  pub graph-node : (v : ℕ) → complete ≡ N.Node v → getD cs v 0 ≡ countFromGraph (completeNode complete) cs
-  unfolding countFromGraph atNode
-  graph-node v e = ap (λ (n : Complete). countFromGraph (completeNode n) cs) (sym e)
-
-  pub graph-past : (v : ℕ) → complete ≡ N.Node v → length cs ≤ v → 0 ≡ countFromGraph (completeNode complete) cs
-  graph-past v e h = sym (List·getD-eq-default cs 0 h) ∙ graph-node v e
+pub both : {A B : Type 0} → (A → B) → A → A × B
+both f a = (a, f a)

@@ -1,11 +1,11 @@
--- What an answer that is given says: board and tiles are not refused, the graph has room and its counts fit, the layer count is the definition's.
--- Rests on `AcceptedLaws`. Assumes nothing.
+-- What an answer that is given says: board and tiles are not refused, the graph has room and its counts fit, the layer count is the definition's; and
+-- what is stored is read back and is not refused by 11. Rests on `AcceptedLaws` and graph's laws. Assumes nothing.
 use mathlib.Core.Path.{_≡_, refl, sym, ap, _∙_, subst, ap₂, fun-ext}
 use mathlib.Core.Logic.{⊎-elim}
 use mathlib.Core.Bool.{Bool, true, false, So, cond, false≢true}
 use mathlib.Core.List.{List, [], _∷_, List·Memᴰ as Mem, List·Memᴰ·cases-cons as cases-cons, List·Memᴰ·not-nil as not-nil}
-use mathlib.Core.Option.{Option, none, some, Option·none-ne-some}
-use Prim.Native.Nat.{ℕ, _*_, _^_, _≤_, _<_}
+use mathlib.Core.Option.{none, some, Option·none-ne-some}
+use Prim.Native.Nat.{ℕ, _^_, _≤_, _<_}
 use native.Mathlib.Decide.{decLt}
 use native.Mathlib.Omega.{arith}
 use borrow.Author.Tests.{leb-true, leb-false}
@@ -24,12 +24,16 @@ use Rattle.cells.specs.ListLaws.{length-wordsFor, setsIn-wordsFor}
 use Rattle.graph.specs.GraphLaws.{length-numbersFor, length-edgesFor, edgesIn-edgesFor}
 use Rattle.board.specs.declared.RectangularBoard.{RectangularBoard}
 use Rattle.board.specs.Board.{Board, boardOf, marks, valid, readBoard}
-use Rattle.covers.specs.Counts.{Entry, SumRule, atNode, boards, counts, fullFrom, fullNode, layerCount, layerOf}
+use Rattle.covers.specs.Counts.{Entry, SumRule, boards, counts, fullFrom, fullNode, layerCount, layerOf}
 use Rattle.covers.specs.CountLaws.{fullNode-some, fullNode-none}
 use Rattle.graph.specs.Graph.{numbersFor, edgesIn}
 use Rattle.tiler.specs.declared.MadeGraph.{MadeGraph}
 use Rattle.tiler.specs.Boards.{setting, settingOf, startOf}
-use Rattle.tiler.specs.Counting.{countLimit, tooLarge, readPlot, weighTo, layersAnswer, Graph, graphOf, roomOf, weighGraph, nodeRoom, edgeRoom, generateGraph, Makes, SoundGraph, countFromGraph}
+use Rattle.graph.specs.Rooms.{nodeRoom, edgeRoom}
+use Rattle.graph.specs.RoomLaws.{node-room, edge-room}
+use Rattle.graph.specs.Tilings.{countIn}
+use Rattle.graph.specs.TilingLaws.{SoundGraph}
+use Rattle.tiler.specs.Counting.{countLimit, tooLarge, readPlot, weighTo, layersAnswer, Graph, graphOf, weighGraph, generateGraph, Makes}
 use Rattle.tiler.specs.Inner.{Accepted}
 use Rattle.tiler.specs.AcceptedLaws.{read-accepted}
 
@@ -130,13 +134,6 @@ given-graph b ts nodeWords countWords edgeWords e = go (readPlot b ts) refl e
     go (refused n) q h = absurd (omega (arith, plot-refusal b ts n q))
     go (given p) q h = graph-refusal (nodeRoom nodeWords countWords) (edgeRoom edgeWords) (graphOf (setting (p .0) (p .1)) (marks (p .0))) h
 
--- ---- the graph count read off the words
-
-pub read-numbers : (complete : Option ℕ) (ns : List ℕ) (n : ℕ) → ((v : ℕ) → complete ≡ some v → v < n) → countFromGraph complete (numbersFor ns n) ≡ countFromGraph complete ns
-unfolding countFromGraph atNode numbersFor
-read-numbers none ns n h = refl
-read-numbers (some v) ns n h = getD-listOf (λ k. getD ns k 0) n v 0 (h v refl)
-
 -- ---- a graph in its words
 
 -- a node has a count beside it
@@ -153,18 +150,6 @@ getD-numbersFor ns n v h = go (decLt v n)
         List·getD-eq-default (listOf (λ k. getD ns k 0) n) 0 {n = v} (omega (arith, length-listOf (λ k. getD ns k 0) n))
         ∙ sym (List·getD-eq-default ns 0 {n = v} (omega arith))
 
-lent-nodes : (m n c : ℕ) → m ≤ nodeRoom n c → 4 * m ≤ n
-unfolding nodeRoom roomOf
-lent-nodes m n c h = omega arith
-
-lent-counts : (m k n c : ℕ) → m ≤ nodeRoom n c → k ≡ m → k ≤ c
-unfolding nodeRoom roomOf
-lent-counts m k n c h e = omega arith
-
-lent-edges : (m e : ℕ) → m ≤ edgeRoom e → 2 * m ≤ e
-unfolding edgeRoom roomOf
-lent-edges m e h = omega arith
-
 -- every element of a list of sets is small, and so is what stands behind it
 pub small-at : (ns : List ℕ) → ((n : ℕ) → Mem n ns → n < 2 ^ 256) → (i : ℕ) → getD ns i 0 < 2 ^ 256
 small-at ns h i = go (decLt i (length ns))
@@ -179,49 +164,50 @@ only-start full s [] first e t m f = absurd (not-nil m)
 only-start full s (n ∷ ns) first e t m f =
     ⊎-elim (λ q. q ∙ first) (λ k. absurd (false≢true (sym (fullNode-none full n ns e t k) ∙ f))) (cases-cons m)
 
--- what is stored is read back
-pub read-back : (g : Graph) (n c e : ℕ) (nodes′ counts′ edges′ : List ℕ) (r : MadeGraph) → Makes (given g) n c e nodes′ counts′ edges′ r
-    → (0 < length (g .nodes)) × (length (g .nodes) ≤ nodeRoom n c) × (length (g .edges) ≤ edgeRoom e) × (length (g .counts) ≡ length (g .nodes))
-    → ((i : ℕ) → getD (g .nodes) i 0 < 2 ^ 256)
-    → (setsIn nodes′ (r .graph .nodes) ≡ g .nodes) × ((v : ℕ) → getD counts′ v 0 ≡ getD (g .counts) v 0) × (edgesIn edges′ (r .graph .edges) ≡ g .edges)
-unfolding valueOr
-read-back g n c e nodes′ counts′ edges′ r k h small = (
-  ap₂ setsIn (k .nodes) (k .nodeNumber) ∙ setsIn-wordsFor (g .nodes) n (lent-nodes (length (g .nodes)) n c (h .1)) small,
-  λ v. ap (λ (ws : List ℕ). getD ws v 0) (k .counts) ∙ getD-numbersFor (g .counts) c v (lent-counts (length (g .nodes)) (length (g .counts)) n c (h .1) (h .3)),
-  ap₂ edgesIn (k .edges) (k .edgeNumber) ∙ edgesIn-edgesFor (g .edges) e (lent-edges (length (g .edges)) e (h .2)),
-)
+-- the graph has a node, room in so many words, and a count beside each node
+pub record HasRoom (g : Graph) (n c e : ℕ) : Type 0 where
+  pub someNodes : 0 < length (g .nodes)
+  pub nodesFit : length (g .nodes) ≤ nodeRoom n c
+  pub edgesFit : length (g .edges) ≤ edgeRoom e
+  pub asMany : length (g .counts) ≡ length (g .nodes)
 
--- the rule of sums, read off the words
-read-sums : (g : Graph) (n c e : ℕ) (nodes′ counts′ edges′ : List ℕ) (r : MadeGraph) → Makes (given g) n c e nodes′ counts′ edges′ r
-    → (0 < length (g .nodes)) × (length (g .nodes) ≤ nodeRoom n c) × (length (g .edges) ≤ edgeRoom e) × (length (g .counts) ≡ length (g .nodes))
-    → SumRule (length (g .nodes)) (g .edges) (λ v. getD (g .counts) v 0) → SumRule (r .graph .nodes) (edgesIn edges′ (r .graph .edges)) (λ v. getD counts′ v 0)
-unfolding valueOr
-read-sums g n c e nodes′ counts′ edges′ r k h sums =
-    let es : g .edges ≡ edgesIn edges′ (r .graph .edges) =
-    sym (ap₂ edgesIn (k .edges) (k .edgeNumber) ∙ edgesIn-edgesFor (g .edges) e (lent-edges (length (g .edges)) e (h .2))) in
-    let cs : _≡_ {A = ℕ → ℕ} (λ v. getD (g .counts) v 0) (λ v. getD counts′ v 0) =
-    fun-ext (λ v.
-    sym (ap (λ (ws : List ℕ). getD ws v 0) (k .counts)
-    ∙ getD-numbersFor (g .counts) c v (lent-counts (length (g .nodes)) (length (g .counts)) n c (h .1) (h .3)))) in
-    subst (λ (count : ℕ → ℕ). SumRule (r .graph .nodes) (edgesIn edges′ (r .graph .edges)) count) cs
-    (subst (λ (ds : List (ℕ × ℕ)). SumRule (r .graph .nodes) ds (λ v. getD (g .counts) v 0)) es
-    (subst (λ (x : ℕ). SumRule x (g .edges) (λ v. getD (g .counts) v 0)) (sym (k .nodeNumber)) sums))
+module _ (g : Graph) (n c e : ℕ) (nodes′ counts′ edges′ : List ℕ) (r : MadeGraph) (k : Makes (given g) n c e nodes′ counts′ edges′ r) (h : HasRoom g n c e) where
+  -- what is stored is read back
+  pub nodes-back : ((i : ℕ) → getD (g .nodes) i 0 < 2 ^ 256) → setsIn nodes′ (r .graph .nodes) ≡ g .nodes
+  unfolding valueOr
+  nodes-back small = ap₂ setsIn (k .nodes) (k .nodeNumber) ∙ setsIn-wordsFor (g .nodes) n (node-room (length (g .nodes)) n c (h .nodesFit) .0) small
 
--- the words that a sound graph leaves are sound
-pub sound-words : (g : Graph) (n c e : ℕ) (nodes′ counts′ edges′ : List ℕ) (r : MadeGraph) → Makes (given g) n c e nodes′ counts′ edges′ r
-    → (0 < length (g .nodes)) × (length (g .nodes) ≤ nodeRoom n c) × (length (g .edges) ≤ edgeRoom e) × (length (g .counts) ≡ length (g .nodes))
-    → ((v : ℕ) → g .complete ≡ some v → v < length (g .nodes)) → SumRule (length (g .nodes)) (g .edges) (λ v. getD (g .counts) v 0)
-    → SoundGraph (r .graph) nodes′ counts′ edges′
-unfolding valueOr
-sound-words g n c e nodes′ counts′ edges′ r k h below sums =
-    let longNodes : length nodes′ ≡ n = ap length (k .nodes) ∙ length-wordsFor (g .nodes) n in
-    let longCounts : length counts′ ≡ c = ap length (k .counts) ∙ length-numbersFor (g .counts) c in
-    let longEdges : length edges′ ≡ e = ap length (k .edges) ∙ length-edgesFor (g .edges) e in
-    record {
-      someNodes = subst (λ (x : ℕ). 0 < x) (sym (k .nodeNumber)) (h .0);
-      nodesLent = subst (λ (x : ℕ). x ≤ nodeRoom (length nodes′) (length counts′)) (sym (k .nodeNumber)) (subst (λ (x : ℕ). length (g .nodes) ≤ nodeRoom x (length counts′)) (sym longNodes)
-          (subst (λ (x : ℕ). length (g .nodes) ≤ nodeRoom n x) (sym longCounts) (h .1)));
-      edgesLent = subst (λ (x : ℕ). x ≤ edgeRoom (length edges′)) (sym (k .edgeNumber)) (subst (λ (x : ℕ). length (g .edges) ≤ edgeRoom x) (sym longEdges) (h .2));
-      fullBelow = λ v q. subst (λ (x : ℕ). v < x) (sym (k .nodeNumber)) (below v (sym (k .complete) ∙ q));
-      sums = read-sums g n c e nodes′ counts′ edges′ r k h sums;
-    }
+  pub counts-back : (v : ℕ) → countIn counts′ v ≡ countIn (g .counts) v
+  unfolding valueOr
+  counts-back v =
+      ap (λ (ws : List ℕ). getD ws v 0) (k .counts)
+      ∙ getD-numbersFor (g .counts) c v (omega (arith, h .asMany, node-room (length (g .nodes)) n c (h .nodesFit) .1))
+
+  pub edges-back : edgesIn edges′ (r .graph .edges) ≡ g .edges
+  unfolding valueOr
+  edges-back = ap₂ edgesIn (k .edges) (k .edgeNumber) ∙ edgesIn-edgesFor (g .edges) e (edge-room (length (g .edges)) e (h .edgesFit))
+
+  -- the rule of sums, read off the words
+  sums-back : SumRule (length (g .nodes)) (g .edges) (countIn (g .counts)) → SumRule (r .graph .nodes) (edgesIn edges′ (r .graph .edges)) (countIn counts′)
+  unfolding valueOr
+  sums-back sums =
+      subst (λ (count : ℕ → ℕ). SumRule (r .graph .nodes) (edgesIn edges′ (r .graph .edges)) count) (fun-ext (λ v. sym (counts-back v)))
+      (subst (λ (es : List (ℕ × ℕ)). SumRule (r .graph .nodes) es (countIn (g .counts))) (sym edges-back)
+      (subst (λ (x : ℕ). SumRule x (g .edges) (countIn (g .counts))) (sym (k .nodeNumber)) sums))
+
+  -- the words of a graph of which the rule of sums holds are sound
+  pub sound-words : ((v : ℕ) → g .complete ≡ some v → v < length (g .nodes)) → SumRule (length (g .nodes)) (g .edges) (countIn (g .counts))
+      → SoundGraph (r .graph) (length nodes′) counts′ edges′
+  unfolding valueOr
+  sound-words below sums =
+      let longNodes : length nodes′ ≡ n = ap length (k .nodes) ∙ length-wordsFor (g .nodes) n in
+      let longCounts : length counts′ ≡ c = ap length (k .counts) ∙ length-numbersFor (g .counts) c in
+      let longEdges : length edges′ ≡ e = ap length (k .edges) ∙ length-edgesFor (g .edges) e in
+      record {
+        someNodes = subst (λ (x : ℕ). 0 < x) (sym (k .nodeNumber)) (h .someNodes);
+        nodesLent = subst (λ (x : ℕ). x ≤ nodeRoom (length nodes′) (length counts′)) (sym (k .nodeNumber))
+            (subst (λ (x : ℕ). length (g .nodes) ≤ x) (sym (ap₂ nodeRoom longNodes longCounts)) (h .nodesFit));
+        edgesLent = subst (λ (x : ℕ). x ≤ edgeRoom (length edges′)) (sym (k .edgeNumber)) (subst (λ (x : ℕ). length (g .edges) ≤ edgeRoom x) (sym longEdges) (h .edgesFit));
+        fullBelow = λ v q. subst (λ (x : ℕ). v < x) (sym (k .nodeNumber)) (below v (sym (k .complete) ∙ q));
+        sums = sums-back sums;
+      }

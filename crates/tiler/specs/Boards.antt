@@ -3,7 +3,7 @@
 use mathlib.Core.Bool.{So, cond}
 use mathlib.Core.List.{List, []}
 use mathlib.Core.Option.{Option, none, some}
-use Prim.Native.Nat.{ℕ, _-_, _^_, _<_}
+use Prim.Native.Nat.{ℕ, _^_, _<_}
 use lib.Dec.{eqb}
 use Rattle.cells.specs.Set.{hasCell, Within}
 use Rattle.tile.specs.declared.Tiles.{Tiles}
@@ -13,6 +13,7 @@ use Rattle.board.specs.declared.RectangularBoard.{RectangularBoard}
 use Rattle.board.specs.Board.{Board, boardOf, boardAt, bare, marks, isFree, freeCount, isFull, valid}
 use Rattle.board.specs.Children.{IsPiece, chosen, pieces, lay, pruned}
 use Rattle.covers.specs.Cuttings.{Setting}
+use Rattle.graph.specs.Tilings.{stepPiece}
 
 -- the numbers of the accepted boards with the start's size and fixed marks
 pub record From (b : Board) (n : ℕ) : Type 0 where
@@ -30,10 +31,10 @@ unfolding pieces
 piecesOn b paths none = []
 piecesOn b paths (some cell) = pieces b paths cell
 
--- the setting of a start and some tiles. A piece, whatever its place, is one of the board without marks; the piece of a step is "the cells marked in
--- the later node and free in the earlier". `children-are` says that its children are those of `place_tile`
+-- the setting of a start and some tiles. A piece, whatever its place, is one of the board without marks. `children-are` says that its children are
+-- those of `place_tile`
 unfoldable pub setting : Board → List Path → Setting ℕ ℕ
-unfolding hasCell marks isFree freeCount isFull lay chosen pruned cellOr piecesOn
+unfolding hasCell marks isFree freeCount isFull lay stepPiece chosen pruned cellOr piecesOn
 setting b paths = record {
   Ok = From b;
   IsTile = IsPiece (bare b) paths;
@@ -42,7 +43,7 @@ setting b paths = record {
   full = λ n. isFull (boardAt b n);
   freeCount = λ n. freeCount (boardAt b n);
   lay = λ n p. marks (lay (boardAt b n) p);
-  stepPiece = λ s t. t - s;
+  stepPiece = stepPiece;
   chosen = λ n. cellOr (chosen (boardAt b n));
   pieces = λ n. cond (pruned (boardAt b n) paths) [] (piecesOn (boardAt b n) paths (chosen (boardAt b n)));
   sameBoard = eqb;

@@ -10,36 +10,24 @@ use lib.ListN.{length}
 use Rattle.cells.specs.declared.Cells.{Cells}
 use Rattle.cells.specs.Words.{number, Sound}
 use Rattle.tile.specs.Refusal.{Answer, refused, given, mapAnswer, bindAnswer}
-use Rattle.tile.specs.Direction.{step, rotate, reflect}
-use Rattle.tile.specs.Path.{Path, codesOk, equalCounts, orbit}
+use Rattle.tile.specs.Direction.{step}
+use Rattle.tile.specs.Path.{Path, codesOk, equalCounts}
 use Rattle.tile.specs.Stored.{Storable, tilesOf, readEqualTiles}
 use Rattle.tile.specs.StoredLaws.{readTiles-tilesOf, readTiles-orbit}
 use Rattle.tile.specs.EqualLaws.{readEqualTiles-equal, readEqualTiles-unequal}
 use Rattle.board.specs.declared.RectangularBoard.{RectangularBoard}
-use Rattle.board.specs.Board.{Board, boardOf, marks, readBoard}
+use Rattle.board.specs.Board.{Board, boardOf, readBoard}
 use Rattle.covers.specs.Cuttings.{Exactly}
 use Rattle.covers.specs.Counts.{Entry}
-use Rattle.tiler.specs.Boards.{setting}
-use Rattle.tiler.specs.Counting.{readPlot, layerRoom, weigh, weighTo, layersAnswer, countTilings, Graph, graphOf, weighGraph, nodeRoom, edgeRoom, generateGraph, countFromGraph}
+use Rattle.graph.specs.Rooms.{layerRoom}
+use Rattle.graph.specs.Tilings.{countFromGraph}
+use Rattle.tiler.specs.Counting.{readPlot, weigh, weighTo, countTilings, Graph, weighGraph, generateGraph}
+use Rattle.tiler.specs.KnownPlots.{D as dominoes, layersOf, graphFor}
 use Rattle.tiler.specs.Theorems.{Reaches, path-count-is-number-of-sequences, counts-agree}
 
 -- a board by its size, its fixed and its laid marks
-abbrev board : ℕ → ℕ → ℕ → ℕ → Board
+abbrev pub board : ℕ → ℕ → ℕ → ℕ → Board
 board w h fixed laid = record { width = w; height = h; fixed = fixed; laid = laid }
-
--- the orbit of Right
-unfoldable dominoes : List Path
-unfolding orbit rotate reflect
-dominoes = orbit (3 ∷ [])
-
--- the layer count, and the graph, of a board and tiles that are not refused
-unfoldable layersOf : Board → List Path → ℕ → Answer ℕ
-unfolding layersAnswer setting marks
-layersOf b paths room = layersAnswer (setting b paths) (marks b) room
-
-unfoldable graphFor : Board → List Path → ℕ → ℕ → ℕ → Answer Graph
-unfolding weighGraph nodeRoom edgeRoom graphOf setting marks
-graphFor b paths nodeWords countWords edgeWords = weighGraph (nodeRoom nodeWords countWords) (edgeRoom edgeWords) (graphOf (setting b paths) (marks b))
 
 -- ---- 01's worked example, 2 by 2 dominoes: `layers 2` and `graph 2 nodes 4 edges 4`
 
@@ -47,7 +35,7 @@ two-by-two : layersOf (board 2 2 0 0) dominoes 2 ≡ given 2
 unfolding layersOf dominoes step
 two-by-two = refl
 
-abbrev twoByTwo : Graph
+abbrev pub twoByTwo : Graph
 twoByTwo = record {
   nodes = 0 ∷ 3 ∷ 65537 ∷ 196611 ∷ [];
   counts = 1 ∷ 1 ∷ 1 ∷ 2 ∷ [];
@@ -88,11 +76,11 @@ unfolding layersOf dominoes step
 no-cells = refl
 
 -- a full start counts 0, and its one node is not its full node
-full-start : layersOf (board 2 1 1 2) dominoes 1 ≡ given 0
+pub full-start : layersOf (board 2 1 1 2) dominoes 1 ≡ given 0
 unfolding layersOf dominoes step
 full-start = refl
 
-full-start-graph : graphFor (board 2 1 1 2) dominoes 4 1 0 ≡ given record { nodes = 3 ∷ []; counts = 1 ∷ []; edges = []; complete = none }
+pub full-start-graph : graphFor (board 2 1 1 2) dominoes 4 1 0 ≡ given record { nodes = 3 ∷ []; counts = 1 ∷ []; edges = []; complete = none }
 unfolding graphFor dominoes step
 full-start-graph = refl
 
@@ -135,10 +123,10 @@ edges-before-counts = refl
 
 -- ---- refusals of the input come first, in the order 4, 6, 5, 7: here with no room at all
 
-abbrev set : ℕ → Cells
+abbrev pub set : ℕ → Cells
 set n = record { w0 = n; w1 = 0; w2 = 0; w3 = 0 }
 
-abbrev rectangle : ℕ → ℕ → RectangularBoard
+abbrev pub rectangle : ℕ → ℕ → RectangularBoard
 rectangle w h = record { width = w; height = h; fixed = set 0; laid = set 0 }
 
 -- Right, and Right Right
@@ -167,6 +155,10 @@ unequal-tiles : countTilings (rectangle 2 2) (tilesOf unequal) 0 ≡ refused 7
 unfolding countTilings readPlot bindAnswer mapAnswer
 unequal-tiles = rw (two-by-two-read, readEqualTiles-unequal (tilesOf unequal) unequal (readTiles-tilesOf unequal (lit≤ tt) stored) unequal-counts)
 
+unequal-tiles-graph : generateGraph (rectangle 2 2) (tilesOf unequal) 0 0 0 ≡ refused 7
+unfolding generateGraph readPlot bindAnswer mapAnswer
+unequal-tiles-graph = rw (two-by-two-read, readEqualTiles-unequal (tilesOf unequal) unequal (readTiles-tilesOf unequal (lit≤ tt) stored) unequal-counts)
+
 -- ---- rooms: "the least of both layers' words ÷ 4 and of both layers' count words", and at most 16,777,216
 
 room-of-boards : layerRoom 9 3 12 5 ≡ 2
@@ -187,7 +179,7 @@ equal-dominoes : equalCounts dominoes ≡ true
 unfolding equalCounts dominoes step
 equal-dominoes = refl
 
-dominoes-read : readEqualTiles (tilesOf dominoes) ≡ given dominoes
+pub dominoes-read : readEqualTiles (tilesOf dominoes) ≡ given dominoes
 unfolding dominoes codesOk
 dominoes-read = readEqualTiles-equal (tilesOf dominoes) dominoes (readTiles-orbit (3 ∷ []) (lit≤ tt) refl) equal-dominoes
 
@@ -195,16 +187,16 @@ two-by-two-plot : readPlot (rectangle 2 2) (tilesOf dominoes) ≡ given (board 2
 unfolding readPlot bindAnswer mapAnswer number
 two-by-two-plot = rw dominoes-read
 
-two-by-two-counted : countTilings (rectangle 2 2) (tilesOf dominoes) 2 ≡ given 2
+pub two-by-two-counted : countTilings (rectangle 2 2) (tilesOf dominoes) 2 ≡ given 2
 unfolding countTilings layersOf bindAnswer
 two-by-two-counted = ap (λ (a : Answer (Board × List Path)). bindAnswer a (λ p. layersOf (p .0) (p .1) 2)) two-by-two-plot ∙ two-by-two
 
-two-by-two-given : generateGraph (rectangle 2 2) (tilesOf dominoes) 16 4 8 ≡ given twoByTwo
+pub two-by-two-given : generateGraph (rectangle 2 2) (tilesOf dominoes) 16 4 8 ≡ given twoByTwo
 unfolding generateGraph graphFor bindAnswer
 two-by-two-given = ap (λ (a : Answer (Board × List Path)). bindAnswer a (λ p. graphFor (p .0) (p .1) 16 4 8)) two-by-two-plot ∙ two-by-two-graph
 
 -- the set of no cells has words of 64 bits
-no-marks : Sound (set 0)
+pub no-marks : Sound (set 0)
 no-marks = record { s0 = lit< tt; s1 = lit< tt; s2 = lit< tt; s3 = lit< tt }
 
 -- the last node's path count: two child sequences reach the full board

@@ -26,7 +26,8 @@ use Rattle.tiler.specs.declared.layers.Layer.the-variants as L
 use Rattle.tiler.specs.declared.building.Growth.{Growth}
 use Rattle.tiler.specs.declared.building.Growth.the-variants as G
 use Rattle.tiler.specs.declared.MadeGraph.{MadeGraph}
-use Rattle.tiler.specs.Counting.{countLimit, tooLarge, weigh, completeNode}
+use Rattle.graph.specs.Tilings.{completeNode}
+use Rattle.tiler.specs.Counting.{countLimit, tooLarge, weigh}
 
 -- ---- board and tiles that are not refused
 

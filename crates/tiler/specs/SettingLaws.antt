@@ -2,26 +2,28 @@
 -- children are those of `place_tile`, and the start is one of them. Rests on board's `FreeLaws`. Assumes nothing.
 use mathlib.Core.Path.{_≡_, refl, sym, ap, _∙_, subst}
 use mathlib.Core.Logic.{_↔_}
-use mathlib.Core.Bool.{Bool, true, false, So, cond, false≢true}
+use mathlib.Core.Bool.{Bool, true, false, So, not, cond, _&&_, false≢true}
 use mathlib.Core.List.{List, [], map, List·Memᴰ as Mem, List·Memᴰ·not-nil as not-nil}
 use mathlib.Core.Option.{Option, none, some}
 use Prim.Native.Nat.{ℕ, _+_, _-_, _^_, _≤_, _<_}
 use native.Mathlib.Nat.{lt-of-le-of-lt}
 use native.Mathlib.Decide.{decLt}
 use native.Mathlib.Omega.{arith}
-use Rattle.cells.specs.Set.{bit, hasCell, unionOf, Disjoint, Within, size}
-use Rattle.cells.specs.BitLaws.{bit-ext, bit-high, bit-add}
-use Rattle.cells.specs.SetLaws.{within-le, bit-unionOf, unionOf-lt, unionOf-disjoint, bit-sub}
+use borrow.Author.Tests.{eqb-false}
+use Rattle.cells.specs.Set.{bit, hasCell, fromBits, unionOf, Disjoint, Within, size}
+use Rattle.cells.specs.BitLaws.{bit-le, bit-ext, bit-high, bit-add, fromBits-lt, bit-fromBits}
+use Rattle.cells.specs.SetLaws.{within-le, hasCell-iff, bit-unionOf, unionOf-lt, unionOf-disjoint, bit-sub}
 use Rattle.cells.specs.Firsts.{Once}
 use Rattle.cells.specs.MemberLaws.{eqb-tells}
 use Rattle.tile.specs.Path.{Path, cellCount}
 use Rattle.board.specs.Board.{Board, boardAt, marks, isFree, freeCount, isFull, valid}
 use Rattle.board.specs.Children.{IsPiece, chosen, pieces, lay, pruned, childrenOn, children}
-use Rattle.board.specs.BoardLaws.{marks-lt, none-full, full-none, valid-width, valid-height, valid-disjoint}
+use Rattle.board.specs.BoardLaws.{digit, marks-lt, none-full, full-none, valid-width, valid-height, valid-disjoint}
 use Rattle.board.specs.ChosenLaws.{chosen-best, chosen-none}
 use Rattle.board.specs.PieceLaws.{mem-pieces, once-pieces}
 use Rattle.board.specs.ChildLaws.{piece-lt, piece-apart, marks-lay, lay-valid}
 use Rattle.covers.specs.Cuttings.{FitsOn, childBoards, Laws, EqualSteps}
+use Rattle.graph.specs.Tilings.{stepPiece}
 use Rattle.board.specs.FreeLaws.{free-lt, full-marks, piece-iff, piece-some, piece-size, lay-free, lay-count}
 use Rattle.tile.specs.EqualLaws.{cellCount-pos}
 use Rattle.tiler.specs.Boards.{From, cellOr, piecesOn, setting}
@@ -50,6 +52,10 @@ unfolding piecesOn
 once-on b paths true c = tt
 once-on b paths false none = tt
 once-on b paths false (some cell) = once-pieces b paths cell
+
+no-cell : (n c : ℕ) → hasCell n c ≡ false → bit n c ≡ 0
+unfolding hasCell
+no-cell n c e = let d = eqb-false (bit n c) 1 e in omega (arith, bit-le n c)
 
 -- ---- a board and its number. A mark past cell 255 is none that `valid` sees, so the start's numbers are asked to be below 2 ^ 256
 
@@ -91,6 +97,21 @@ module _ (b : Board) (paths : List Path) (n : ℕ) (ok : From b n) where
       above = λ c. omega (arith, ok .above c, bit-add c n p lay-apart);
       small = subst (λ (x : ℕ). x < 2 ^ 256) lay-adds (marks-lt (lay (boardAt b n) p));
     }
+
+    -- the piece of the step is the piece
+    lay-piece : stepPiece n (n + p) ≡ p
+    unfolding stepPiece
+    lay-piece =
+        bit-ext 256 (fromBits 256 (λ c. cond (test c) 1 0)) p (fromBits-lt (λ c. cond (test c) 1 0) (λ c. digit (test c)) 256) (piece-lt (boardAt b n) paths p piece)
+        (λ c h. bit-fromBits (λ c. cond (test c) 1 0) (λ c. digit (test c)) 256 c h ∙ go c (hasCell (n + p) c) refl (hasCell n c) refl)
+      where
+        test : ℕ → Bool
+        test c = hasCell (n + p) c && not (hasCell n c)
+
+        go : (c : ℕ) (s : Bool) → hasCell (n + p) c ≡ s → (t : Bool) → hasCell n c ≡ t → cond (s && not t) 1 0 ≡ bit p c
+        go c true e true f = omega (arith, hasCell-iff n c .0 f, bit-le p c, lay-apart c)
+        go c true e false f = omega (arith, hasCell-iff (n + p) c .0 e, no-cell n c f, bit-add c n p lay-apart)
+        go c false e t f = omega (arith, no-cell (n + p) c e, bit-add c n p lay-apart)
 
 -- ---- the laws
 
@@ -150,7 +171,7 @@ module _ (b : Board) (paths : List Path) (good : So (valid b)) where
         let x = fits-piece n p ok .0 f in
         let t = f .tile in
         fewer (freeCount (boardAt b (marks (lay (boardAt b n) p)))) (freeCount (boardAt b n)) (size p) (counted n p ok x) (subst (λ (k : ℕ). 0 < k) (sym (piece-size b good paths p t)) (cellCount-pos (t .0)));
-    lay-step = λ n p ok f. taken-back (marks (lay (boardAt b n) p)) n p (lay-adds b paths n ok p (fits-piece n p ok .0 f));
+    lay-step = λ n p ok f. let x = fits-piece n p ok .0 f in ap (stepPiece n) (lay-adds b paths n ok p x) ∙ lay-piece b paths n ok p x;
     piece-fits = λ n p ok m. fits-piece n p ok .1 (piece-there n p ok m .0);
     piece-chosen = λ n p ok m. piece-there n p ok m .1;
     piece-once = λ n ok. once-on (boardAt b n) paths (pruned (boardAt b n) paths) (chosen (boardAt b n));

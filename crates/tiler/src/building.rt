@@ -1,15 +1,16 @@
 // The graph in lent words: nodes and edges found in order, then the path counts by one pass over the
 // edges. Private helpers; they ask that board and tiles have been tested, and that the rooms are lent:
 // `room` is the nodes' room, `space` the edges' room (`room` in `add_edge`, which has no other).
-use crate::Complete;
-use crate::GraphResult;
 use crate::MadeGraph;
 use crate::layers;
 use crate::plot;
 use board::RectangularBoard;
 use cells::Cells;
 use cells::list;
+use graph::Complete;
 use graph::Found;
+use graph::GraphResult;
+use graph::rooms;
 use tile::Tiles;
 use tile::refusal::Refusal;
 use tile::refusal::Verdict;
@@ -28,7 +29,9 @@ ghost use Rattle.covers.specs.Counts.{nodesOf, graphEdges};
 ghost use Rattle.covers.specs.FindingLaws.{addChild, addChildren};
 ghost use Rattle.graph.specs.Graph.{edgeAt, firstFrom};
 ghost use Rattle.tiler.specs.Boards.{From, settingOf, startOf};
-ghost use Rattle.tiler.specs.Counting.{completeNode, Makes, weighGraph, graphOf, nodeRoom, edgeRoom};
+ghost use Rattle.graph.specs.Rooms.{nodeRoom, edgeRoom};
+ghost use Rattle.graph.specs.Tilings.{completeNode};
+ghost use Rattle.tiler.specs.Counting.{Makes, weighGraph, graphOf};
 ghost use Rattle.tiler.specs.Inner.{Accepted, nodesIn, HoldsEdges, HoldsGraph, firstCount, AddsCount, PassesEdges, Finishes};
 
 // How many nodes and edges a graph has, the edges past their room counting as one; no room where there
@@ -293,8 +296,8 @@ pub fn made(
     requires { ⌜ Accepted board tiles ⌝ }
     ensures { λ r. ⌜ Makes (weighGraph (nodeRoom (length (now (nodes .entry))) (length (now (counts .entry)))) (edgeRoom (length (now (edges .entry)))) (graphOf (settingOf board tiles) (startOf board))) (length (now (nodes .entry))) (length (now (counts .entry))) (length (now (edges .entry))) (now (nodes .exit)) (now (counts .exit)) (now (edges .exit)) r ⌝ }
 {
-    let room = plot::node_room(nodes.len(), counts.len());
-    let space = plot::edge_room(edges.len());
+    let room = rooms::node_room(nodes.len(), counts.len());
+    let space = rooms::edge_room(edges.len());
     let growth = grown(board, tiles, nodes, edges, room, space);
     let Growth::Size(n, e) = growth else {
         return refused(Refusal::NoRoom, nodes, counts, edges);

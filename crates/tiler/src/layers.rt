@@ -7,6 +7,7 @@ use board::RectangularBoard;
 use cells::Cells;
 use cells::list;
 use graph::Found;
+use graph::rooms;
 use tile::Tiles;
 use tile::refusal::Refusal;
 ghost use mathlib.Core.Path.{_≡_};
@@ -25,7 +26,8 @@ ghost use Rattle.covers.specs.GatherLaws.{addPaths};
 ghost use Rattle.tile.specs.Refusal.{given};
 ghost use Rattle.tile.specs.Stored.{pathsIn};
 ghost use Rattle.tiler.specs.Boards.{From, settingOf, startOf};
-ghost use Rattle.tiler.specs.Counting.{layersAnswer, layerRoom, countTilings, countAnswer};
+ghost use Rattle.graph.specs.Rooms.{layerRoom};
+ghost use Rattle.tiler.specs.Counting.{layersAnswer, countTilings, countAnswer};
 ghost use Rattle.tiler.specs.Inner.{Accepted, stepOf, entriesIn, boardsIn, HoldsLayer, addEach, nextOf, countFrom, Ready, AddsCount};
 
 // How many boards a layer has, and whether a path count is too large; no room where there was one
@@ -233,7 +235,7 @@ fn weighed(
     requires { ⌜ Accepted board tiles × (size ≡ stepOf (pathsIn tiles)) ⌝ }
     ensures { λ r. ⌜ countAnswer r ≡ layersAnswer (settingOf board tiles) (startOf board) (layerRoom (length (now («boards_a» .entry))) (length (now («counts_a» .entry))) (length (now («boards_b» .entry))) (length (now («counts_b» .entry)))) ⌝ }
 {
-    let room = plot::layer_room(
+    let room = rooms::layer_room(
         boards_a.len(),
         counts_a.len(),
         boards_b.len(),

@@ -2,16 +2,18 @@
 // numbers in them; words are lent, of any lengths. Nothing is asked of a caller: what can not be
 // counted is refused by the numbers of document 01.
 //
-// What each call answers and leaves in the lent words is a definition of specs/Counting.antt; what the
-// counts mean is on specs/Theorems.antt.
+// What each call answers and leaves in the lent words is a definition of specs/Counting.antt (`answer`),
+// and what the counts have to do with cuttings one of specs/Cuttings.antt (`cuttings`). What follows
+// from these contracts is on specs/Theorems.antt and specs/CuttingTheorems.antt.
 use board::RectangularBoard;
 use cells::list;
+use graph::GraphResult;
 use plot::Judged;
 use tile::Tiles;
 use tile::refusal::Refusal;
 use tile::refusal::Verdict;
-ghost use mathlib.Core.Path.{_≡_};
-ghost use Rattle.tiler.specs.Counting.{CountsTilings, GeneratesGraph, completeNode, countFromGraph};
+ghost use Rattle.tiler.specs.Counting.{CountsTilings, GeneratesGraph};
+ghost use Rattle.tiler.specs.Cuttings.{CountsCuttings, NumbersCuttings};
 
 mod building;
 mod layers;
@@ -21,20 +23,6 @@ mod plot;
 pub enum Count {
     Number(u64),
     Refused(Refusal),
-}
-
-// The full board's node, or none.
-pub enum Complete {
-    Node(usize),
-    Nothing,
-}
-
-// What comes back of a graph whose nodes, counts and edges are in lent words: how many nodes and
-// edges there are, and the full board's node.
-pub struct GraphResult {
-    pub nodes: usize,
-    pub edges: usize,
-    pub complete: Complete,
 }
 
 // A graph, or a refusal and a graph of no nodes.
@@ -47,7 +35,8 @@ pub struct MadeGraph {
 // as boards, four words a board, and counts; all their words are zero afterwards. The room is the
 // least number of boards that the four slices hold, at most 16,777,216. Refusals: 4, 6, 5, 7; then,
 // of the earliest layer that has one, 8 if its boards pass the room, else 9 if a path count is 2^64
-// or more.
+// or more. Where the board has a free cell and every tile is edge-joined, a count that is given is
+// the number of cuttings.
 pub fn count_tilings(
     board: RectangularBoard,
     tiles: Tiles,
@@ -56,7 +45,8 @@ pub fn count_tilings(
     boards_b: &mut [u64],
     counts_b: &mut [u64],
 ) -> Count
-    ensures { λ r. ⌜ CountsTilings board tiles (now («boards_a» .entry)) (now («counts_a» .entry)) (now («boards_b» .entry)) (now («counts_b» .entry)) (now («boards_a» .exit)) (now («counts_a» .exit)) (now («boards_b» .exit)) (now («counts_b» .exit)) r ⌝ }
+    ensures answer { λ r. ⌜ CountsTilings board tiles (now («boards_a» .entry)) (now («counts_a» .entry)) (now («boards_b» .entry)) (now («counts_b» .entry)) (now («boards_a» .exit)) (now («counts_a» .exit)) (now («boards_b» .exit)) (now («counts_b» .exit)) r ⌝ }
+    ensures cuttings { λ r. ⌜ CountsCuttings board tiles r ⌝ }
 {
     let count = layers::counted(board, tiles, boards_a, counts_a, boards_b, counts_b);
     list::clear_from(boards_a, 0);
@@ -69,7 +59,9 @@ pub fn count_tilings(
 // The graph of the boards that are reached: nodes, four words each, by first finding; beside each its
 // path count; and edges, as pairs of a parent and a child. The words behind them are zero, and all of
 // them after a refusal: 4, 6, 5, 7, then 8 for the nodes, 10 for the edges and 9 for a path count,
-// each over the whole graph. A room is at most 16,777,216.
+// each over the whole graph. A room is at most 16,777,216. A graph that is given is not refused by
+// 11 in `graph::tiling_by_number`; where the board has a free cell and every tile is edge-joined,
+// the numbers below its count number the cuttings.
 pub fn generate_graph(
     board: RectangularBoard,
     tiles: Tiles,
@@ -77,26 +69,12 @@ pub fn generate_graph(
     counts: &mut [u64],
     edges: &mut [u64],
 ) -> MadeGraph
-    ensures { λ r. ⌜ GeneratesGraph board tiles (now (nodes .entry)) (now (counts .entry)) (now (edges .entry)) (now (nodes .exit)) (now (counts .exit)) (now (edges .exit)) r ⌝ }
+    ensures answer { λ r. ⌜ GeneratesGraph board tiles (now (nodes .entry)) (now (counts .entry)) (now (edges .entry)) (now (nodes .exit)) (now (counts .exit)) (now (edges .exit)) r ⌝ }
+    ensures cuttings { λ r. ⌜ NumbersCuttings board tiles (now (nodes .exit)) (now (counts .exit)) (now (edges .exit)) r ⌝ }
 {
     let judged = plot::judge(board, tiles);
     match judged {
         Judged::Size(_) => building::made(board, tiles, nodes, counts, edges),
         Judged::Refused(refusal) => building::refused(refusal, nodes, counts, edges),
     }
-}
-
-// The graph count: the path count of the full board's node, 0 with none, of any result and any count
-// words.
-pub fn count_tilings_from_graph(graph: GraphResult, counts: &[u64]) -> u64
-    ensures { λ r. ⌜ r ≡ countFromGraph (completeNode (graph .complete)) (now (counts .entry)) ⌝ }
-{
-    let complete = graph.complete;
-    let Complete::Node(v) = complete else {
-        return 0;
-    };
-    if v < counts.len() {
-        return counts[v];
-    }
-    0
 }

@@ -1,5 +1,5 @@
-// What both counts ask of a board and tiles: whether they are refused, how many boards, nodes or
-// edges the lent words hold, and the children of a board that stands in lent words. Private helpers.
+// What both counts ask of a board and tiles: whether they are refused, and the children of a board that
+// stands in lent words. Private helpers.
 use board::AllMarked;
 use board::Children;
 use board::FreeCells;
@@ -10,7 +10,7 @@ use tile::Tiles;
 use tile::refusal::Refusal;
 use tile::refusal::Verdict;
 ghost use mathlib.Core.Path.{_≡_};
-ghost use Prim.Native.Nat.{_≤_, min};
+ghost use Prim.Native.Nat.{_≤_};
 ghost use lib.ListN.{length};
 ghost use Rattle.cells.specs.Set.{Within};
 ghost use Rattle.cells.specs.Words.{number};
@@ -23,7 +23,7 @@ ghost use Rattle.tile.specs.Stored.{readEqualTiles};
 ghost use Rattle.board.specs.Board.{boardOf, boardAt, freeCount, isFull, valid};
 ghost use Rattle.covers.specs.Cuttings.{childBoards};
 ghost use Rattle.tiler.specs.Boards.{From, settingOf};
-ghost use Rattle.tiler.specs.Counting.{readPlot, roomOf, layerRoom, nodeRoom, edgeRoom};
+ghost use Rattle.tiler.specs.Counting.{readPlot};
 ghost use Rattle.tiler.specs.Inner.{Accepted, stepOf, judgedAnswer};
 
 // The number of cells that each piece covers, 1 with no tiles; or a refusal of the board or the
@@ -62,43 +62,6 @@ fn at_least_one(n: usize) -> usize
         return 1;
     }
     n
-}
-
-// The smaller of two numbers.
-fn least(m: usize, n: usize) -> usize
-    ensures { λ r. ⌜ r ≡ min m n ⌝ }
-{
-    if m <= n {
-        return m;
-    }
-    n
-}
-
-// Rooms, of the numbers of lent words.
-fn room(n: usize) -> usize
-    ensures { λ r. ⌜ r ≡ roomOf n ⌝ }
-{
-    least(n, 16_777_216)
-}
-
-pub fn layer_room(boards_a: usize, counts_a: usize, boards_b: usize, counts_b: usize) -> usize
-    ensures { λ r. ⌜ r ≡ layerRoom «boards_a» «counts_a» «boards_b» «counts_b» ⌝ }
-{
-    let a = least(boards_a / 4, counts_a);
-    let b = least(boards_b / 4, counts_b);
-    room(least(a, b))
-}
-
-pub fn node_room(nodes: usize, counts: usize) -> usize
-    ensures { λ r. ⌜ r ≡ nodeRoom nodes counts ⌝ }
-{
-    room(least(nodes / 4, counts))
-}
-
-pub fn edge_room(edges: usize) -> usize
-    ensures { λ r. ⌜ r ≡ edgeRoom edges ⌝ }
-{
-    room(edges / 2)
 }
 
 // The board of the start's size and fixed marks with some marks.

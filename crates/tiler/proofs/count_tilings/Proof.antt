@@ -1,8 +1,16 @@
--- `count_tilings` meets its contract: the layers are counted, and then cleared. Assumes nothing.
-use Rattle.tiler.proofs.StartLaws.{cleared-zeros}
+-- `count_tilings` meets its contract: the layers are counted, and then cleared; that the count is the number of cuttings follows. Assumes nothing.
+use Rattle.cells.specs.Words.{Sound}
+use Rattle.tiler.specs.CuttingTheorems.{layer-count-is-number-of-cuttings}
+use Rattle.tiler.proofs.StartLaws.{cleared-zeros, both}
 use borrow.Author.Needs.{needs}
 use Rattle.tiler.proofs.count_tilings.Statement.{statement}
 use Rattle.tiler.proofs.count_tilings.Tie as tie
+
+fixed : (c : tie.Start) → Sound (c .args .board .fixed)
+fixed c = record { s0 = search needs; s1 = search needs; s2 = search needs; s3 = search needs }
+
+laid : (c : tie.Start) → Sound (c .args .board .laid)
+laid c = record { s0 = search needs; s1 = search needs; s2 = search needs; s3 = search needs }
 
 -- w, x, y and z are what is known after the four calls of `clear_from`
 returns : tie.Need-returns
@@ -11,8 +19,10 @@ returns c =
     let y = z .before .before .before .before in
     let x = y .before .before .before .before in
     let w = x .before .before .before .before in
-    let d = w .before .before .before .before .before .before .before .before .before .before .counted in
-    record {
+    let after = w .before .before .before .before .before .before .before .before .before .before in
+    let start = after .before .before .before .before .before .before .before .before .before in
+    let d = after .counted in
+    both (layer-count-is-number-of-cuttings _ (fixed start) (laid start) _ _ _ _ _ _ _ _ _ _) record {
       answer = d .ensures;
       zeroBoardsA = cleared-zeros _ _ _ (w .clear-from .ensures) (d .kept .1 .1 .0);
       zeroCountsA = cleared-zeros _ _ _ (x .clear-from2 .ensures) (d .kept .1 .1 .1 .0);

@@ -1,8 +1,9 @@
 -- `tiler::building::made` meets its contract: the graph grows, its room and its counts are judged, and it is finished.
 -- Assumes nothing.
+use native.Mathlib.Nat.{le-of-eq}
 use borrow.Author.Tests.{not-true, not-false}
 use Rattle.cells.specs.Words.{Sound}
-use Rattle.tiler.proofs.PlotLaws.{node-room, edge-room}
+use Rattle.graph.specs.RoomLaws.{node-room, edge-room}
 use Rattle.tiler.proofs.FinishLaws.{count-asks, finish-asks, made-no-room, made-no-room-for-edges, made-large, made-finished}
 use borrow.Author.Needs.{needs}
 use Rattle.tiler.proofs.building.made.Statement.{statement}
@@ -16,8 +17,8 @@ laid c = record { s0 = search needs; s1 = search needs; s2 = search needs; s3 = 
 
 grown-requires : tie.Need-grown-requires
 grown-requires c κs =
-    let nodes = node-room _ _ _ (c .before .before .before .node-room .ensures) in
-    let edges = edge-room _ _ (c .before .before .edge-room .ensures) in
+    let nodes = node-room _ _ _ (le-of-eq (c .before .before .before .node-room .ensures)) in
+    let edges = edge-room _ _ (le-of-eq (c .before .before .edge-room .ensures)) in
     (c .before .before .before .before .before .before .before .pre, nodes .0, edges)
 
 returns : tie.Need-returns

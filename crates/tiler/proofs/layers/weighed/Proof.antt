@@ -3,7 +3,7 @@ use Prim.Native.Nat.{_^_, _<_}
 use native.Mathlib.Omega.{arith}
 use Rattle.cells.specs.Words.{number}
 use Rattle.cells.specs.WordLaws.{number-lt}
-use Rattle.tiler.proofs.PlotLaws.{layer-room}
+use Rattle.graph.specs.RoomLaws.{layer-room}
 use Rattle.tiler.proofs.StartLaws.{positive, start-no-room, start-full, start-ready, start-run}
 use borrow.Author.Needs.{needs}
 use Rattle.tiler.proofs.layers.weighed.Statement.{statement}
