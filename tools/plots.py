@@ -341,11 +341,48 @@ def cut_cells(draws, plot):
 
 
 def counted_plot(draws, most):
-    """A plot to count, with tiles of one number of cells and sides of at most so many cells.
+    """A plot to count, with sides of at most so many cells."""
+    width, height = (1 + max(draws.below(most), draws.below(most)) for _ in range(2))
+    return sized_plot(draws, width, height)
+
+
+def long_plot(draws):
+    """A plot to count, with one side of at most 3 cells and the other of 7 to 16."""
+    sides = 1 + draws.below(3), 7 + draws.below(10)
+    return sized_plot(draws, *(sides if draws.one_in(2) else sides[::-1]))
+
+
+# L and T boards of at most 36 free cells, as commands.
+SHAPES = ["lb 2 1", "lb 3 1", "lb 4 1", "lb 5 1", "lb 8 1", "lb 2 2", "lb 3 2", "lb 4 2", "lb 2 3"]
+SHAPES += ["tb 0 2", "tb 1 1", "tb 2 1", "tb 3 1", "tb 5 1", "tb 7 1", "tb 1 2", "tb 2 2", "tb 1 3"]
+
+
+def shaped_plot(draws, made):
+    """A plot to count on one of the boards that answer SHAPES, with more marks at times."""
+    width, height, fixed, _ = draws.one_of(made).split()
+    plot = Plot(int(width), int(height), int(fixed, 16), tiles=equal_tiles(draws))
+    if draws.one_in(3):
+        plot.fixed |= plot.free() & draws.cells(-3)
+    if draws.one_in(3):
+        plot.laid = plot.free() & draws.cells(-3)
+    return plot
+
+
+def plots_to_cut(draws, ask, number):
+    """So many plots: of sides up to 6, half of them, a quarter long, a quarter L and T boards."""
+    shapes = ask(SHAPES)
+    found = []
+    while len(found) < number:
+        found += [counted_plot(draws, 6), counted_plot(draws, 6)]
+        found += [long_plot(draws), shaped_plot(draws, shapes)]
+    return found[:number]
+
+
+def sized_plot(draws, width, height):
+    """A plot to count, with tiles of one number of cells.
 
     In half of them the free cells are some that the tiles cut, so that many counts are not 0.
     """
-    width, height = (1 + max(draws.below(most), draws.below(most)) for _ in range(2))
     plot = Plot(width, height, tiles=equal_tiles(draws))
     inside = plot.inside()
     if draws.one_in(2):

@@ -9,10 +9,10 @@ use crate::text::field;
 use crate::write;
 use board::RectangularBoard;
 use graph::Edges;
+use graph::GraphResult;
 use tile::Tiles;
 use tile::refusal::Verdict;
 use tiler::Count;
-use tiler::GraphResult;
 ghost use Prim.Native.Nat.{_≤_};
 
 // layers WIDTH HEIGHT FIXED LAID TILES [ROOM]: the layer count. The room is 512 boards a layer unless
@@ -114,13 +114,13 @@ fn generate(
 }
 
 // Says `dirty` if a word from a place on is not zero.
-fn tell_dirt(words: &[u64], from: usize) {
+pub fn tell_dirt(words: &[u64], from: usize) {
     if !is_zero_from(words, from) {
         write::bytes(b" dirty");
     }
 }
 
-fn is_zero_from(words: &[u64], from: usize) -> bool {
+pub fn is_zero_from(words: &[u64], from: usize) -> bool {
     let mut i = from;
     while i < words.len() {
         if words[i] != 0 {

@@ -1,10 +1,11 @@
 // Reads commands from standard input, one a line, and writes what crates tile, board, graph and tiler
-// answer, one line each: the file stdout has the answers of the Rust for the commands of the file stdin.
+// answer, one line each: the file stdout has the answers of the Rust for the commands of the file stdin,
+// and for the commands tiling, which the Rust has not, those of a model of document 01.
 //
 // A line has fields parted by one blank, the first of them the command. A path is digits 0 to 7,
 // `-` for the empty one; tiles are paths joined by commas, `.` for none. Marks are a hexadecimal
 // number with no zeros in front, cell (row, column) being bit 16 * row + column. Another command is
-// a function of commands.rt or counts.rt and a line of `answer`.
+// a function of commands.rt, counts.rt or tilings.rt and a line of `answer`.
 use text::field;
 use text::find;
 use text::same;
@@ -14,6 +15,7 @@ ghost use lib.ListN.{length};
 mod commands;
 mod counts;
 mod text;
+mod tilings;
 mod write;
 
 // What a turn of reading leaves: so many bytes of an unfinished line, or the end of the input.
@@ -130,6 +132,10 @@ fn answer(line: &[u8]) {
         counts::layers(line);
     } else if same(command, b"graph") {
         counts::graph(line);
+    } else if same(command, b"tilings") {
+        tilings::tilings(line);
+    } else if same(command, b"tiling") {
+        tilings::tiling(line);
     } else {
         write::bytes(b"unknown command");
     }

@@ -1,4 +1,5 @@
-// What a text holds: its fields, a field's number, code, tile, tiles or marks, and a line's board.
+// What a text holds: its fields, a field's number, code, tile, tiles, marks or list of numbers, and a
+// line's board.
 use board::RectangularBoard;
 use cells::Cells;
 use tile::Tile;
@@ -77,6 +78,69 @@ pub fn number_in(text: &[u8]) -> usize {
         i += 1;
     }
     n
+}
+
+// The number of some decimal digits, 0 where there are none; 2^64 - 1 for a greater number and for other
+// texts.
+pub fn decimal_in(text: &[u8]) -> u64 {
+    let mut n: u64 = 0;
+    let mut i = 0;
+    while i < text.len() {
+        let next = digit(text[i]);
+        if 9 < next {
+            return u64::MAX;
+        }
+        if 1_844_674_407_370_955_161 < n {
+            return u64::MAX;
+        }
+        let tens = 10 * n;
+        if u64::MAX - tens < next as u64 {
+            return u64::MAX;
+        }
+        n = tens + next as u64;
+        i += 1;
+    }
+    n
+}
+
+// The place of the first byte from a place on that is no digit, or the end.
+fn digits_end(text: &[u8], from: usize) -> usize
+    requires { ⌜ from ≤ length (now text) ⌝ }
+    ensures { λ r. ⌜ (from ≤ r) × (r ≤ length (now (text .entry))) ⌝ }
+{
+    let mut i = from;
+    while i < text.len() {
+        if 9 < digit(text[i]) {
+            return i;
+        }
+        i += 1;
+    }
+    i
+}
+
+// Stores the decimal numbers of a list, each two parted by one byte, `.` if there are none; gives how
+// many there are. What the words do not hold is not read.
+pub fn words_in(list: &[u8], words: &mut [u64]) -> usize
+    ensures { λ r. ⌜ r ≤ length (now (words .entry)) ⌝ }
+{
+    let mut count = 0;
+    let mut at = 0;
+    if same(list, b".") {
+        return 0;
+    }
+    while at < list.len() {
+        if words.len() <= count {
+            return count;
+        }
+        let end = digits_end(list, at);
+        words[count] = decimal_in(&list[at..end]);
+        count += 1;
+        if end == list.len() {
+            return count;
+        }
+        at = end + 1;
+    }
+    count
 }
 
 // The smaller of two numbers.

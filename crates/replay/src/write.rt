@@ -3,14 +3,14 @@ use board::FreeCells;
 use board::MadeBoard;
 use cells::Cells;
 use cells::list;
+use graph::Complete;
+use graph::GraphResult;
 use libc::STDOUT_FILENO;
 use tile::MadeTile;
 use tile::Tiles;
 use tile::direction::Code;
 use tile::refusal::Refusal;
 use tile::refusal::Verdict;
-use tiler::Complete;
-use tiler::GraphResult;
 
 pub fn bytes(text: &[u8]) {
     io::write_all(STDOUT_FILENO, text);
@@ -124,7 +124,7 @@ fn word(value: u64, width: usize) -> usize {
 }
 
 // A set of cells as a hexadecimal number with no zeros in front.
-fn marks(set: Cells) {
+pub fn marks(set: Cells) {
     let second = word(set.w3, 0);
     let third = word(set.w2, second);
     let last = word(set.w1, third);
@@ -185,7 +185,7 @@ fn complete(node: Complete) {
 // and the edges as they are stored.
 pub fn graph(shown: GraphResult, nodes: &[u64], counts: &[u64], edges: &[u64]) {
     let node = shown.complete;
-    count(tiler::count_tilings_from_graph(shown, counts));
+    count(graph::count_tilings_from_graph(shown, counts));
     bytes(b" ");
     number(shown.nodes);
     bytes(b" ");
