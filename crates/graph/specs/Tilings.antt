@@ -1,5 +1,5 @@
--- Definitions: the result of a graph, the tiling by number of any graph words and any result, and the cutting that its node list gives. What stands in quotation marks is 01's, from its
--- sections The graph and Tiling by number; the walk itself is `tiling` of covers' `Counts`. Assumes nothing.
+-- Definitions: the result of a graph, the tiling by number of any graph words and any result, and the cutting that its node list gives. What stands in
+-- quotation marks is 01's, from its sections Boards, The graph and Tiling by number; the walk itself is `tiling` of covers' `Counts`. Assumes nothing.
 use mathlib.Core.Path.{_≡_}
 use mathlib.Core.Bool.{Bool, false, not, cond, _&&_, _||_}
 use mathlib.Core.List.{List, [], map, List·Memᴰ as Mem}
