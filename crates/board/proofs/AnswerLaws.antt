@@ -11,11 +11,11 @@ use lib.Seq.{take-nil, take-all}
 use Rattle.cells.specs.Lists.{storedIn, clearedFrom, wordsFor}
 use Rattle.cells.specs.ListLaws.{storedIn-none, length-storedIn, cleared-storedIn, cleared-all}
 use Rattle.tile.specs.declared.Tiles.{Tiles}
-use Rattle.tile.specs.declared.refusal.Refusal.{Refusal}
-use Rattle.tile.specs.declared.refusal.Verdict.{Verdict}
-use Rattle.tile.specs.declared.refusal.Verdict.the-variants as Verdicts
-use Rattle.tile.specs.Refusal.{Answer, refused, given, mapAnswer, bindAnswer, refusalOf, refusalNumber, verdictNumber, valueOr}
-use Rattle.tile.specs.RefusalLaws.{refusalNumber-pos, refused-of}
+use Rattle.refusal.specs.declared.Refusal.{Refusal}
+use Rattle.refusal.specs.declared.Verdict.{Verdict}
+use Rattle.refusal.specs.declared.Verdict.the-variants as Verdicts
+use Rattle.refusal.specs.Refusal.{Answer, refused, given, mapAnswer, bindAnswer, refusalOf, refusalNumber, verdictNumber, valueOr}
+use Rattle.refusal.specs.RefusalLaws.{refusalNumber-pos, refused-of}
 use Rattle.tile.specs.Path.{Path}
 use Rattle.tile.specs.Stored.{pathsIn, readTiles}
 use Rattle.tile.specs.StoredLaws.{readTiles-accepted}

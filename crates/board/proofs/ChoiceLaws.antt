@@ -13,8 +13,8 @@ use lib.ListN.{getD}
 use Rattle.cells.specs.Set.{hasCell}
 use Rattle.cells.specs.Arrays.{listOf}
 use Rattle.cells.specs.ArrayLaws.{listOf-snoc}
-use Rattle.tile.specs.Position.{shift}
-use Rattle.tile.specs.Direction.{step}
+use Rattle.direction.specs.Position.{shift}
+use Rattle.direction.specs.Direction.{step}
 use Rattle.board.specs.declared.walk.Place.{Place}
 use Rattle.board.specs.declared.walk.Place.the-variants as P
 use Rattle.board.specs.declared.choice.Chosen.{Chosen}

@@ -7,8 +7,8 @@ use native.Mathlib.Omega.{arith}
 use Rattle.cells.specs.declared.Cells.{Cells}
 use Rattle.cells.specs.Set.{unionOf}
 use Rattle.cells.specs.Words.{number}
-use Rattle.tile.specs.declared.refusal.Verdict.the-variants as Verdicts
-use Rattle.tile.specs.Refusal.{Answer, refused, refusalOf, valueOr, verdictNumber}
+use Rattle.refusal.specs.declared.Verdict.the-variants as Verdicts
+use Rattle.refusal.specs.Refusal.{Answer, refused, refusalOf, valueOr, verdictNumber}
 use Rattle.board.specs.declared.RectangularBoard.{RectangularBoard}
 use Rattle.board.specs.declared.MadeBoard.{MadeBoard}
 use Rattle.board.specs.Board.{Board, boardOf, noBoard, sizeOk, setOf, shapeMark, shaped, lBoard, tBoard, MakesBoard}

@@ -20,12 +20,12 @@ use Rattle.cells.specs.MemberLaws.{flatMap-snoc}
 use Rattle.cells.specs.ListLaws.{length-storedIn, storedIn-none, setsIn-storedIn, storedIn-snoc}
 use Rattle.cells.specs.Set.{hasCell}
 use Rattle.tile.specs.declared.Tiles.{Tiles}
-use Rattle.tile.specs.Position.{Position}
+use Rattle.direction.specs.Position.{Position}
 use Rattle.tile.specs.Stored.{pathAt, pathsIn, soundAt, readTiles, containsAnswer}
-use Rattle.tile.specs.declared.refusal.Refusal.{Refusal}
+use Rattle.refusal.specs.declared.Refusal.{Refusal}
 use Rattle.tile.specs.declared.Contains.{Contains}
 use Rattle.tile.specs.declared.Contains.the-variants as Contained
-use Rattle.tile.specs.Refusal.{refused, given, mapAnswer, refusalNumber}
+use Rattle.refusal.specs.Refusal.{refused, given, mapAnswer, refusalNumber}
 use Rattle.tile.specs.Path.{Path, codesOk, containsSingle}
 use Rattle.board.specs.declared.placing.Stored.{Stored}
 use Rattle.board.specs.declared.placing.Stored.the-variants as S

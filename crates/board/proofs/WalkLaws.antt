@@ -15,15 +15,15 @@ use Rattle.cells.specs.declared.Cells.{Cells}
 use Rattle.cells.specs.Set.{hasCell, withCell}
 use Rattle.cells.specs.Words.{value, number}
 use Rattle.cells.specs.ListLaws.{value-none}
-use Rattle.tile.specs.declared.refusal.Refusal.{Refusal}
-use Rattle.tile.specs.declared.direction.Offset.{Offset}
-use Rattle.tile.specs.declared.direction.Offset.the-variants as O
-use Rattle.tile.specs.declared.direction.Code.{Code}
-use Rattle.tile.specs.declared.direction.Code.the-variants as Codes
-use Rattle.tile.specs.Refusal.{refused, given, refusalNumber}
-use Rattle.tile.specs.Position.{Position, at, shift}
-use Rattle.tile.specs.Direction.{step, opposite, onCode, offsetAnswer, codeAnswer}
-use Rattle.tile.specs.DirectionLaws.{by-code, onCode-given, opposite-lt}
+use Rattle.refusal.specs.declared.Refusal.{Refusal}
+use Rattle.direction.specs.declared.Offset.{Offset}
+use Rattle.direction.specs.declared.Offset.the-variants as O
+use Rattle.direction.specs.declared.Code.{Code}
+use Rattle.direction.specs.declared.Code.the-variants as Codes
+use Rattle.refusal.specs.Refusal.{refused, given, refusalNumber}
+use Rattle.direction.specs.Position.{Position, at, shift}
+use Rattle.direction.specs.Direction.{step, opposite, onCode, offsetAnswer, codeAnswer}
+use Rattle.direction.specs.DirectionLaws.{by-code, onCode-given, opposite-lt}
 use Rattle.tile.specs.Path.{Path}
 use Rattle.board.specs.declared.walk.Place.{Place}
 use Rattle.board.specs.declared.walk.Place.the-variants as P

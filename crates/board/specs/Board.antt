@@ -8,8 +8,8 @@ use lib.IntN.{ℤ, pos, negsuc, natAbs}
 use Rattle.cells.specs.Set.{hasCell, fromBits, unionOf, size}
 use Rattle.cells.specs.Words.{number}
 use Rattle.cells.specs.Arrays.{allBelow}
-use Rattle.tile.specs.Refusal.{Answer, refused, given, refusalOf, valueOr, verdictNumber, refusalNumber}
-use Rattle.tile.specs.Position.{Position, at}
+use Rattle.refusal.specs.Refusal.{Answer, refused, given, refusalOf, valueOr, verdictNumber, refusalNumber}
+use Rattle.direction.specs.Position.{Position, at}
 use Rattle.board.specs.declared.RectangularBoard.{RectangularBoard}
 use Rattle.board.specs.declared.MadeBoard.{MadeBoard}
 use Rattle.board.specs.declared.FreeCells.{FreeCells}

@@ -17,12 +17,12 @@ use Rattle.cells.specs.SetLaws.{hasCell-iff, hasCell-false, bit-unionOf, unionO
 use Rattle.cells.specs.FirstsLaws.{so-eq}
 use Rattle.cells.specs.Arrays.{allBelow}
 use Rattle.cells.specs.ArrayLaws.{allBelow-at, allBelow-all}
-use Rattle.tile.specs.declared.refusal.Refusal.{Refusal}
-use Rattle.tile.specs.declared.refusal.Verdict.{Verdict}
-use Rattle.tile.specs.declared.refusal.Verdict.the-variants as Verdicts
-use Rattle.tile.specs.Refusal.{refused, given, refusalOf, verdictNumber}
-use Rattle.tile.specs.RefusalLaws.{refusalNumber-pos}
-use Rattle.tile.specs.Position.{Position, at}
+use Rattle.refusal.specs.declared.Refusal.{Refusal}
+use Rattle.refusal.specs.declared.Verdict.{Verdict}
+use Rattle.refusal.specs.declared.Verdict.the-variants as Verdicts
+use Rattle.refusal.specs.Refusal.{refused, given, refusalOf, verdictNumber}
+use Rattle.refusal.specs.RefusalLaws.{refusalNumber-pos}
+use Rattle.direction.specs.Position.{Position, at}
 use Rattle.board.specs.declared.RectangularBoard.{RectangularBoard}
 use Rattle.board.specs.Board.{Board, boardOf, cellOf, positionOf, below, inside, setOf, marks, isMarked, freeAt, isFree, freeSet, freeCount, isFull, sizeOk, markOk, valid, readBoard, shapeMark, shaped}
 

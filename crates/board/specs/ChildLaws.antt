@@ -20,7 +20,7 @@ use Rattle.cells.specs.Arrays.{allBelow}
 use Rattle.cells.specs.ArrayLaws.{allBelow-all}
 use Rattle.cells.specs.Firsts.{Once, firsts}
 use Rattle.cells.specs.FirstsLaws.{so-eq, firsts-map}
-use Rattle.tile.specs.Position.{Position}
+use Rattle.direction.specs.Position.{Position}
 use Rattle.tile.specs.Path.{Path, cellCount}
 use Rattle.board.specs.Board.{Board, cellOf, positionOf, inside, marks, isMarked, freeAt, isFull, sizeOk, markOk, valid}
 use Rattle.board.specs.Children.{chosen, withCells, moved, Fits, IsPiece, fitsOf, pieces, lay, pruned, children, mostChildren}

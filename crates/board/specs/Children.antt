@@ -15,9 +15,9 @@ use Rattle.cells.specs.Firsts.{any, firsts}
 use Rattle.cells.specs.Arrays.{listOf}
 use Rattle.cells.specs.Lists.{wordsFor, storedIn}
 use Rattle.tile.specs.declared.Tiles.{Tiles}
-use Rattle.tile.specs.Refusal.{Answer, refused, given, mapAnswer, bindAnswer, refusalNumber, valueOr}
-use Rattle.tile.specs.Position.{Position, at, origin, shift}
-use Rattle.tile.specs.Direction.{step}
+use Rattle.refusal.specs.Refusal.{Answer, refused, given, mapAnswer, bindAnswer, refusalNumber, valueOr}
+use Rattle.direction.specs.Position.{Position, at, origin, shift}
+use Rattle.direction.specs.Direction.{step}
 use Rattle.tile.specs.Path.{Path, points, cells, containsSingle}
 use Rattle.tile.specs.Stored.{readTiles}
 use Rattle.board.specs.declared.RectangularBoard.{RectangularBoard}

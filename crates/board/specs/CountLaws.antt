@@ -8,8 +8,8 @@ use borrow.Author.Tests.{eqb-true, le-ltb}
 use lib.Dec.{eqb, ltb}
 use lib.IntN.{pos}
 use Rattle.cells.specs.Set.{hasCell}
-use Rattle.tile.specs.Position.{Position, at, shift}
-use Rattle.tile.specs.Direction.{step}
+use Rattle.direction.specs.Position.{Position, at, shift}
+use Rattle.direction.specs.Direction.{step}
 use Rattle.board.specs.Board.{cellOf, positionOf, inside}
 use Rattle.board.specs.Children.{one, outer, laidBeside, neighbourCount}
 

@@ -9,8 +9,8 @@ use Rattle.cells.specs.declared.Cells.{Cells}
 use Rattle.cells.specs.Words.{number}
 use Rattle.cells.specs.Lists.{wordsFor}
 use Rattle.tile.specs.declared.Tiles.{Tiles}
-use Rattle.tile.specs.Refusal.{Answer, refused, given, mapAnswer}
-use Rattle.tile.specs.Direction.{rotate, reflect}
+use Rattle.refusal.specs.Refusal.{Answer, refused, given, mapAnswer}
+use Rattle.direction.specs.Direction.{rotate, reflect}
 use Rattle.tile.specs.Path.{Path, orbit}
 use Rattle.tile.specs.Stored.{tilesOf}
 use Rattle.board.specs.declared.RectangularBoard.{RectangularBoard}

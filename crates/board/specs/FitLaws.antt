@@ -16,10 +16,10 @@ use Rattle.cells.specs.BitLaws.{bit-le, bit-ext, zero-bit}
 use Rattle.cells.specs.SetLaws.{withCell-old, withCell-past, withCell-lt, bit-withCell-same, bit-withCell-other}
 use Rattle.cells.specs.Firsts.{any, firsts}
 use Rattle.cells.specs.FirstsLaws.{so-eq, any-true, any-some, mem-firsts}
-use Rattle.tile.specs.Position.{Position, at, origin, shift, samePosition}
-use Rattle.tile.specs.PositionLaws.{samePosition-iff, shift-origin, shift-shift}
-use Rattle.tile.specs.Direction.{step, opposite}
-use Rattle.tile.specs.DirectionLaws.{step-opposite}
+use Rattle.direction.specs.Position.{Position, at, origin, shift, samePosition}
+use Rattle.direction.specs.PositionLaws.{samePosition-iff, shift-origin, shift-shift}
+use Rattle.direction.specs.Direction.{step, opposite}
+use Rattle.direction.specs.DirectionLaws.{step-opposite}
 use Rattle.tile.specs.Path.{Path, points}
 use Rattle.tile.specs.PathLaws.{cells-shift}
 use Rattle.board.specs.Board.{cellOf}

@@ -11,7 +11,7 @@ use borrow.Author.Tests.{not-true}
 use Rattle.cells.specs.Set.{bit, hasCell, Disjoint, size}
 use Rattle.cells.specs.BitLaws.{bit-le, bit-ext, bit-high, zero-bit, bit-add, add-lt, fromBits-lt}
 use Rattle.cells.specs.SetLaws.{hasCell-iff, hasCell-false, size-add}
-use Rattle.tile.specs.Position.{Position, origin, shift}
+use Rattle.direction.specs.Position.{Position, origin, shift}
 use Rattle.tile.specs.EqualLaws.{cells-origin}
 use Rattle.tile.specs.Path.{Path, cellCount}
 use Rattle.board.specs.Board.{Board, bare, cellOf, positionOf, inside, setOf, marks, isMarked, freeAt, isFree, freeSet, freeCount, isFull, valid}

@@ -11,9 +11,9 @@ use lib.ListN.{length, getD, take, drop}
 use Rattle.cells.specs.Set.{hasCell}
 use Rattle.cells.specs.Words.{value}
 use Rattle.cells.specs.Lists.{storedIn}
-use Rattle.tile.specs.declared.refusal.Refusal.the-variants as R
-use Rattle.tile.specs.Position.{Position, shift}
-use Rattle.tile.specs.Direction.{step, opposite}
+use Rattle.refusal.specs.declared.Refusal.the-variants as R
+use Rattle.direction.specs.Position.{Position, shift}
+use Rattle.direction.specs.Direction.{step, opposite}
 use Rattle.tile.specs.Path.{Path}
 use Rattle.board.specs.declared.Children.{Children}
 use Rattle.board.specs.declared.Children.the-variants as C

@@ -16,9 +16,9 @@ use Rattle.cells.specs.Firsts.{Once}
 use Rattle.cells.specs.FirstsLaws.{mem-getD, mem-firsts, once-firsts, length-addFirsts}
 use Rattle.cells.specs.Arrays.{listOf}
 use Rattle.cells.specs.ArrayLaws.{length-listOf}
-use Rattle.tile.specs.Position.{Position, origin, shift, samePosition}
-use Rattle.tile.specs.PositionLaws.{samePosition-iff}
-use Rattle.tile.specs.Direction.{step}
+use Rattle.direction.specs.Position.{Position, origin, shift, samePosition}
+use Rattle.direction.specs.PositionLaws.{samePosition-iff}
+use Rattle.direction.specs.Direction.{step}
 use Rattle.tile.specs.Path.{Path, points, cells, cellCount}
 use Rattle.tile.specs.PathLaws.{cells-shift}
 use Rattle.board.specs.Board.{Board, cellOf, positionOf, inside, freeAt}

@@ -7,10 +7,10 @@ use Prim.Native.Nat.{ℕ, _≤_}
 use borrow.Author.Tests.{not-true}
 use Rattle.cells.specs.Set.{hasCell}
 use Rattle.cells.specs.FirstsLaws.{any-true}
-use Rattle.tile.specs.Position.{Position, shift}
-use Rattle.tile.specs.Direction.{step}
+use Rattle.direction.specs.Position.{Position, shift}
+use Rattle.direction.specs.Direction.{step}
 use Rattle.tile.specs.Path.{Path, codesOk, cells, cellCount, isSingle, containsSingle, EdgeJoined}
-use Rattle.tile.specs.PositionLaws.{shift-shift}
+use Rattle.direction.specs.PositionLaws.{shift-shift}
 use Rattle.tile.specs.PathLaws.{codesOk-cons, cellCount-more}
 use Rattle.board.specs.Board.{Board, cellOf, positionOf, inside, isMarked, freeAt, isFree}
 use Rattle.board.specs.Children.{countOf, moved, Fits, hasFour, pruned}

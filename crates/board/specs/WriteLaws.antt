@@ -16,7 +16,7 @@ use Rattle.cells.specs.FirstsLaws.{mem-getD}
 use Rattle.cells.specs.Lists.{setAt, storedIn}
 use Rattle.cells.specs.ListLaws.{setAt-storedIn}
 use Rattle.tile.specs.declared.Tiles.{Tiles}
-use Rattle.tile.specs.Refusal.{Answer, given, mapAnswer, bindAnswer, valueOr}
+use Rattle.refusal.specs.Refusal.{Answer, given, mapAnswer, bindAnswer, valueOr}
 use Rattle.tile.specs.Path.{Path}
 use Rattle.tile.specs.Stored.{readTiles, Storable}
 use Rattle.board.specs.declared.RectangularBoard.{RectangularBoard}

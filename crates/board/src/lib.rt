@@ -8,13 +8,13 @@
 use cells::Cells;
 use cells::list;
 use placing::Stored;
+use refusal::Refusal;
+use refusal::Verdict;
 use tile::Tiles;
-use tile::refusal::Refusal;
-use tile::refusal::Verdict;
 ghost use mathlib.Core.Path.{_≡_};
 ghost use mathlib.Core.List.{[], _∷_};
 ghost use Rattle.cells.specs.Words.{value, number};
-ghost use Rattle.tile.specs.Refusal.{mapAnswer, refusalOf, verdictNumber};
+ghost use Rattle.refusal.specs.Refusal.{mapAnswer, refusalOf, verdictNumber};
 ghost use Rattle.board.specs.Board.{noBoard, boardOf, marks, freeCount, isFull, readBoard, shaped, newBoard, lBoard, tBoard, MakesBoard, freeCellsAnswer, allMarkedAnswer};
 ghost use Rattle.board.specs.Children.{lay, childrenOf, PlacesTiles, WritesChildren};
 ghost use Rattle.board.specs.Inner.{earlierOf, storedAnswer};

@@ -17,7 +17,7 @@ ghost use lib.Dec.{eqb};
 ghost use lib.ListN.{length};
 ghost use Rattle.cells.specs.Firsts.{addNew, addFirsts};
 ghost use Rattle.cells.specs.Words.{number};
-ghost use Rattle.tile.specs.Refusal.{given};
+ghost use Rattle.refusal.specs.Refusal.{given};
 ghost use Rattle.tile.specs.Path.{codesOk, containsSingle};
 ghost use Rattle.tile.specs.Stored.{pathsIn, readTiles};
 ghost use Rattle.board.specs.Board.{boardOf, marks, valid};

@@ -2,17 +2,16 @@
 // and column are signed while they are stepped, and compared with nought before use. Private
 // helpers; they ask that the size and the codes have been tested.
 use cells::Cells;
-use tile::direction;
-use tile::direction::Code;
-use tile::direction::Offset;
+use direction::Code;
+use direction::Offset;
 ghost use mathlib.Core.Path.{_≡_};
 ghost use mathlib.Core.Bool.{So};
 ghost use Prim.Native.Nat.{_≤_, _<_};
 ghost use lib.IntN.{pos};
 ghost use lib.ListN.{length, drop};
 ghost use Rattle.cells.specs.Words.{number};
-ghost use Rattle.tile.specs.Position.{at, shift};
-ghost use Rattle.tile.specs.Direction.{step, opposite};
+ghost use Rattle.direction.specs.Position.{at, shift};
+ghost use Rattle.direction.specs.Direction.{step, opposite};
 ghost use Rattle.tile.specs.Path.{codesOk};
 ghost use Rattle.board.specs.Board.{inside};
 ghost use Rattle.board.specs.Children.{cover, moved, offset, pointAt};

@@ -13,8 +13,8 @@ use lib.Seq.{getD-append-seam, getD-set-same, getD-set-other}
 use Rattle.cells.specs.Arrays.{listFrom, listOf}
 use Rattle.cells.specs.ArrayLaws.{getD-snoc, listOf-snoc}
 use Rattle.cells.specs.Lists.{setAt, clearedFrom}
-use Rattle.tile.specs.Refusal.{given, mapAnswer, valueOr}
-use Rattle.tile.specs.declared.refusal.Refusal.the-variants as R
+use Rattle.refusal.specs.Refusal.{given, mapAnswer, valueOr}
+use Rattle.refusal.specs.declared.Refusal.the-variants as R
 use Rattle.graph.specs.declared.Edges.the-variants as E
 use Rattle.graph.specs.Graph.{nodePart, findNode, edgeAt, edgesIn, edgesFrom, getEdges, numbersFor, GetsEdges}
 use Rattle.graph.specs.Inner.{StandsIn}

@@ -16,9 +16,9 @@ use lib.Seq.{getD-append-seam, getD-set-same, getD-set-other}
 use Rattle.cells.specs.Arrays.{listFrom, listOf}
 use Rattle.cells.specs.ArrayLaws.{getD-snoc}
 use Rattle.cells.specs.Lists.{clearedFrom}
-use Rattle.tile.specs.Refusal.{Answer, refused, given, mapAnswer, valueOr}
-use Rattle.tile.specs.RefusalLaws.{refused-given}
-use Rattle.tile.specs.declared.refusal.Refusal.{Refusal}
+use Rattle.refusal.specs.Refusal.{Answer, refused, given, mapAnswer, valueOr}
+use Rattle.refusal.specs.RefusalLaws.{refused-given}
+use Rattle.refusal.specs.declared.Refusal.{Refusal}
 use Rattle.covers.specs.Counts.{parentsOf, turn, tiling, SumRule, atNode}
 use Rattle.covers.specs.WalkLaws.{turn-pass, turn-hit, walk-first, tiling-next, back-in}
 use Rattle.graph.specs.declared.GraphResult.{GraphResult}

@@ -7,7 +7,7 @@ use lib.ListN.{replicate}
 use Rattle.cells.specs.Arrays.{listOf}
 use lib.Dec.{eqb}
 use Rattle.cells.specs.Firsts.{holds}
-use Rattle.tile.specs.Refusal.{Answer, refused, given}
+use Rattle.refusal.specs.Refusal.{Answer, refused, given}
 use Rattle.graph.specs.declared.Complete.{Complete}
 use Rattle.graph.specs.declared.Complete.the-variants as N
 use Rattle.graph.specs.declared.GraphResult.{GraphResult}

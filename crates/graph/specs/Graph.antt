@@ -9,7 +9,7 @@ use lib.Dec.{eqb, ltb, leb}
 use lib.ListN.{length, getD, take, drop}
 use Rattle.cells.specs.Arrays.{listOf}
 use Rattle.cells.specs.Lists.{setAt}
-use Rattle.tile.specs.Refusal.{Answer, refused, given, mapAnswer, refusalNumber, valueOr}
+use Rattle.refusal.specs.Refusal.{Answer, refused, given, mapAnswer, refusalNumber, valueOr}
 use Rattle.graph.specs.declared.Found.{Found}
 use Rattle.graph.specs.declared.Found.the-variants as F
 use Rattle.graph.specs.declared.Edges.{Edges}

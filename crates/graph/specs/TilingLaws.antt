@@ -14,8 +14,8 @@ use Rattle.cells.specs.Firsts.{any}
 use Rattle.cells.specs.FirstsLaws.{any-true, any-some}
 use Rattle.cells.specs.Arrays.{listOf}
 use Rattle.cells.specs.MemberLaws.{mem-listOf}
-use Rattle.tile.specs.Refusal.{Answer, refused, given, mapAnswer, valueOr}
-use Rattle.tile.specs.RefusalLaws.{refused-given, given-inj}
+use Rattle.refusal.specs.Refusal.{Answer, refused, given, mapAnswer, valueOr}
+use Rattle.refusal.specs.RefusalLaws.{refused-given, given-inj}
 use Rattle.covers.specs.Counts.{SumRule, Chain, sumOf, parentsOf, tiling, atNode}
 use Rattle.covers.specs.WalkLaws.{tiling-chain}
 use Rattle.graph.specs.declared.Tiling.{Tiling}

@@ -11,7 +11,7 @@ use Rattle.cells.specs.Set.{hasCell, fromBits}
 use Rattle.cells.specs.Firsts.{any, holds}
 use Rattle.cells.specs.Arrays.{listOf}
 use Rattle.cells.specs.Lists.{setAt}
-use Rattle.tile.specs.Refusal.{Answer, refused, given, mapAnswer, refusalNumber, valueOr}
+use Rattle.refusal.specs.Refusal.{Answer, refused, given, mapAnswer, refusalNumber, valueOr}
 use Rattle.covers.specs.Counts.{Chain, sumOf, parentsOf, tiling, atNode, piecesOf}
 use Rattle.graph.specs.declared.Complete.{Complete}
 use Rattle.graph.specs.declared.Complete.the-variants as N

@@ -5,12 +5,12 @@
 // that nothing is asked of a caller.
 use cells::Cells;
 use cells::list;
-use tile::refusal::Refusal;
+use refusal::Refusal;
 ghost use mathlib.Core.Path.{_≡_};
 ghost use Prim.Native.Nat.{_/_, min};
 ghost use lib.ListN.{length, set};
 ghost use Rattle.cells.specs.Words.{number};
-ghost use Rattle.tile.specs.Refusal.{mapAnswer};
+ghost use Rattle.refusal.specs.Refusal.{mapAnswer};
 ghost use Rattle.covers.specs.Counts.{atNode};
 ghost use Rattle.graph.specs.Graph.{nodePart, findNode, foundAnswer, edgesIn, edgesFrom, GetsEdges};
 ghost use Rattle.graph.specs.Tilings.{completeNode, countFromGraph, tilingByNumber, tilingAnswer, GivesTiling, GivesChain};

@@ -6,31 +6,31 @@ use crate::write;
 use board::AllMarked;
 use board::Children;
 use board::RectangularBoard;
+use direction::Axis;
+use direction::Offset;
+use refusal::Verdict;
 use tile::CellCount;
 use tile::Contains;
 use tile::Tile;
-use tile::direction::Axis;
-use tile::direction::Offset;
-use tile::refusal::Verdict;
 
 // direction C: the row step, the column step, and the codes of the opposite, the rotated and the
 // reflected directions, Horizontal before Vertical.
 pub fn direction(line: &[u8]) {
     let code = text::code_in(field(line, 1));
-    let step = tile::direction::step(code);
+    let step = direction::step(code);
     match step {
         Offset::By(row, column) => {
             write::step(row);
             write::bytes(b" ");
             write::step(column);
             write::bytes(b" ");
-            write::turned(tile::direction::opposite(code));
+            write::turned(direction::opposite(code));
             write::bytes(b" ");
-            write::turned(tile::direction::rotate(code));
+            write::turned(direction::rotate(code));
             write::bytes(b" ");
-            write::turned(tile::direction::reflect(code, Axis::Horizontal));
+            write::turned(direction::reflect(code, Axis::Horizontal));
             write::bytes(b" ");
-            write::turned(tile::direction::reflect(code, Axis::Vertical));
+            write::turned(direction::reflect(code, Axis::Vertical));
         }
         Offset::Refused(refusal) => write::refused(refusal),
     }

@@ -10,8 +10,8 @@ use crate::write;
 use board::RectangularBoard;
 use graph::Edges;
 use graph::GraphResult;
+use refusal::Verdict;
 use tile::Tiles;
-use tile::refusal::Verdict;
 use tiler::Count;
 ghost use Prim.Native.Nat.{_≤_};
 

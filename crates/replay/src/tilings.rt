@@ -14,7 +14,7 @@ use cells::list;
 use graph::Complete;
 use graph::GraphResult;
 use graph::Tiling;
-use tile::refusal::Verdict;
+use refusal::Verdict;
 ghost use Prim.Native.Nat.{_≤_};
 ghost use lib.ListN.{length};
 

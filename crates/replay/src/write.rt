@@ -3,14 +3,14 @@ use board::FreeCells;
 use board::MadeBoard;
 use cells::Cells;
 use cells::list;
+use direction::Code;
 use graph::Complete;
 use graph::GraphResult;
 use libc::STDOUT_FILENO;
+use refusal::Refusal;
+use refusal::Verdict;
 use tile::MadeTile;
 use tile::Tiles;
-use tile::direction::Code;
-use tile::refusal::Refusal;
-use tile::refusal::Verdict;
 
 pub fn bytes(text: &[u8]) {
     io::write_all(STDOUT_FILENO, text);

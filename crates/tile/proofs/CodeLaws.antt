@@ -11,14 +11,14 @@ use lib.Dec.{eqb, leb}
 use lib.ListN.{length, getD, take, drop, length-map, List·getD-eq-default, List·getD-map}
 use lib.Seq.{drop-cons, drop-length, length-take-le, getD-take}
 use Rattle.cells.specs.Arrays.{listOf}
-use Rattle.tile.specs.declared.direction.Code.{Code}
-use Rattle.tile.specs.declared.direction.Code.the-variants as Codes
-use Rattle.tile.specs.Refusal.{refused, given}
-use Rattle.tile.specs.Direction.{codeAnswer, onCode}
+use Rattle.direction.specs.declared.Code.{Code}
+use Rattle.direction.specs.declared.Code.the-variants as Codes
+use Rattle.refusal.specs.Refusal.{refused, given}
+use Rattle.direction.specs.Direction.{codeAnswer, onCode}
 use Rattle.tile.specs.Path.{Path, codesOk, samePath}
-use Rattle.tile.specs.Stored.{tileOf}
-use Rattle.tile.specs.Inner.{codeOf, run, overlay}
-use Rattle.tile.specs.DirectionLaws.{onCode-past, onCode-given}
+use Rattle.tile.specs.Stored.{tileOf, overlay}
+use Rattle.tile.specs.Inner.{codeOf, run}
+use Rattle.direction.specs.DirectionLaws.{onCode-past, onCode-given}
 
 -- ---- every code is one of 0 to 7: the test of a path is the test of what is left of it
 
@@ -111,6 +111,10 @@ module _ (f : ℕ → ℕ) (xs : List ℕ) (n : ℕ) (h : n ≤ length xs) where
 
   pub image-behind : (k : ℕ) → n ≤ k → 0 ≡ getD (map f (take n xs)) k 0
   image-behind k i = let j : length (map f (take n xs)) ≤ k = omega (arith, length-image) in sym (List·getD-eq-default (map f (take n xs)) 0 j)
+
+-- behind a path there are zeros
+pub path-behind : (p : Path) (k : ℕ) → length p ≤ k → 0 ≡ getD p k 0
+path-behind p k h = sym (List·getD-eq-default p 0 h)
 
 -- a tile that has a path's length and codes, with zeros behind, stores the path
 pub stores : (p : Path) (n : ℕ) (codes : List ℕ) → n ≡ length p → codes ≡ listOf (λ k. getD p k 0) 32 → record { len = n; codes = codes } ≡ tileOf p

@@ -9,7 +9,7 @@ use lib.ListN.{getD}
 use Rattle.cells.specs.Arrays.{listOf}
 use Rattle.cells.specs.ArrayLaws.{any-listOf, none-listOf, allBelow-at}
 use Rattle.tile.specs.declared.Tiles.{Tiles}
-use Rattle.tile.specs.Refusal.{given}
+use Rattle.refusal.specs.Refusal.{given}
 use Rattle.tile.specs.Path.{Path, codesOk, cellCount, sharedCount, equalCounts}
 use Rattle.tile.specs.Stored.{pathAt, soundAt, pathsIn, readTiles}
 use Rattle.tile.specs.EqualLaws.{soundAt-path, readTiles-sound}

@@ -13,12 +13,12 @@ use lib.Seq.{drop-cons, drop-length, take-suc-set}
 use Rattle.cells.specs.Firsts.{holds, addNew, addFirsts, firsts}
 use Rattle.cells.specs.FirstsLaws.{firsts-map, so-eq}
 use Rattle.tile.specs.declared.points.Keys.{Keys}
-use Rattle.tile.specs.Position.{Position, at, shift, samePosition}
-use Rattle.tile.specs.Direction.{step}
+use Rattle.direction.specs.Position.{Position, at, shift, samePosition}
+use Rattle.direction.specs.Direction.{step}
 use Rattle.tile.specs.Path.{Path, codesOk, points, cells, cellCount}
 use Rattle.tile.specs.Inner.{keyed, keyStep, keysAfter, Near, keysIn}
-use Rattle.tile.specs.PositionLaws.{samePosition-iff, cancel}
-use Rattle.tile.specs.DirectionLaws.{by-code}
+use Rattle.direction.specs.PositionLaws.{samePosition-iff, cancel}
+use Rattle.direction.specs.DirectionLaws.{by-code}
 use Rattle.tile.specs.PathLaws.{codesOk-cons}
 
 -- ---- a key has one position

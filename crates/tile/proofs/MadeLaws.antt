@@ -1,5 +1,5 @@
--- Laws of the calls that make tiles: when a made tile is the answer that `MakesTile` asks for; the codes of `l_tile` and `t_tile`; and the loop that
--- collects an orbit. Rests on `StoredLaws` and `OrbitLaws`. Assumes nothing.
+-- Laws of the calls that make tiles: when a made tile is the answer that `MakesTile` asks for, and tiles those of `MakesTiles` and `AddsTile`; the
+-- codes of `l_tile` and `t_tile`; and the loop that collects an orbit. Rests on `StoredLaws` and `OrbitLaws`. Assumes nothing.
 use mathlib.Core.Path.{_≡_, refl, sym, ap, ap₂, _∙_, subst}
 use mathlib.Core.Bool.{Bool, true, false, _&&_, cond, and-false}
 use mathlib.Core.List.{List, [], _∷_, _++_, List·Memᴰ as Mem, List·Memᴰ·head as here, List·Memᴰ·tail as there}
@@ -19,15 +19,15 @@ use Rattle.tile.specs.declared.Tile.{Tile}
 use Rattle.tile.specs.declared.Tiles.{Tiles}
 use Rattle.tile.specs.declared.MadeTile.{MadeTile}
 use Rattle.tile.specs.declared.MadeTiles.{MadeTiles}
-use Rattle.tile.specs.declared.direction.Axis.the-variants as A
-use Rattle.tile.specs.Refusal.{Answer, refused, given, refusalOf, valueOr, verdictNumber}
-use Rattle.tile.specs.Direction.{rotate, reflect}
+use Rattle.direction.specs.declared.Axis.the-variants as A
+use Rattle.refusal.specs.Refusal.{Answer, refused, given, refusalOf, valueOr, verdictNumber}
+use Rattle.direction.specs.Direction.{rotate, reflect}
 use Rattle.tile.specs.Path.{Path, rotated, reflected, turns, samePath, orbit, lPath, tPath}
-use Rattle.tile.specs.Stored.{pathIn, tileOf, pathAt, pathsIn, tilesOf, MakesTile, MakesTiles, ofLength, lTile, tTile}
+use Rattle.tile.specs.Stored.{pathIn, tileOf, pathAt, pathsIn, tilesOf, appended, MakesTile, MakesTiles, AddsTile, ofLength, lTile, tTile}
 use Rattle.tile.specs.Inner.{run, CleanTile, Clean, Short}
 use Rattle.tile.proofs.CodeLaws.{run-inside, run-before, run-behind}
 use Rattle.tile.specs.OrbitLaws.{length-turns, turns-all}
-use Rattle.tile.specs.StoredLaws.{pathIn-tileOf, clean-tileOf, pathsIn-tilesOf, clean-tilesOf, count-tilesOf, length-pathIn, short-pathsIn}
+use Rattle.tile.specs.StoredLaws.{pathIn-tileOf, clean-tileOf, pathsIn-tilesOf, clean-tilesOf, count-tilesOf, length-pathIn, short-pathsIn, withTile-given, withTile-many}
 
 -- ---- a made tile
 
@@ -317,3 +317,18 @@ makes-no-tiles a r e t v = record { verdict = v ∙ sym (ap refusalOf e); tiles 
 pub makes-tiles : (a : Answer (List Path)) (r : MadeTiles) (ps : List Path) → a ≡ given ps → r .tiles ≡ tilesOf ps → verdictNumber (r .verdict) ≡ 0 → MakesTiles a r
 unfolding refusalOf valueOr
 makes-tiles a r ps e t v = record { verdict = v ∙ sym (ap refusalOf e); tiles = t ∙ ap tilesOf (sym (ap (valueOr []) e)) }
+
+-- ---- tiles with one more
+
+module _ (ts : Tiles) (t : Tile) (r : MadeTiles) where
+  pub adds-refused : 64 ≤ ts .count → r .tiles ≡ tilesOf [] → verdictNumber (r .verdict) ≡ 6 → AddsTile ts t r
+  unfolding refusalOf valueOr
+  adds-refused h s v =
+      let e = withTile-many ts t h in
+      record { verdict = v ∙ sym (ap refusalOf e); tiles = s ∙ sym (ap (valueOr (tilesOf [])) e) }
+
+  pub adds-given : ts .count < 64 → r .tiles ≡ appended ts t → verdictNumber (r .verdict) ≡ 0 → AddsTile ts t r
+  unfolding refusalOf valueOr
+  adds-given h s v =
+      let e = withTile-given ts t h in
+      record { verdict = v ∙ sym (ap refusalOf e); tiles = s ∙ sym (ap (valueOr (tilesOf [])) e) }

@@ -10,10 +10,10 @@ use borrow.Author.Tests.{not-true, le-leb, lt-leb}
 use lib.Dec.{leb}
 use Rattle.cells.specs.Firsts.{any}
 use Rattle.cells.specs.FirstsLaws.{any-true, any-some}
-use Rattle.tile.specs.Position.{Position, shift, samePosition}
-use Rattle.tile.specs.Direction.{step}
+use Rattle.direction.specs.Position.{Position, shift, samePosition}
+use Rattle.direction.specs.Direction.{step}
 use Rattle.tile.specs.Path.{Path, cells, cellCount, Beside, EdgeJoined}
-use Rattle.tile.specs.PositionLaws.{samePosition-iff}
+use Rattle.direction.specs.PositionLaws.{samePosition-iff}
 
 -- whether q is one step Up, Down, Left or Right from p
 unfoldable pub beside : Position → Position → Bool

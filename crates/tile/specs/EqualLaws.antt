@@ -16,12 +16,12 @@ use Rattle.cells.specs.ArrayLaws.{length-listOf, allBelow-at}
 use Rattle.cells.specs.FirstsLaws.{mem-firsts, any-true, any-some}
 use Rattle.cells.specs.MemberLaws.{mem-place, mem-listOf}
 use Rattle.tile.specs.declared.Tiles.{Tiles}
-use Rattle.tile.specs.Refusal.{Answer, refused, given, refusalOf, valueOr}
-use Rattle.tile.specs.Position.{origin, samePosition}
+use Rattle.refusal.specs.Refusal.{Answer, refused, given, refusalOf, valueOr}
+use Rattle.direction.specs.Position.{origin, samePosition}
 use Rattle.tile.specs.Path.{Path, codesOk, points, cells, cellCount, EqualCounts, sharedCount, equalCounts}
 use Rattle.tile.specs.Stored.{pathAt, soundAt, pathsIn, readTiles, readEqualTiles, Storable}
-use Rattle.tile.specs.RefusalLaws.{clash, refused-given}
-use Rattle.tile.specs.PositionLaws.{samePosition-iff}
+use Rattle.refusal.specs.RefusalLaws.{clash, refused-given}
+use Rattle.direction.specs.PositionLaws.{samePosition-iff}
 use Rattle.tile.specs.StoredLaws.{readTiles-given, readTiles-many, readTiles-unsound}
 
 -- ---- a tile has a cell, the origin

@@ -4,10 +4,10 @@ use mathlib.Core.Bool.{true, false}
 use mathlib.Core.List.{[], _∷_}
 use lib.IntN.{pos, negsuc}
 use lib.ListN.{length}
-use Rattle.tile.specs.declared.direction.Axis.the-variants as A
-use Rattle.tile.specs.Refusal.{refused, given}
-use Rattle.tile.specs.Position.{at, origin}
-use Rattle.tile.specs.Direction.{step, rotate, reflect, onCode}
+use Rattle.direction.specs.declared.Axis.the-variants as A
+use Rattle.refusal.specs.Refusal.{refused, given}
+use Rattle.direction.specs.Position.{at, origin}
+use Rattle.direction.specs.Direction.{step, rotate, reflect, onCode}
 use Rattle.tile.specs.Path.{Path, points, cells, cellCount, EdgeJoined, sharedCount, equalCounts, orbit, lPath, tPath}
 use Rattle.tile.specs.Stored.{readTile, tileOf, readTiles, readEqualTiles, tilesOf, lTile, tTile}
 use Rattle.tile.specs.EdgeTest.{edgeJoined, edgeJoined-iff}

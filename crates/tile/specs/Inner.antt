@@ -11,11 +11,11 @@ use Rattle.tile.specs.declared.Tile.{Tile}
 use Rattle.tile.specs.declared.Tiles.{Tiles}
 use Rattle.tile.specs.declared.codes.Motion.{Motion}
 use Rattle.tile.specs.declared.codes.Motion.the-variants as M
-use Rattle.tile.specs.declared.direction.Code.{Code}
-use Rattle.tile.specs.declared.direction.Code.the-variants as Codes
+use Rattle.direction.specs.declared.Code.{Code}
+use Rattle.direction.specs.declared.Code.the-variants as Codes
 use Rattle.tile.specs.declared.points.Keys.{Keys}
-use Rattle.tile.specs.Position.{Position, at}
-use Rattle.tile.specs.Direction.{rotate, reflect}
+use Rattle.direction.specs.Position.{Position, at}
+use Rattle.direction.specs.Direction.{rotate, reflect}
 use Rattle.tile.specs.Path.{Path}
 use Rattle.tile.specs.Stored.{pathIn, tileOf, pathsIn, tilesOf}
 
@@ -35,10 +35,6 @@ codeOf (Codes.Refused r) code = code
 -- v at the places a to b - 1, and f elsewhere
 unfoldable pub run : ℕ → ℕ → ℕ → (ℕ → ℕ) → ℕ → ℕ
 run a b v f k = cond (leb a k && ltb k b) v (f k)
-
--- the 32 codes of ds at the places from a on, and those of cs elsewhere
-unfoldable pub overlay : ℕ → List ℕ → List ℕ → ℕ → ℕ
-overlay a ds cs k = cond (leb a k && ltb k (a + 32)) (getD ds (k - a) 0) (getD cs k 0)
 
 -- ---- stored tiles
 

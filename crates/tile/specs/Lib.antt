@@ -1,14 +1,8 @@
--- Tiles. `Refusal`, `Position`, `Direction`, `Path` and `Stored` are what a reader must believe; `Inner` serves private contracts only;
+-- Tiles. `Path` and `Stored` are what a reader must believe; `Inner` serves private contracts only;
 -- the rest are laws.
-pub mod Refusal
-pub mod Position
-pub mod Direction
 pub mod Path
 pub mod Stored
 pub mod Inner
-pub mod RefusalLaws
-pub mod PositionLaws
-pub mod DirectionLaws
 pub mod PathLaws
 pub mod OrbitLaws
 pub mod StoredLaws

@@ -11,11 +11,11 @@ use lib.Dec.{eqb, ltb}
 use lib.ListN.{length, length-append, length-map}
 use Rattle.cells.specs.Firsts.{Once, Tells, holds, addFirsts, firsts}
 use Rattle.cells.specs.FirstsLaws.{holds-iff, mem-firsts, once-firsts, addFirsts-append, addFirsts-old, addFirsts-new, length-addFirsts}
-use Rattle.tile.specs.declared.direction.Axis.{Axis}
-use Rattle.tile.specs.declared.direction.Axis.the-variants as A
-use Rattle.tile.specs.Direction.{rotate, reflect}
+use Rattle.direction.specs.declared.Axis.{Axis}
+use Rattle.direction.specs.declared.Axis.the-variants as A
+use Rattle.direction.specs.Direction.{rotate, reflect}
 use Rattle.tile.specs.Path.{Path, codesOk, cellCount, EqualCounts, EdgeJoined, rotated, reflected, turns, samePath, orbit}
-use Rattle.tile.specs.DirectionLaws.{rotate-four, reflect-reflect, reflect-rotate, reflect-vertical, rotate-moves, rotate-lt, reflect-lt}
+use Rattle.direction.specs.DirectionLaws.{rotate-four, reflect-reflect, reflect-rotate, reflect-vertical, rotate-moves, rotate-lt, reflect-lt}
 use Rattle.tile.specs.PathLaws.{rotate-symmetry, reflect-symmetry, cellCount-map, edgeJoined-map, codesOk-cons}
 
 abbrev Horizontal : Axis

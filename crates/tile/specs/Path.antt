@@ -7,10 +7,10 @@ use Prim.Native.Nat.{ℕ, zero, suc, _-_, _≤_, _<_}
 use lib.Dec.{eqb, ltb}
 use lib.ListN.{length, replicate}
 use Rattle.cells.specs.Firsts.{any, firsts}
-use Rattle.tile.specs.declared.direction.Axis.{Axis}
-use Rattle.tile.specs.declared.direction.Axis.the-variants as A
-use Rattle.tile.specs.Position.{Position, origin, shift, samePosition}
-use Rattle.tile.specs.Direction.{step, rotate, reflect}
+use Rattle.direction.specs.declared.Axis.{Axis}
+use Rattle.direction.specs.declared.Axis.the-variants as A
+use Rattle.direction.specs.Position.{Position, origin, shift, samePosition}
+use Rattle.direction.specs.Direction.{step, rotate, reflect}
 
 abbrev pub Path : Type 0
 Path = List ℕ

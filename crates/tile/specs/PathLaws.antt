@@ -11,12 +11,12 @@ use lib.Dec.{ltb}
 use lib.ListN.{length, getD, length-map}
 use Rattle.cells.specs.Firsts.{holds, addNew, addFirsts, firsts}
 use Rattle.cells.specs.FirstsLaws.{firsts-map, length-addFirsts}
-use Rattle.tile.specs.declared.direction.Axis.the-variants as A
-use Rattle.tile.specs.Position.{Position, origin, shift, turn, mirrorRows, samePosition}
-use Rattle.tile.specs.Direction.{step, rotate, reflect}
+use Rattle.direction.specs.declared.Axis.the-variants as A
+use Rattle.direction.specs.Position.{Position, origin, shift, turn, mirrorRows, samePosition}
+use Rattle.direction.specs.Direction.{step, rotate, reflect}
 use Rattle.tile.specs.Path.{Path, codesOk, points, cells, cellCount, EdgeJoined}
-use Rattle.tile.specs.PositionLaws.{samePosition-map, shift-shift, shift-inj, shift-origin, turn-inj, turn-shift, mirrorRows-inj, mirrorRows-shift}
-use Rattle.tile.specs.DirectionLaws.{by-code, step-rotate, step-reflect, rotate-edge, reflect-edge}
+use Rattle.direction.specs.PositionLaws.{samePosition-map, shift-shift, shift-inj, shift-origin, turn-inj, turn-shift, mirrorRows-inj, mirrorRows-shift}
+use Rattle.direction.specs.DirectionLaws.{by-code, step-rotate, step-reflect, rotate-edge, reflect-edge}
 
 -- ---- a path from elsewhere
 

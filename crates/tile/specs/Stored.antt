@@ -1,12 +1,13 @@
 -- Definitions: what the structs of the code stand for. A `Tile` has a length and 32 codes, and `Tiles` a count, 64 lengths and 2,048 codes, 32 for
 -- each tile; they hold any numbers. `readTile` and `readTiles` give the paths, or 01's refusal; `tileOf` and `tilesOf` store paths, with zeros
--- behind. Reading what was stored gives it back (`readTile-tileOf`, `readTiles-tilesOf`). Assumes nothing.
+-- behind. Reading what was stored gives it back (`readTile-tileOf`, `readTiles-tilesOf`). `withTile` and `tileAt` put a tile behind the others
+-- and take one out, whatever the structs hold. Assumes nothing.
 use mathlib.Core.Path.{_≡_}
 use mathlib.Core.Bool.{Bool, So, _&&_, cond}
 use mathlib.Core.List.{List, [], List·Memᴰ as Mem}
-use Prim.Native.Nat.{ℕ, _*_, _/_, _%_, _≤_}
+use Prim.Native.Nat.{ℕ, _+_, _-_, _*_, _/_, _%_, _≤_}
 use lib.Dec.{leb, ltb}
-use lib.ListN.{length, getD, take, drop}
+use lib.ListN.{length, getD, take, drop, set}
 use Rattle.cells.specs.Arrays.{listOf, allBelow}
 use Rattle.tile.specs.declared.Tile.{Tile}
 use Rattle.tile.specs.declared.Tiles.{Tiles}
@@ -16,7 +17,7 @@ use Rattle.tile.specs.declared.CellCount.{CellCount}
 use Rattle.tile.specs.declared.CellCount.the-variants as C
 use Rattle.tile.specs.declared.Contains.{Contains}
 use Rattle.tile.specs.declared.Contains.the-variants as H
-use Rattle.tile.specs.Refusal.{Answer, refused, given, bindAnswer, refusalNumber, verdictNumber, refusalOf, valueOr}
+use Rattle.refusal.specs.Refusal.{Answer, refused, given, bindAnswer, refusalNumber, verdictNumber, refusalOf, valueOr}
 use Rattle.tile.specs.Path.{Path, codesOk, equalCounts, lPath, tPath}
 
 -- ---- one tile
@@ -29,6 +30,11 @@ pathIn t = take (t .len) (t .codes)
 unfoldable pub readTile : Tile → Answer Path
 unfolding codesOk
 readTile t = cond (leb (t .len) 32 && codesOk (pathIn t)) (given (pathIn t)) (refused 5)
+
+-- the same of a path that is handed in as a list of codes
+unfoldable pub readPath : List ℕ → Answer Path
+unfolding codesOk
+readPath codes = cond (leb (length codes) 32 && codesOk codes) (given codes) (refused 5)
 
 unfoldable pub tileOf : Path → Tile
 unfolding listOf
@@ -71,6 +77,31 @@ tilesOf ps =
       codes = listOf (λ k. getD (getD ps (k / 32) []) (k % 32) 0) 2048;
     }
 
+-- ---- one tile more, and one tile of them
+
+-- the 32 codes of ds at the places from a on, and those of cs elsewhere
+unfoldable pub overlay : ℕ → List ℕ → List ℕ → ℕ → ℕ
+overlay a ds cs k = cond (leb a k && ltb k (a + 32)) (getD ds (k - a) 0) (getD cs k 0)
+
+-- the struct with a tile's length and codes behind those of the others (`withTile-tilesOf` says what it stores)
+abbrev pub appended : Tiles → Tile → Tiles
+appended ts t =
+    record {
+      count = ts .count + 1;
+      lens = set (ts .lens) (ts .count) (t .len);
+      codes = listOf (overlay (32 * ts .count) (t .codes) (ts .codes)) 2048;
+    }
+
+-- refusal 6 for a 65th tile
+unfoldable pub withTile : Tiles → Tile → Answer Tiles
+unfolding listOf overlay
+withTile ts t = cond (ltb (ts .count) 64) (given (appended ts t)) (refused 6)
+
+-- tile i as the struct has it, with zeros for the tiles from 64 on (`tileAt-tilesOf` says which tile it is)
+unfoldable pub tileAt : Tiles → ℕ → Tile
+unfolding listOf
+tileAt ts i = record { len = getD (ts .lens) i 0; codes = listOf (λ j. getD (ts .codes) (32 * i + j) 0) 32 }
+
 -- ---- the answers of the code
 
 -- a made tile: the refusal's number, 0 for none, and the path stored; a refusal hands back the empty path
@@ -82,6 +113,11 @@ pub record MakesTile (a : Answer Path) (r : MadeTile) : Type 0 where
 pub record MakesTiles (a : Answer (List Path)) (r : MadeTiles) : Type 0 where
   pub verdict : verdictNumber (r .verdict) ≡ refusalOf a
   pub tiles : r .tiles ≡ tilesOf (valueOr [] a)
+
+-- tiles with one more, likewise
+pub record AddsTile (ts : Tiles) (t : Tile) (r : MadeTiles) : Type 0 where
+  pub verdict : verdictNumber (r .verdict) ≡ refusalOf (withTile ts t)
+  pub tiles : r .tiles ≡ valueOr (tilesOf []) (withTile ts t)
 
 abbrev pub cellCountAnswer : CellCount → Answer ℕ
 cellCountAnswer (C.Is n) = given n

@@ -1,8 +1,9 @@
--- Laws of stored tiles: what is stored can be read back; a collection with one tile more; the tests of a struct tell what `readTile` and
--- `readTiles` answer. Rests on `Stored` and the laws of arrays. Assumes nothing.
+-- Laws of stored tiles: what is stored can be read back; a collection with one tile more, and one tile of it; the tests of a path or a struct tell
+-- what `readPath`, `readTile` and `readTiles` answer. Rests on `Stored` and the laws of arrays. Assumes nothing.
 use mathlib.Core.Path.{_≡_, refl, sym, ap, ap₂, _∙_, subst}
 use mathlib.Core.Bool.{Bool, true, false, So, _&&_, cond, and-false}
 use mathlib.Core.List.{List, [], _∷_, _++_}
+use mathlib.Core.Logic.{_⊎_, inl, inr}
 use Prim.Native.Nat.{ℕ, zero, suc, _+_, _-_, _*_, _/_, _%_, _≤_, _<_}
 use native.Mathlib.Decide.{ℕ-discrete, decLt}
 use native.Mathlib.Omega.{arith}
@@ -15,14 +16,14 @@ use Rattle.cells.specs.ArrayLaws.{length-listOf, getD-listOf, listOf-ext, listO
 use Rattle.cells.specs.FirstsLaws.{mem-getD}
 use Rattle.tile.specs.declared.Tile.{Tile}
 use Rattle.tile.specs.declared.Tiles.{Tiles}
-use Rattle.tile.specs.declared.refusal.Refusal.{Refusal}
-use Rattle.tile.specs.declared.refusal.Verdict.{Verdict}
-use Rattle.tile.specs.declared.refusal.Verdict.the-variants as Verdicts
-use Rattle.tile.specs.Refusal.{refused, given, refusalNumber, refusalOf, verdictNumber}
+use Rattle.refusal.specs.declared.Refusal.{Refusal}
+use Rattle.refusal.specs.declared.Verdict.{Verdict}
+use Rattle.refusal.specs.declared.Verdict.the-variants as Verdicts
+use Rattle.refusal.specs.Refusal.{refused, given, refusalNumber, refusalOf, verdictNumber}
 use Rattle.tile.specs.Path.{Path, codesOk, isSingle, containsSingle, orbit}
-use Rattle.tile.specs.Stored.{pathIn, readTile, tileOf, pathAt, soundAt, pathsIn, readTiles, Storable, tilesOf}
-use Rattle.tile.specs.Inner.{overlay, CleanTile, Clean, Short}
-use Rattle.tile.specs.RefusalLaws.{refusalNumber-pos, clash}
+use Rattle.tile.specs.Stored.{pathIn, readTile, readPath, tileOf, pathAt, soundAt, pathsIn, readTiles, Storable, tilesOf, overlay, appended, withTile, tileAt}
+use Rattle.tile.specs.Inner.{CleanTile, Clean, Short}
+use Rattle.refusal.specs.RefusalLaws.{refusalNumber-pos, clash}
 use Rattle.tile.specs.OrbitLaws.{orbit-length-le, orbit-length-path, orbit-codesOk}
 
 -- ---- one tile
@@ -134,6 +135,44 @@ module _ (t : Tile) where
       go (no h) true e = (omega arith, e)
       go (no h) false e = absurd (none (readTile-codes e))
 
+-- ---- a path is read
+
+module _ (p : List ℕ) where
+  pub readPath-given : length p ≤ 32 → So (codesOk p) → readPath p ≡ given p
+  unfolding readPath
+  readPath-given h ok = rw (le-leb (length p) 32 h, ok)
+
+  pub readPath-long : 32 < length p → readPath p ≡ refused 5
+  unfolding readPath
+  readPath-long h = rw (lt-leb (length p) 32 h)
+
+  pub readPath-codes : codesOk p ≡ false → readPath p ≡ refused 5
+  unfolding readPath
+  readPath-codes e = rw (e, and-false (leb (length p) 32))
+
+  -- a path is read as it is, or refused by 5
+  readPath-cases : ((readPath p ≡ given p) × (length p ≤ 32) × So (codesOk p)) ⊎ (readPath p ≡ refused 5)
+  readPath-cases = go (decLt 32 (length p)) (codesOk p) refl
+    where
+      go : Dec (32 < length p) → (b : Bool) → codesOk p ≡ b → ((readPath p ≡ given p) × (length p ≤ 32) × So (codesOk p)) ⊎ (readPath p ≡ refused 5)
+      go (yes h) b e = inr (readPath-long h)
+      go (no h) false e = inr (readPath-codes e)
+      go (no h) true e = let k : length p ≤ 32 = omega arith in inl (readPath-given k e, k, e)
+
+  pub readPath-is : (q : List ℕ) → readPath p ≡ given q → (q ≡ p) × (length p ≤ 32) × So (codesOk p)
+  readPath-is q e = go readPath-cases
+    where
+      go : ((readPath p ≡ given p) × (length p ≤ 32) × So (codesOk p)) ⊎ (readPath p ≡ refused 5) → (q ≡ p) × (length p ≤ 32) × So (codesOk p)
+      go (inl (k, h, ok)) = let same : q ≡ p = cc in (same, h, ok)
+      go (inr k) = let z : _≡_ {A = ℕ} 0 1 = cc in absurd (omega arith)
+
+  pub readPath-refused : (n : ℕ) → readPath p ≡ refused n → n ≡ 5
+  readPath-refused n e = go readPath-cases
+    where
+      go : ((readPath p ≡ given p) × (length p ≤ 32) × So (codesOk p)) ⊎ (readPath p ≡ refused 5) → n ≡ 5
+      go (inl (k, h, ok)) = cc
+      go (inr k) = cc
+
 -- ---- tiles are read
 module _ (ts : Tiles) where
   pub readTiles-given : ts .count ≤ 64 → allBelow (soundAt (ts .lens) (ts .codes)) (ts .count) ≡ true → readTiles ts ≡ given (pathsIn ts)
@@ -175,14 +214,14 @@ containsSingle-false ts long few h =
 
 -- ---- one tile more
 
--- the struct that the code makes
-abbrev pub appended : Tiles → Tile → Tiles
-appended ts t =
-    record {
-      count = ts .count + 1;
-      lens = set (ts .lens) (ts .count) (t .len);
-      codes = listOf (overlay (32 * ts .count) (t .codes) (ts .codes)) 2048;
-    }
+module _ (ts : Tiles) (t : Tile) where
+  pub withTile-given : ts .count < 64 → withTile ts t ≡ given (appended ts t)
+  unfolding withTile
+  withTile-given h = rw (lt-ltb (ts .count) 64 h)
+
+  pub withTile-many : 64 ≤ ts .count → withTile ts t ≡ refused 6
+  unfolding withTile
+  withTile-many h = rw (le-ltb (ts .count) 64 h)
 
 module _ (ps : List Path) (p : Path) (few : length ps < 64) where
   lens-snoc : set (listOf (λ i. length (getD ps i [])) 64) (length ps) (length p) ≡ listOf (λ i. length (getD (ps ++ p ∷ []) i [])) 64
@@ -241,10 +280,46 @@ module _ (ps : List Path) (p : Path) (few : length ps < 64) where
       let n : length ps + 1 ≡ length (ps ++ p ∷ []) = sym (length-append ps (p ∷ [])) in
       λ i. record { count = n i; lens = lens-snoc i; codes = codes-snoc i }
 
+  pub withTile-tilesOf : withTile (tilesOf ps) (tileOf p) ≡ given (tilesOf (ps ++ p ∷ []))
+  withTile-tilesOf =
+      withTile-given (tilesOf ps) (tileOf p) (subst (λ (n : ℕ). n < 64) (sym (count-tilesOf ps)) few) ∙ ap given appended-tilesOf
+
 -- zeros store no tiles
 pub stores-none : (lens codes : List ℕ) → lens ≡ listOf (λ i. 0) 64 → codes ≡ listOf (λ k. 0) 2048 → record { count = 0; lens = lens; codes = codes } ≡ tilesOf []
 unfolding tilesOf
 stores-none lens codes e q = λ i. record { count = 0; lens = e i; codes = q i }
+
+-- ---- one tile of them
+
+-- a tile with the length and the codes of tile i
+pub tileAt-is : (ts : Tiles) (i : ℕ) (codes : List ℕ) → codes ≡ listOf (λ j. getD (ts .codes) (32 * i + j) 0) 32 → record { len = getD (ts .lens) i 0; codes = codes } ≡ tileAt ts i
+unfolding tileAt
+tileAt-is ts i codes e = λ k. record { len = getD (ts .lens) i 0; codes = e k }
+
+-- past all tiles there is the single tile
+pub tileAt-past : (ts : Tiles) (i : ℕ) → length (ts .lens) ≤ i → length (ts .codes) ≤ 32 * i → tileOf [] ≡ tileAt ts i
+unfolding tileAt tileOf
+tileAt-past ts i h k = λ m. record { len = sym (List·getD-eq-default (ts .lens) 0 h) m; codes = listOf-ext (λ j. 0) (λ j. getD (ts .codes) (32 * i + j) 0) 32 zero-at m }
+  where
+    zero-at : (j : ℕ) → j < 32 → 0 ≡ getD (ts .codes) (32 * i + j) 0
+    zero-at j l = let past : length (ts .codes) ≤ 32 * i + j = omega arith in sym (List·getD-eq-default (ts .codes) 0 past)
+
+pub tileAt-tilesOf : (ps : List Path) → Short ps → (i : ℕ) → i < 64 → tileAt (tilesOf ps) i ≡ tileOf (getD ps i [])
+unfolding tileAt tilesOf tileOf
+tileAt-tilesOf ps short i h =
+    λ m. record { len = getD-listOf (λ j. length (getD ps j [])) 64 i 0 h m; codes = codes m }
+  where
+    code : ℕ → ℕ
+    code k = getD (getD ps (k / 32) []) (k % 32) 0
+
+    at : (j : ℕ) → j < 32 → getD (listOf code 2048) (32 * i + j) 0 ≡ getD (getD ps i []) j 0
+    at j l =
+        let q : (32 * i + j) / 32 ≡ i = omega arith in
+        let r : (32 * i + j) % 32 ≡ j = omega arith in
+        getD-listOf code 2048 (32 * i + j) 0 (omega arith) ∙ ap₂ (λ (a b : ℕ). getD (getD ps a []) b 0) q r
+
+    codes : listOf (λ j. getD (listOf code 2048) (32 * i + j) 0) 32 ≡ listOf (λ j. getD (getD ps i []) j 0) 32
+    codes = listOf-ext (λ j. getD (listOf code 2048) (32 * i + j) 0) (λ j. getD (getD ps i []) j 0) 32 at
 
 -- ---- clean tiles
 

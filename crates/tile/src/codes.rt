@@ -1,13 +1,12 @@
 // Paths as slices and arrays of codes: tests, images and runs of one code. Private helpers; some
 // ask that an index is within its array.
 use crate::Tile;
-use crate::direction;
-use crate::direction::Axis;
-use crate::direction::Code;
+use direction::Axis;
+use direction::Code;
 ghost use mathlib.Core.Path.{_≡_};
 ghost use mathlib.Core.List.{map};
-ghost use Prim.Native.Nat.{_≤_};
-ghost use lib.ListN.{getD};
+ghost use Prim.Native.Nat.{_+_, _≤_};
+ghost use lib.ListN.{length, getD};
 ghost use Rattle.cells.specs.Arrays.{listOf};
 ghost use Rattle.tile.specs.Path.{codesOk, samePath};
 ghost use Rattle.tile.specs.Stored.{pathIn, tileOf};
@@ -86,6 +85,35 @@ pub fn moved(tile: Tile, motion: Motion) -> Tile
         i += 1;
     }
     Tile { len, codes }
+}
+
+// The tile of a path, with zeros behind it.
+pub fn stored(path: &[u8]) -> Tile
+    requires { ⌜ length (now path) ≤ 32 ⌝ }
+    ensures { λ r. ⌜ r ≡ tileOf (now (path .entry)) ⌝ }
+{
+    let len = path.len();
+    let mut codes = [0u8; 32];
+    let mut i = 0;
+    while i < len {
+        codes[i] = path[i];
+        i += 1;
+    }
+    Tile { len, codes }
+}
+
+// The 32 codes from a place on.
+pub fn part(codes: &[u8], from: usize) -> [u8; 32]
+    requires { ⌜ from + 32 ≤ length (now codes) ⌝ }
+    ensures { λ r. ⌜ r ≡ listOf (λ j. getD (now (codes .entry)) (from + j) 0) 32 ⌝ }
+{
+    let mut out = [0u8; 32];
+    let mut j = 0;
+    while j < 32 {
+        out[j] = codes[from + j];
+        j += 1;
+    }
+    out
 }
 
 // The codes with one code at the places from to end - 1.

@@ -8,16 +8,16 @@ use crate::codes::Motion;
 use crate::points;
 ghost use mathlib.Core.Path.{_≡_};
 ghost use mathlib.Core.Bool.{So, _&&_};
-ghost use mathlib.Core.List.{[], _∷_, _++_};
 ghost use Prim.Native.Nat.{_+_, _≤_, _<_};
 ghost use lib.Dec.{leb};
 ghost use lib.ListN.{length, take, drop};
 ghost use Rattle.cells.specs.Arrays.{listOf, allBelow};
 ghost use Rattle.cells.specs.Firsts.{holds, addNew, addFirsts};
-ghost use Rattle.tile.specs.Refusal.{given};
+ghost use Rattle.refusal.specs.Refusal.{given};
 ghost use Rattle.tile.specs.Path.{codesOk, cellCount, containsSingle, sharedCount, equalCounts, samePath, turns};
-ghost use Rattle.tile.specs.Stored.{pathIn, pathsIn, soundAt, readTiles, tilesOf};
-ghost use Rattle.tile.specs.Inner.{overlay, CleanTile, Clean};
+ghost use Rattle.tile.specs.Stored.{pathIn, pathsIn, soundAt, readTiles, tilesOf, overlay};
+ghost use Rattle.tile.specs.Stored.{appended as Stored·appended};
+ghost use Rattle.tile.specs.Inner.{CleanTile, Clean};
 
 // Whether len codes from a place on are a path.
 fn sound(codes: &[u8], from: usize, len: usize) -> bool
@@ -147,10 +147,10 @@ fn with_codes(codes: [u8; 2048], from: usize, tile: [u8; 32]) -> [u8; 2048]
     out
 }
 
-// The tiles with one more behind them.
-fn with_tile(tiles: Tiles, tile: Tile) -> Tiles
-    requires { ⌜ Clean tiles × CleanTile tile × (tiles .count < 64) ⌝ }
-    ensures { λ r. ⌜ r ≡ tilesOf (pathsIn tiles ++ pathIn tile ∷ []) ⌝ }
+// The tiles with one more behind them, as they stand.
+pub fn appended(tiles: Tiles, tile: Tile) -> Tiles
+    requires { ⌜ tiles .count < 64 ⌝ }
+    ensures { λ r. ⌜ r ≡ Stored·appended tiles tile ⌝ }
 {
     let count = tiles.count;
     let mut lens = tiles.lens;
@@ -175,7 +175,7 @@ fn with_new(tiles: Tiles, tile: Tile) -> Tiles
     if has_path(tiles, &codes[..len]) {
         return tiles;
     }
-    with_tile(tiles, tile)
+    appended(tiles, tile)
 }
 
 // The tiles with a tile and its three clockwise turns, those that are not there.

@@ -10,15 +10,13 @@ use refusal::Refusal;
 use refusal::Verdict;
 ghost use mathlib.Core.Path.{_≡_};
 ghost use mathlib.Core.List.{[]};
-ghost use Rattle.tile.specs.Refusal.{refusalNumber, mapAnswer, refusalOf, verdictNumber};
+ghost use Rattle.refusal.specs.Refusal.{refusalNumber, mapAnswer, refusalOf, verdictNumber};
 ghost use Rattle.tile.specs.Path.{cellCount, sharedCount, containsSingle, rotated, reflected, orbit};
-ghost use Rattle.tile.specs.Stored.{readTile, readTiles, readEqualTiles, tileOf, tilesOf, MakesTile, MakesTiles, cellCountAnswer, containsAnswer, lTile, tTile};
+ghost use Rattle.tile.specs.Stored.{readTile, readPath, readTiles, readEqualTiles, tileOf, tilesOf, tileAt, MakesTile, MakesTiles, AddsTile, cellCountAnswer, containsAnswer, lTile, tTile};
 
 mod codes;
 mod collection;
-pub mod direction;
 mod points;
-pub mod refusal;
 
 // A tile's path: the first len of the codes.
 pub struct Tile {
@@ -56,6 +54,19 @@ pub enum Contains {
 }
 
 impl Tile {
+    // The tile of a path; refusal 5 for a path over 32 or a code over 7.
+    pub fn new(path: &[u8]) -> MadeTile
+        ensures { λ r. ⌜ MakesTile (readPath (now (path .entry))) r ⌝ }
+    {
+        if 32 < path.len() {
+            return refused(Refusal::BadTile);
+        }
+        if codes::all_ok(path) {
+            return made(codes::stored(path));
+        }
+        refused(Refusal::BadTile)
+    }
+
     // The single tile: the empty path.
     pub fn box_tile() -> Tile
         ensures { λ r. ⌜ r ≡ tileOf [] ⌝ }
@@ -181,6 +192,38 @@ impl Tiles {
             lens: [0; 64],
             codes: [0; 2048],
         }
+    }
+
+    // The tiles with one more behind them, as they stand; refusal 6 for a 65th.
+    pub fn with_tile(self, tile: Tile) -> MadeTiles
+        ensures { λ r. ⌜ AddsTile self tile r ⌝ }
+    {
+        let count = self.count;
+        if count < 64 {
+            return MadeTiles {
+                verdict: Verdict::Accepted,
+                tiles: collection::appended(self, tile),
+            };
+        }
+        MadeTiles {
+            verdict: Verdict::Refused(Refusal::TooManyTiles),
+            tiles: Tiles::new(),
+        }
+    }
+
+    // Tile i as it stands, the single tile for 64 and more. The Rust's boxed iterator.
+    pub fn get(self, i: usize) -> Tile
+        ensures { λ r. ⌜ r ≡ tileAt self i ⌝ }
+    {
+        let lens = self.lens;
+        let codes = self.codes;
+        if i < 64 {
+            return Tile {
+                len: lens[i],
+                codes: codes::part(&codes, 32 * i),
+            };
+        }
+        Tile::box_tile()
     }
 
     // Whether there are at most 64 tiles, each a path; refusal 6, and then 5, otherwise.

@@ -16,9 +16,9 @@ use Rattle.cells.specs.ArrayLaws.{getD-listOf}
 use Rattle.cells.specs.Lists.{setAt, clearedFrom, wordsFor}
 use Rattle.cells.specs.ListLaws.{cleared-all}
 use Rattle.tile.specs.declared.Tiles.{Tiles}
-use Rattle.tile.specs.declared.refusal.Refusal.{Refusal}
-use Rattle.tile.specs.declared.refusal.Verdict.the-variants as Verdicts
-use Rattle.tile.specs.Refusal.{Answer, refused, given, bindAnswer, refusalOf, refusalNumber, valueOr}
+use Rattle.refusal.specs.declared.Refusal.{Refusal}
+use Rattle.refusal.specs.declared.Verdict.the-variants as Verdicts
+use Rattle.refusal.specs.Refusal.{Answer, refused, given, bindAnswer, refusalOf, refusalNumber, valueOr}
 use Rattle.tile.specs.Path.{Path}
 use Rattle.tile.specs.Stored.{pathsIn}
 use Rattle.board.specs.declared.RectangularBoard.{RectangularBoard}

@@ -18,7 +18,7 @@ use Rattle.cells.specs.Arrays.{listOf}
 use Rattle.cells.specs.ArrayLaws.{getD-listOf, listOf-ext, listOf-eta, listOf-snoc}
 use Rattle.cells.specs.ListLaws.{setAt-same, setAt-other}
 use Rattle.cells.specs.Lists.{setAt, withSet}
-use Rattle.tile.specs.Refusal.{refused, given}
+use Rattle.refusal.specs.Refusal.{refused, given}
 use Rattle.tile.specs.Path.{Path}
 use Rattle.board.specs.Board.{Board}
 use Rattle.covers.specs.Cuttings.{childBoards}

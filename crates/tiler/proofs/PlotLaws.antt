@@ -20,11 +20,11 @@ use Rattle.cells.specs.WordLaws.{sound-small, bit-number}
 use Rattle.tile.specs.declared.Tiles.{Tiles}
 use Rattle.tile.specs.declared.CellCount.{CellCount}
 use Rattle.tile.specs.declared.CellCount.the-variants as N
-use Rattle.tile.specs.declared.refusal.Refusal.{Refusal}
-use Rattle.tile.specs.declared.refusal.Verdict.{Verdict}
-use Rattle.tile.specs.declared.refusal.Verdict.the-variants as Verdicts
-use Rattle.tile.specs.Refusal.{Answer, refused, given, mapAnswer, bindAnswer, refusalOf, refusalNumber, verdictNumber}
-use Rattle.tile.specs.RefusalLaws.{refused-of, refused-given, given-inj, refused-inj}
+use Rattle.refusal.specs.declared.Refusal.{Refusal}
+use Rattle.refusal.specs.declared.Verdict.{Verdict}
+use Rattle.refusal.specs.declared.Verdict.the-variants as Verdicts
+use Rattle.refusal.specs.Refusal.{Answer, refused, given, mapAnswer, bindAnswer, refusalOf, refusalNumber, verdictNumber}
+use Rattle.refusal.specs.RefusalLaws.{refused-of, refused-given, given-inj, refused-inj}
 use Rattle.tile.specs.Path.{Path, sharedCount}
 use Rattle.tile.specs.Stored.{pathsIn, readEqualTiles, cellCountAnswer}
 use Rattle.tile.specs.EqualLaws.{readTiles-storable, readEqualTiles-given}

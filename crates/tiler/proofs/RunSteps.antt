@@ -13,7 +13,7 @@ use Rattle.cells.specs.Arrays.{listFrom, listOf}
 use Rattle.cells.specs.Lists.{setAt}
 use Rattle.cells.specs.MemberLaws.{mem-listOf}
 use Rattle.tile.specs.declared.Tiles.{Tiles}
-use Rattle.tile.specs.Refusal.{Answer, refused, given, bindAnswer}
+use Rattle.refusal.specs.Refusal.{Answer, refused, given, bindAnswer}
 use Rattle.tile.specs.Stored.{pathsIn}
 use Rattle.board.specs.declared.RectangularBoard.{RectangularBoard}
 use Rattle.board.specs.Board.{boardOf}

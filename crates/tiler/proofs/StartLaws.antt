@@ -16,7 +16,7 @@ use Rattle.cells.specs.ArrayLaws.{listOf-ext, replicate-listOf}
 use Rattle.cells.specs.Lists.{setAt, withSet, clearedFrom}
 use Rattle.cells.specs.ListLaws.{setAt-same}
 use Rattle.tile.specs.declared.Tiles.{Tiles}
-use Rattle.tile.specs.Refusal.{Answer, refused, given, bindAnswer}
+use Rattle.refusal.specs.Refusal.{Answer, refused, given, bindAnswer}
 use Rattle.tile.specs.Path.{Path}
 use Rattle.tile.specs.Stored.{pathsIn}
 use Rattle.board.specs.declared.RectangularBoard.{RectangularBoard}

@@ -9,8 +9,8 @@ use borrow.Author.Tests.{eqb-true, eqb-false}
 use lib.Dec.{eqb}
 use Rattle.cells.specs.Words.{number}
 use Rattle.tile.specs.declared.Tiles.{Tiles}
-use Rattle.tile.specs.Refusal.{Answer, refused, given, mapAnswer, bindAnswer}
-use Rattle.tile.specs.RefusalLaws.{refused-given, given-inj}
+use Rattle.refusal.specs.Refusal.{Answer, refused, given, mapAnswer, bindAnswer}
+use Rattle.refusal.specs.RefusalLaws.{refused-given, given-inj}
 use Rattle.tile.specs.Path.{Path, cellCount, EqualCounts, sharedCount}
 use Rattle.tile.specs.Stored.{pathsIn, readEqualTiles}
 use Rattle.tile.specs.EqualLaws.{cellCount-pos, sharedCount-mem, readEqualTiles-given}

@@ -14,8 +14,8 @@ use lib.ListN.{length, getD, length-map, List·getD-eq-default}
 use Rattle.cells.specs.Lists.{setsIn}
 use Rattle.cells.specs.FirstsLaws.{any-true, mem-getD}
 use Rattle.tile.specs.declared.Tiles.{Tiles}
-use Rattle.tile.specs.Refusal.{Answer, refused, given, mapAnswer, bindAnswer, refusalOf, valueOr}
-use Rattle.tile.specs.RefusalLaws.{refused-given, given-inj}
+use Rattle.refusal.specs.Refusal.{Answer, refused, given, mapAnswer, bindAnswer, refusalOf, valueOr}
+use Rattle.refusal.specs.RefusalLaws.{refused-given, given-inj}
 use Rattle.tile.specs.Path.{Path, equalCounts}
 use Rattle.tile.specs.Stored.{soundAt, pathsIn, readTiles, readEqualTiles}
 use Rattle.cells.specs.Arrays.{listOf, allBelow}

@@ -11,7 +11,7 @@ use lib.ListN.{length, replicate}
 use Rattle.cells.specs.Firsts.{any}
 use Rattle.cells.specs.Lists.{wordsFor}
 use Rattle.tile.specs.declared.Tiles.{Tiles}
-use Rattle.tile.specs.Refusal.{Answer, refused, given, mapAnswer, bindAnswer, refusalOf, refusalNumber, valueOr, verdictNumber}
+use Rattle.refusal.specs.Refusal.{Answer, refused, given, mapAnswer, bindAnswer, refusalOf, refusalNumber, valueOr, verdictNumber}
 use Rattle.tile.specs.Path.{Path}
 use Rattle.tile.specs.Stored.{readEqualTiles}
 use Rattle.board.specs.declared.RectangularBoard.{RectangularBoard}

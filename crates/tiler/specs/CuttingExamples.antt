@@ -14,9 +14,9 @@ use Rattle.cells.specs.Firsts.{holds}
 use Rattle.cells.specs.FirstsLaws.{mem-getD}
 use Rattle.cells.specs.Lists.{wordsFor}
 use Rattle.tile.specs.declared.Tiles.{Tiles}
-use Rattle.tile.specs.declared.refusal.Verdict.the-variants as Verdicts
-use Rattle.tile.specs.Refusal.{Answer, given, mapAnswer, bindAnswer, valueOr, refusalOf}
-use Rattle.tile.specs.Direction.{step}
+use Rattle.refusal.specs.declared.Verdict.the-variants as Verdicts
+use Rattle.refusal.specs.Refusal.{Answer, given, mapAnswer, bindAnswer, valueOr, refusalOf}
+use Rattle.direction.specs.Direction.{step}
 use Rattle.tile.specs.Path.{Path, cellCount}
 use Rattle.tile.specs.EdgeTest.{edgeJoined, edgeJoined-iff}
 use Rattle.tile.specs.Stored.{pathsIn, tilesOf}

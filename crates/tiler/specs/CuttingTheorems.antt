@@ -8,7 +8,7 @@ use Prim.Native.Nat.{ℕ, _+_, _≤_, _<_}
 use lib.ListN.{length, take}
 use Rattle.cells.specs.Words.{Sound}
 use Rattle.tile.specs.declared.Tiles.{Tiles}
-use Rattle.tile.specs.Refusal.{given, valueOr, verdictNumber}
+use Rattle.refusal.specs.Refusal.{given, valueOr, verdictNumber}
 use Rattle.tile.specs.Path.{EqualCounts}
 use Rattle.tile.specs.Stored.{pathsIn}
 use Rattle.tile.specs.EqualLaws.{readEqualTiles-given}

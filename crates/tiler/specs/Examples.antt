@@ -9,8 +9,8 @@ use lib.Dec.{lit≤, lit<}
 use lib.ListN.{length}
 use Rattle.cells.specs.declared.Cells.{Cells}
 use Rattle.cells.specs.Words.{number, Sound}
-use Rattle.tile.specs.Refusal.{Answer, refused, given, mapAnswer, bindAnswer}
-use Rattle.tile.specs.Direction.{step}
+use Rattle.refusal.specs.Refusal.{Answer, refused, given, mapAnswer, bindAnswer}
+use Rattle.direction.specs.Direction.{step}
 use Rattle.tile.specs.Path.{Path, codesOk, equalCounts}
 use Rattle.tile.specs.Stored.{Storable, tilesOf, readEqualTiles}
 use Rattle.tile.specs.StoredLaws.{readTiles-tilesOf, readTiles-orbit}

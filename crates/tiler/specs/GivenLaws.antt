@@ -9,7 +9,7 @@ use lib.ListN.{length, getD}
 use Rattle.cells.specs.Words.{Sound}
 use Rattle.cells.specs.WordLaws.{number-lt}
 use Rattle.tile.specs.declared.Tiles.{Tiles}
-use Rattle.tile.specs.Refusal.{Answer, given, valueOr}
+use Rattle.refusal.specs.Refusal.{Answer, given, valueOr}
 use Rattle.tile.specs.Stored.{pathsIn}
 use Rattle.board.specs.declared.RectangularBoard.{RectangularBoard}
 use Rattle.covers.specs.Cuttings.{Laws, EqualSteps}

@@ -10,7 +10,7 @@ use Rattle.cells.specs.Firsts.{Once}
 use Rattle.cells.specs.Arrays.{listOf}
 use Rattle.cells.specs.Lists.{setAt, clearedFrom}
 use Rattle.tile.specs.declared.Tiles.{Tiles}
-use Rattle.tile.specs.Refusal.{Answer, refused, given, mapAnswer, bindAnswer, refusalNumber, verdictNumber}
+use Rattle.refusal.specs.Refusal.{Answer, refused, given, mapAnswer, bindAnswer, refusalNumber, verdictNumber}
 use Rattle.tile.specs.Path.{Path, sharedCount}
 use Rattle.tile.specs.Stored.{pathsIn, readEqualTiles}
 use Rattle.board.specs.declared.RectangularBoard.{RectangularBoard}

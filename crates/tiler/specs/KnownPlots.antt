@@ -12,9 +12,9 @@ use Rattle.cells.specs.Firsts.{holds}
 use Rattle.cells.specs.FirstsLaws.{so-eq, holds-iff}
 use Rattle.cells.specs.MemberLaws.{eqb-tells}
 use Rattle.tile.specs.declared.Tiles.{Tiles}
-use Rattle.tile.specs.Refusal.{Answer, given, mapAnswer, bindAnswer}
-use Rattle.tile.specs.RefusalLaws.{given-inj}
-use Rattle.tile.specs.Direction.{step, rotate, reflect}
+use Rattle.refusal.specs.Refusal.{Answer, given, mapAnswer, bindAnswer}
+use Rattle.refusal.specs.RefusalLaws.{given-inj}
+use Rattle.direction.specs.Direction.{step, rotate, reflect}
 use Rattle.tile.specs.Path.{Path, orbit, lPath, tPath}
 use Rattle.tile.specs.Stored.{tilesOf, readEqualTiles}
 use Rattle.board.specs.declared.RectangularBoard.{RectangularBoard}

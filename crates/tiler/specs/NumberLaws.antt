@@ -15,7 +15,7 @@ use Rattle.cells.specs.ArrayLaws.{length-listOf, getD-listOf}
 use Rattle.cells.specs.Lists.{setAt, setsIn}
 use Rattle.cells.specs.MemberLaws.{map-ext}
 use Rattle.tile.specs.declared.Tiles.{Tiles}
-use Rattle.tile.specs.Refusal.{given, valueOr}
+use Rattle.refusal.specs.Refusal.{given, valueOr}
 use Rattle.tile.specs.Path.{Path, codesOk}
 use Rattle.tile.specs.Stored.{pathsIn}
 use Rattle.tile.specs.EqualLaws.{readTiles-storable, readEqualTiles-given}

@@ -11,8 +11,8 @@ use lib.Dec.{eqb, leb}
 use lib.ListN.{length, getD}
 use Rattle.cells.specs.Firsts.{Once, any, addFirsts, firsts}
 use Rattle.cells.specs.MemberLaws.{no-member, mem-flatMap}
-use Rattle.tile.specs.Refusal.{Answer, refused, given, mapAnswer, bindAnswer}
-use Rattle.tile.specs.RefusalLaws.{refused-given}
+use Rattle.refusal.specs.Refusal.{Answer, refused, given, mapAnswer, bindAnswer}
+use Rattle.refusal.specs.RefusalLaws.{refused-given}
 use Rattle.covers.specs.Cuttings.{Setting, childBoards, Laws, EqualSteps}
 use Rattle.covers.specs.Counts.{Entry, boards, counts, sumOf, shares, gather, layer, fullCount, layerOf, layerCountTo, layerCount}
 use Rattle.covers.specs.SumLaws.{sum-zero}

@@ -16,7 +16,7 @@ use Rattle.graph.specs.Graph.{edgesIn}
 use Rattle.cells.specs.Words.{Sound}
 use Rattle.cells.specs.WordLaws.{number-lt}
 use Rattle.tile.specs.declared.Tiles.{Tiles}
-use Rattle.tile.specs.Refusal.{given, verdictNumber}
+use Rattle.refusal.specs.Refusal.{given, verdictNumber}
 use Rattle.tile.specs.Stored.{pathsIn}
 use Rattle.board.specs.declared.RectangularBoard.{RectangularBoard}
 use Rattle.board.specs.Board.{boardOf, boardAt, isFull}

@@ -9,9 +9,9 @@ use board::RectangularBoard;
 use cells::list;
 use graph::GraphResult;
 use plot::Judged;
+use refusal::Refusal;
+use refusal::Verdict;
 use tile::Tiles;
-use tile::refusal::Refusal;
-use tile::refusal::Verdict;
 ghost use Rattle.tiler.specs.Counting.{CountsTilings, GeneratesGraph};
 ghost use Rattle.tiler.specs.Cuttings.{CountsCuttings, NumbersCuttings};
 

@@ -2,7 +2,7 @@
 -- Assumes nothing.
 use Rattle.board.specs.BoardLaws.{readBoard-given, readBoard-refused}
 use mathlib.Core.Path.{sym, _∙_, ap}
-use Rattle.tile.specs.Refusal.{refusalOf}
+use Rattle.refusal.specs.Refusal.{refusalOf}
 use borrow.Author.Needs.{needs}
 use Rattle.board.proofs.RectangularBoard.check.Statement.{statement}
 use Rattle.board.proofs.RectangularBoard.check.Tie as tie

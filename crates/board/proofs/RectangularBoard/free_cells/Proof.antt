@@ -1,7 +1,7 @@
 -- `board::RectangularBoard::free_cells` meets its contract: an accepted board is counted.
 -- Assumes nothing.
 use mathlib.Core.Path.{sym, ap, _∙_}
-use Rattle.tile.specs.Refusal.{given, mapAnswer}
+use Rattle.refusal.specs.Refusal.{given, mapAnswer}
 use Rattle.board.specs.Board.{freeCount}
 use Rattle.board.specs.BoardLaws.{readBoard-given, check-accepted, check-refused}
 use borrow.Author.Needs.{needs}

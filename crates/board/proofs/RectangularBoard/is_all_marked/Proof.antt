@@ -3,7 +3,7 @@
 use mathlib.Core.Path.{sym, ap, _∙_}
 use Prim.Native.Nat.{ℕ}
 use lib.Dec.{eqb}
-use Rattle.tile.specs.Refusal.{given, mapAnswer}
+use Rattle.refusal.specs.Refusal.{given, mapAnswer}
 use Rattle.board.specs.Board.{isFull}
 use Rattle.board.specs.BoardLaws.{readBoard-given, check-accepted, check-refused}
 use borrow.Author.Needs.{needs}

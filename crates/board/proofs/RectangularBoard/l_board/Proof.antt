@@ -1,7 +1,7 @@
 -- `board::RectangularBoard::l_board` meets its contract: a shape whose size fits, or refusal 4.
 -- Assumes nothing.
 use mathlib.Core.Path.{subst}
-use Rattle.tile.specs.Refusal.{Answer}
+use Rattle.refusal.specs.Refusal.{Answer}
 use Rattle.board.specs.Board.{Board, MakesBoard}
 use Rattle.board.proofs.MadeLaws.{makes-refused, l-none, l-high, l-wide, l-shaped, small-product}
 use borrow.Author.Needs.{needs}

@@ -2,7 +2,7 @@
 -- Assumes nothing.
 use mathlib.Core.Path.{subst}
 use Prim.Native.Nat.{_+_, _*_}
-use Rattle.tile.specs.Refusal.{Answer}
+use Rattle.refusal.specs.Refusal.{Answer}
 use Rattle.board.specs.Board.{Board, MakesBoard}
 use Rattle.board.proofs.MadeLaws.{makes-refused, t-none, t-high, t-wide, t-shaped, small-product}
 use borrow.Author.Needs.{needs}

@@ -1,7 +1,7 @@
 -- `board::RectangularBoard::write_children` meets its contract: board and tiles are judged, then the children are stored.
 -- Assumes nothing.
 use mathlib.Core.Path.{sym, ap, _∙_}
-use Rattle.tile.specs.Refusal.{verdictNumber}
+use Rattle.refusal.specs.Refusal.{verdictNumber}
 use Rattle.board.proofs.AnswerLaws.{children-accepted, writes-refused, writes-stored}
 use borrow.Author.Needs.{needs}
 use Rattle.board.proofs.RectangularBoard.write_children.Statement.{statement}

@@ -5,7 +5,7 @@ use Prim.Native.Nat.{_+_, _-_}
 use lib.IntN.{pos}
 use lib.ListN.{length, drop}
 use Rattle.cells.specs.Words.{number}
-use Rattle.tile.specs.Position.{at}
+use Rattle.direction.specs.Position.{at}
 use Rattle.tile.specs.PathLaws.{codesOk-at}
 use Rattle.board.specs.Children.{cover}
 use Rattle.board.specs.Inner.{freeIn, onward}

@@ -3,7 +3,7 @@
 use mathlib.Core.Path.{_≡_, ap, sym, _∙_}
 use lib.ListN.{length}
 use lib.Seq.{length-take-le}
-use Rattle.tile.specs.Refusal.{refusalOf}
+use Rattle.refusal.specs.Refusal.{refusalOf}
 use Rattle.tile.specs.StoredLaws.{readTile-given, readTile-long, readTile-codes}
 use native.Mathlib.Omega.{arith}
 use borrow.Author.Needs.{needs}

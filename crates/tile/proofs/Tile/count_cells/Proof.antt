@@ -1,11 +1,11 @@
 -- `tile::Tile::count_cells` meets its contract: a tile that is accepted is counted.
 -- Assumes nothing.
 use mathlib.Core.Path.{_≡_, ap, sym, _∙_}
-use Rattle.tile.specs.declared.refusal.Verdict.the-variants as Verdicts
-use Rattle.tile.specs.Refusal.{mapAnswer}
+use Rattle.refusal.specs.declared.Verdict.the-variants as Verdicts
+use Rattle.refusal.specs.Refusal.{mapAnswer}
 use lib.ListN.{length}
 use lib.Seq.{length-take-le}
-use Rattle.tile.specs.Refusal.{given}
+use Rattle.refusal.specs.Refusal.{given}
 use Rattle.tile.specs.Path.{cellCount}
 use Rattle.tile.specs.Stored.{pathIn}
 use Rattle.tile.specs.StoredLaws.{check-accepted, check-refused, readTile-given}

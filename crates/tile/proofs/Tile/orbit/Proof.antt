@@ -4,8 +4,8 @@ use mathlib.Core.Path.{_≡_, refl, ap, _∙_}
 use mathlib.Core.List.{map-id}
 use Prim.Native.Nat.{_≤_}
 use lib.ListN.{length}
-use Rattle.tile.specs.declared.refusal.Verdict.the-variants as Verdicts
-use Rattle.tile.specs.Refusal.{mapAnswer}
+use Rattle.refusal.specs.declared.Verdict.the-variants as Verdicts
+use Rattle.refusal.specs.Refusal.{mapAnswer}
 use Rattle.tile.specs.Path.{reflected, orbit}
 use Rattle.tile.specs.Stored.{pathIn, tileOf}
 use Rattle.tile.specs.StoredLaws.{length-pathIn, check-accepted, check-refused, readTile-given}

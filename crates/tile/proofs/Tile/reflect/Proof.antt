@@ -1,8 +1,8 @@
 -- `tile::Tile::reflect` meets its contract: a tile that is accepted is moved.
 -- Assumes nothing.
 use mathlib.Core.Path.{ap}
-use Rattle.tile.specs.declared.refusal.Verdict.the-variants as Verdicts
-use Rattle.tile.specs.Refusal.{refused, mapAnswer}
+use Rattle.refusal.specs.declared.Verdict.the-variants as Verdicts
+use Rattle.refusal.specs.Refusal.{refused, mapAnswer}
 use Rattle.tile.specs.Path.{reflected}
 use Rattle.tile.specs.StoredLaws.{check-accepted, check-refused, readTile-given}
 use Rattle.tile.proofs.MadeLaws.{makes-refused, makes-given}

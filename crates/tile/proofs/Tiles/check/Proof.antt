@@ -1,7 +1,7 @@
 -- `tile::Tiles::check` meets its contract: the count is tested first, and then the tiles.
 -- Assumes nothing.
 use mathlib.Core.Path.{ap, sym, _∙_}
-use Rattle.tile.specs.Refusal.{refusalOf}
+use Rattle.refusal.specs.Refusal.{refusalOf}
 use Rattle.tile.specs.StoredLaws.{readTiles-given, readTiles-many, readTiles-unsound}
 use borrow.Author.Needs.{needs}
 use Rattle.tile.proofs.Tiles.check.Statement.{statement}

@@ -2,11 +2,11 @@
 -- Assumes nothing.
 use mathlib.Core.Path.{_≡_, ap, sym, _∙_}
 use Prim.Native.Nat.{_≤_}
-use Rattle.tile.specs.declared.refusal.Verdict.the-variants as Verdicts
-use Rattle.tile.specs.Refusal.{given, verdictNumber, mapAnswer}
+use Rattle.refusal.specs.declared.Verdict.the-variants as Verdicts
+use Rattle.refusal.specs.Refusal.{given, verdictNumber, mapAnswer}
 use Rattle.tile.specs.Path.{containsSingle}
 use Rattle.tile.specs.Stored.{pathsIn, readTiles}
-use Rattle.tile.specs.RefusalLaws.{refused-of}
+use Rattle.refusal.specs.RefusalLaws.{refused-of}
 use Rattle.tile.specs.StoredLaws.{readTiles-accepted}
 use borrow.Author.Needs.{needs}
 use Rattle.tile.proofs.Tiles.contains_single_tile.Statement.{statement}

@@ -1,11 +1,11 @@
 -- `tile::Tiles::count_cells` meets its contract: the test decides, and then the numbers of cells.
 -- Assumes nothing.
 use mathlib.Core.Path.{_≡_, ap, sym, _∙_}
-use Rattle.tile.specs.declared.refusal.Verdict.the-variants as Verdicts
-use Rattle.tile.specs.Refusal.{given, verdictNumber, mapAnswer}
+use Rattle.refusal.specs.declared.Verdict.the-variants as Verdicts
+use Rattle.refusal.specs.Refusal.{given, verdictNumber, mapAnswer}
 use Rattle.tile.specs.Path.{sharedCount}
 use Rattle.tile.specs.Stored.{pathsIn, readTiles}
-use Rattle.tile.specs.RefusalLaws.{refused-of}
+use Rattle.refusal.specs.RefusalLaws.{refused-of}
 use Rattle.tile.specs.StoredLaws.{readTiles-accepted}
 use Rattle.tile.specs.EqualLaws.{readEqualTiles-refused, readEqualTiles-equal, readEqualTiles-unequal}
 use borrow.Author.Needs.{needs}

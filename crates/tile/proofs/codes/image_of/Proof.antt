@@ -1,7 +1,7 @@
 -- `tile::codes::image_of` meets its contract: the turned code, or the code itself where it is no direction.
 -- Assumes nothing.
 use mathlib.Core.Path.{_∙_}
-use Rattle.tile.specs.DirectionLaws.{rotate-past, reflect-past}
+use Rattle.direction.specs.DirectionLaws.{rotate-past, reflect-past}
 use Rattle.tile.proofs.CodeLaws.{codeOf-onCode}
 use borrow.Author.Needs.{needs}
 use Rattle.tile.proofs.codes.image_of.Statement.{statement}

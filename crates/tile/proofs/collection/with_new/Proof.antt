@@ -1,4 +1,4 @@
--- `tile::collection::with_new` meets its contract: a tile that is there adds nothing, a new one stands behind.
+-- `tile::collection::with_new` meets its contract: a tile that is there adds nothing, a new one stands behind (`appended-clean`).
 -- Assumes nothing.
 use mathlib.Core.Path.{_≡_, ap, sym, _∙_}
 use lib.ListN.{length}
@@ -6,6 +6,7 @@ use lib.Seq.{length-take-le}
 use Rattle.cells.specs.FirstsLaws.{addNew-old, addNew-new}
 use Rattle.tile.specs.Path.{samePath}
 use Rattle.tile.specs.Stored.{pathIn, pathsIn, tilesOf}
+use Rattle.tile.specs.StoredLaws.{appended-clean}
 use native.Mathlib.Omega.{arith}
 use borrow.Author.Needs.{needs}
 use Rattle.tile.proofs.collection.with_new.Statement.{statement}
@@ -28,7 +29,9 @@ returns c =
 returns-2 : tie.Need-returns-2
 returns-2 c =
     let s = c .before .before .before .before .before in
-    c .with-tile .ensures ∙ ap tilesOf (sym (addNew-new samePath (pathsIn (s .args .tiles)) (pathIn (s .args .tile)) (sym (c .before .before .has-path .ensures) ∙ c .before .if1 .left)))
+    c .appended .ensures
+    ∙ appended-clean _ _ (s .pre .0) (s .pre .1) (s .pre .2)
+    ∙ ap tilesOf (sym (addNew-new samePath (pathsIn (s .args .tiles)) (pathIn (s .args .tile)) (sym (c .before .before .has-path .ensures) ∙ c .before .if1 .left)))
 
 pub with-new-spec : {M : Type 1} → statement M
 with-new-spec =

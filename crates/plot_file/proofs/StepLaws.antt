@@ -1,0 +1,278 @@
+-- Laws of what the code hands on: a verdict and what was made, read as an answer; a mark, a tile's body and a record that were read; and the plot
+-- at the end. Rests on `Inner`, `ReadLaws`, `TilesLaws` and the laws of stored tiles. Assumes nothing.
+use mathlib.Core.Path.{_≡_, refl, sym, ap, _∙_, subst}
+use mathlib.Core.Bool.{Bool, true, false, So, cond}
+use mathlib.Core.List.{List, [], _++_}
+use Prim.Native.Nat.{ℕ, _+_, _*_, _≤_, _<_}
+use native.Mathlib.Omega.{arith}
+use lib.ListN.{length, getD, drop}
+use Rattle.cells.specs.Set.{fromBits}
+use Rattle.tile.specs.declared.Tiles.{Tiles}
+use Rattle.tile.specs.declared.MadeTile.{MadeTile}
+use Rattle.refusal.specs.declared.Refusal.{Refusal}
+use Rattle.refusal.specs.declared.Refusal.the-variants as R
+use Rattle.refusal.specs.declared.Verdict.{Verdict}
+use Rattle.refusal.specs.declared.Verdict.the-variants as Verdicts
+use Rattle.refusal.specs.Refusal.{Answer, refused, given, mapAnswer, refusalNumber, refusalOf, valueOr, verdictNumber}
+use Rattle.refusal.specs.RefusalLaws.{refusalNumber-pos}
+use Rattle.tile.specs.Path.{Path, codesOk}
+use Rattle.tile.specs.Stored.{pathIn, readPath, tileOf, pathsIn, tilesOf, MakesTile}
+use Rattle.tile.specs.StoredLaws.{pathIn-tileOf, clean-tileOf, readPath-is, readPath-refused}
+use Rattle.tile.specs.Inner.{CleanTile}
+use Rattle.board.specs.declared.RectangularBoard.{RectangularBoard}
+use Rattle.board.specs.declared.MadeBoard.{MadeBoard}
+use Rattle.board.specs.Board.{Board, boardOf, noBoard, sizeOk, below, inside, setOf, shapeMark, shaped, newBoard, lBoard, tBoard, MakesBoard}
+use Rattle.plot_file.specs.declared.Mark.{Mark}
+use Rattle.plot_file.specs.declared.Mark.the-variants.{RB, LB, TB, TI, OR, EN}
+use Rattle.plot_file.specs.declared.MadePlot.{MadePlot}
+use Rattle.plot_file.specs.declared.marks.Marked.{Marked}
+use Rattle.plot_file.specs.declared.marks.Marked.the-variants as M
+use Rattle.plot_file.specs.declared.bodies.Body.{Body}
+use Rattle.plot_file.specs.declared.records.Plot.{Plot as PlotSoFar}
+use Rattle.plot_file.specs.declared.records.Next.{Next}
+use Rattle.plot_file.specs.declared.records.Next.the-variants as N
+use Rattle.plot_file.specs.declared.records.Step.{Step as StepTaken}
+use Rattle.plot_file.specs.PlotFile.{Plot, noPlot, readMark, readBody, boardBody, addTiles, tileBody, Step, more, ended, ReadsPlot}
+use Rattle.plot_file.specs.Inner.{answerOf, markedAnswer, isBoard, boardFor, tilesFor, ReadsBody, plotOf, Kept, nextAnswer, Ahead, Reads, boardOnly, startAt, StepsTo}
+use Rattle.plot_file.specs.RecordLaws.{readBody-is}
+use Rattle.plot_file.specs.ReadLaws.{readMark-behind, boardBody-at, tileBody-read, addTiles-given, addTiles-many}
+use Rattle.plot_file.proofs.TilesLaws.{count-is, none-clean, none-paths, for-paths}
+
+-- ---- answers
+
+-- a verdict with an answer's number, and its value, are that answer: no refusal has number 0
+told : {A : Type 0} (a : Answer A) (v : Verdict) (d x : A) → ((n : ℕ) → a ≡ refused n → 0 < n) → verdictNumber v ≡ refusalOf a → x ≡ valueOr d a → answerOf v x ≡ a
+unfolding refusalOf valueOr
+told (refused n) Verdicts.Accepted d x pos e q = absurd (omega (arith, pos n refl))
+told (refused n) (Verdicts.Refused r) d x pos e q = ap refused e
+told (given y) Verdicts.Accepted d x pos e q = ap given q
+told (given y) (Verdicts.Refused r) d x pos e q = absurd (omega (arith, refusalNumber-pos r))
+
+map-map : {A B C : Type 0} (f : A → B) (g : B → C) (a : Answer A) → mapAnswer g (mapAnswer f a) ≡ mapAnswer (λ x. g (f x)) a
+unfolding mapAnswer
+map-map f g (refused n) = refl
+map-map f g (given x) = refl
+
+map-answerOf : {A B : Type 0} (f : A → B) (v : Verdict) (x : A) → mapAnswer f (answerOf v x) ≡ answerOf v (f x)
+unfolding mapAnswer
+map-answerOf f Verdicts.Accepted x = refl
+map-answerOf f (Verdicts.Refused r) x = refl
+
+-- ---- marks
+
+module _ (file : List ℕ) (at : ℕ) (m : Marked) (e : markedAnswer file at m ≡ readMark (drop at file)) where
+  pub marked-is : (mark : Mark) → m ≡ M.Is mark → readMark (drop at file) ≡ given (mark, drop (at + 2) file)
+  unfolding mapAnswer
+  marked-is mark q = sym e ∙ ap (markedAnswer file at) q
+
+  pub marked-refused : (r : Refusal) → m ≡ M.Refused r → readMark (drop at file) ≡ refused (refusalNumber r)
+  unfolding mapAnswer
+  marked-refused r q = sym e ∙ ap (markedAnswer file at) q
+
+  pub marked-behind : (mark : Mark) → at ≤ length file → m ≡ M.Is mark → at + 2 ≤ length file
+  marked-behind mark h q = readMark-behind file at mark (drop (at + 2) file) h (marked-is mark q)
+
+-- ---- boards
+
+shaped-pos : (w h rows low high n : ℕ) → shaped w h rows low high ≡ refused n → 0 < n
+unfolding shaped
+shaped-pos w h rows low high n e = go (sizeOk w h) e
+  where
+    go : (t : Bool) → cond {A = Answer Board} t (given record { width = w; height = h; fixed = setOf (shapeMark w h rows low high); laid = 0 }) (refused 4) ≡ refused n → 0 < n
+    go true q = let z : _≡_ {A = ℕ} 0 1 = cc in absurd (omega arith)
+    go false q = let z : 4 ≡ n = cc in omega arith
+
+boardFor-pos : (mark : Mark) (a b n : ℕ) → boardFor mark a b ≡ refused n → 0 < n
+unfolding newBoard lBoard tBoard
+boardFor-pos RB a b n e = shaped-pos a b 0 0 0 n e
+boardFor-pos LB a b n e = shaped-pos (a * b) (2 * b) b 0 b n e
+boardFor-pos TB a b n e = shaped-pos ((2 * a + 1) * b) (2 * b) b (a * b) ((a + 1) * b) n e
+boardFor-pos TI a b n e = shaped-pos a b 0 0 0 n e
+boardFor-pos OR a b n e = shaped-pos a b 0 0 0 n e
+boardFor-pos EN a b n e = shaped-pos a b 0 0 0 n e
+
+-- a board that is made, or its refusal
+board-told : (mark : Mark) (a b : ℕ) (r : MadeBoard) → MakesBoard (boardFor mark a b) r → answerOf (r .verdict) (boardOf (r .board)) ≡ boardFor mark a b
+board-told mark a b r m = told (boardFor mark a b) (r .verdict) noBoard (boardOf (r .board)) (boardFor-pos mark a b) (m .verdict) (m .board)
+
+-- 0 by 0 is the board with no cell
+newBoard-none : valueOr noBoard (newBoard 0 0) ≡ noBoard
+unfolding newBoard shaped sizeOk setOf shapeMark inside below fromBits valueOr
+newBoard-none = refl
+
+-- ---- bodies of tiles
+
+module _ (file : List ℕ) (at : ℕ) (a : Answer (Path × List ℕ)) where
+  pub body-refused : (q : Refusal) (r : Body) → at ≤ length file → a ≡ refused (refusalNumber q) → (r .verdict ≡ Verdicts.Refused q) × (r .tile ≡ tileOf []) × (r .end ≡ at) → ReadsBody file at a r
+  body-refused q r h e (v, t, s) =
+      record {
+        answer = ap (λ (w : Verdict). answerOf w (pathIn (r .tile), drop (r .end) file)) v ∙ sym e;
+        tile = subst CleanTile (sym t) (clean-tileOf [] (omega arith));
+        low = omega arith;
+        high = omega arith;
+      }
+
+  module _ (codes : List ℕ) (made : MadeTile) (m : MakesTile (readPath codes) made) where
+    path-short : length (valueOr [] (readPath codes)) ≤ 32
+    unfolding valueOr
+    path-short = go (readPath codes) refl
+      where
+        go : (b : Answer Path) → readPath codes ≡ b → length (valueOr [] b) ≤ 32
+        go (refused n) e = omega arith
+        go (given p) e = let is = readPath-is codes p e in subst (λ (q : Path). length q ≤ 32) (sym (is .0)) (is .1)
+
+    path-pos : (n : ℕ) → readPath codes ≡ refused n → 0 < n
+    path-pos n e = let f = readPath-refused codes n e in omega arith
+
+    pub body-made : (end : ℕ) → at ≤ end → end ≤ length file → a ≡ mapAnswer (λ path. (path, drop end file)) (readPath codes)
+        → ReadsBody file at a (record { verdict = made .verdict; tile = made .tile; end = end })
+    body-made end h k e =
+        let path : pathIn (made .tile) ≡ valueOr [] (readPath codes) = ap pathIn (m .tile) ∙ pathIn-tileOf (valueOr [] (readPath codes)) path-short in
+        let is = told (readPath codes) (made .verdict) [] (pathIn (made .tile)) path-pos (m .verdict) path in
+        record {
+          answer = sym (map-answerOf (λ (p : Path). (p, drop end file)) (made .verdict) (pathIn (made .tile))) ∙ ap (mapAnswer (λ (p : Path). (p, drop end file))) is ∙ sym e;
+          tile = subst CleanTile (sym (m .tile)) (clean-tileOf (valueOr [] (readPath codes)) path-short);
+          low = h;
+          high = k;
+        }
+
+-- a body that was read
+module _ (file : List ℕ) (at : ℕ) (r : Body) (b : ReadsBody file at (readBody (drop at file)) r) where
+  body-given : r .verdict ≡ Verdicts.Accepted → readBody (drop at file) ≡ given (pathIn (r .tile), drop (r .end) file)
+  body-given e = sym (b .answer) ∙ ap (λ (v : Verdict). answerOf v (pathIn (r .tile), drop (r .end) file)) e
+
+  pub body-not : (q : Refusal) → r .verdict ≡ Verdicts.Refused q → readBody (drop at file) ≡ refused (refusalNumber q)
+  body-not q e = sym (b .answer) ∙ ap (λ (v : Verdict). answerOf v (pathIn (r .tile), drop (r .end) file)) e
+
+  pub body-path : r .verdict ≡ Verdicts.Accepted → (length (pathIn (r .tile)) ≤ 32) × So (codesOk (pathIn (r .tile)))
+  body-path e = let is = readBody-is (drop at file) (pathIn (r .tile)) (drop (r .end) file) (body-given e) in (is .1, is .2)
+
+-- ---- plots so far
+
+pub plot-none : (p : PlotSoFar) → boardOf (p .board) ≡ valueOr noBoard (newBoard 0 0) → p .tiles ≡ tilesOf [] → (plotOf p ≡ noPlot) × (p .tiles ≡ tilesOf [])
+plot-none p e q =
+    let board : boardOf (p .board) ≡ noBoard = e ∙ newBoard-none in
+    let tiles = none-paths (p .tiles) q in
+    (λ i. record { board = board i; tiles = tiles i }, q)
+
+-- ---- records
+
+ahead-le : (from at end : ℕ) (n : Next) → from ≤ at → Ahead at end n → Ahead from end n
+ahead-le from at end (N.At i) h (a, b) = (omega arith, b)
+ahead-le from at end N.End h a = tt
+ahead-le from at end (N.Refused r) h a = tt
+
+ahead-to : (from to end : ℕ) (n : Next) → from ≤ to → to ≤ end → Ahead to to n → Ahead from end n
+ahead-to from to end (N.At i) h k (a, b) = (omega arith, omega arith)
+ahead-to from to end N.End h k a = tt
+ahead-to from to end (N.Refused r) h k a = tt
+
+module _ (file : List ℕ) (at : ℕ) (a : Answer Step) (s : StepTaken) where
+  pub reads-refused : (q : Refusal) → a ≡ refused (refusalNumber q) → (s .next ≡ N.Refused q) × Kept (s .plot) → Reads file at a s
+  reads-refused q e h =
+      record {
+        answer = ap (nextAnswer file (plotOf (s .plot))) (h .0) ∙ sym e;
+        kept = h .1;
+        ahead = subst (Ahead at (length file)) (sym (h .0)) tt;
+      }
+
+  pub reads-end : a ≡ given (ended (plotOf (s .plot))) → s .next ≡ N.End → Kept (s .plot) → Reads file at a s
+  reads-end e n k = record { answer = ap (nextAnswer file (plotOf (s .plot))) n ∙ sym e; kept = k; ahead = subst (Ahead at (length file)) (sym n) tt }
+
+  -- the same record, from an earlier place
+  pub reads-from : (later : ℕ) (b : Answer Step) → Reads file later b s → at ≤ later → a ≡ b → Reads file at a s
+  reads-from later b r h e = record { answer = r .answer ∙ sym e; kept = r .kept; ahead = ahead-le at later (length file) (s .next) h (r .ahead) }
+
+  -- a step to a place
+  reads-to : (made : Answer Plot) (to : ℕ) → StepsTo made to s → at ≤ to → to ≤ length file → a ≡ mapAnswer (λ p. more p (drop to file)) made → Reads file at a s
+  reads-to made to t h k e = record { answer = t .answer file ∙ sym e; kept = t .kept; ahead = ahead-to at to (length file) (s .next) h k (t .ahead) }
+
+-- a step that was refused, and one to a place
+module _ (made : Answer Plot) (to : ℕ) (s : StepTaken) where
+  steps-refused : (q : Refusal) → made ≡ refused (refusalNumber q) → (s .next ≡ N.Refused q) × Kept (s .plot) → StepsTo made to s
+  unfolding mapAnswer
+  steps-refused q e h =
+      record {
+        answer = λ file. ap (nextAnswer file (plotOf (s .plot))) (h .0) ∙ sym (ap (mapAnswer (λ p. more p (drop to file))) e);
+        kept = h .1;
+        ahead = subst (Ahead to to) (sym (h .0)) tt;
+      }
+
+  steps-to : (p : Plot) → made ≡ given p → s .next ≡ N.At to → plotOf (s .plot) ≡ p → Kept (s .plot) → StepsTo made to s
+  unfolding mapAnswer
+  steps-to p e n q k =
+      record {
+        answer = λ file. ap (nextAnswer file (plotOf (s .plot))) n ∙ ap (λ (x : Plot). given (more x (drop to file))) q ∙ sym (ap (mapAnswer (λ x. more x (drop to file))) e);
+        kept = k;
+        ahead = subst (Ahead to to) (sym n) (omega arith, omega arith);
+      }
+
+-- the step behind a board that is made, and its record
+module _ (v : Verdict) (board : RectangularBoard) (to : ℕ) (s : StepTaken) where
+  pub steps-board : v ≡ Verdicts.Accepted → s .next ≡ N.At to → s .plot .board ≡ board → s .plot .tiles ≡ tilesOf [] → StepsTo (mapAnswer boardOnly (answerOf v (boardOf board))) to s
+  unfolding mapAnswer
+  steps-board e n b t =
+      let tiles = none-paths (s .plot .tiles) t in
+      steps-to (mapAnswer boardOnly (answerOf v (boardOf board))) to s (boardOnly (boardOf board)) (ap (λ (w : Verdict). mapAnswer boardOnly (answerOf w (boardOf board))) e) n
+      (λ i. record { board = boardOf (b i); tiles = tiles i }) (none-clean (s .plot .tiles) t)
+
+  pub steps-no-board : (q : Refusal) → v ≡ Verdicts.Refused q → (s .next ≡ N.Refused q) × Kept (s .plot) → StepsTo (mapAnswer boardOnly (answerOf v (boardOf board))) to s
+  unfolding mapAnswer
+  steps-no-board q e h =
+      steps-refused (mapAnswer boardOnly (answerOf v (boardOf board))) to s q (ap (λ (w : Verdict). mapAnswer boardOnly (answerOf w (boardOf board))) e) h
+
+pub reads-board : (file : List ℕ) (at : ℕ) (mark : Mark) (made : MadeBoard) (s : StepTaken) → isBoard mark ≡ true → at + 2 ≤ length file
+    → MakesBoard (boardFor mark (getD file at 0) (getD file (at + 1) 0)) made → StepsTo (mapAnswer boardOnly (answerOf (made .verdict) (boardOf (made .board)))) (at + 2) s
+    → Reads file at (mapAnswer startAt (boardBody mark (drop at file))) s
+reads-board file at mark made s is h m t =
+    let board : Answer Board = boardFor mark (getD file at 0) (getD file (at + 1) 0) in
+    reads-to file at (mapAnswer startAt (boardBody mark (drop at file))) s (mapAnswer boardOnly (answerOf (made .verdict) (boardOf (made .board)))) (at + 2) t (omega arith) h
+    (ap (mapAnswer startAt) (boardBody-at mark file at is h)
+    ∙ map-map (λ (x : Board). (x, drop (at + 2) file)) startAt board
+    ∙ sym (map-map boardOnly (λ p. more p (drop (at + 2) file)) board)
+    ∙ ap (λ (x : Answer Board). mapAnswer (λ p. more p (drop (at + 2) file)) (mapAnswer boardOnly x)) (sym (board-told mark (getD file at 0) (getD file (at + 1) 0) made m)))
+
+-- the step behind some tiles more, and their record
+module _ (plot : PlotSoFar) (tiles : Tiles) (to : ℕ) (s : StepTaken) where
+  pub steps-many : 64 < plot .tiles .count + tiles .count → (s .next ≡ N.Refused R.TooManyTiles) × Kept (s .plot) → StepsTo (addTiles (plotOf plot) (pathsIn tiles)) to s
+  steps-many h r =
+      steps-refused (addTiles (plotOf plot) (pathsIn tiles)) to s R.TooManyTiles (addTiles-many (plotOf plot) (pathsIn tiles) (omega (arith, count-is (plot .tiles), count-is tiles))) r
+
+  pub steps-added : plot .tiles .count + tiles .count ≤ 64 → s .next ≡ N.At to → s .plot .board ≡ plot .board → Kept (s .plot) × (pathsIn (s .plot .tiles) ≡ pathsIn (plot .tiles) ++ pathsIn tiles) → StepsTo (addTiles (plotOf plot) (pathsIn tiles)) to s
+  steps-added h n b j =
+      let paths = j .1 in
+      steps-to (addTiles (plotOf plot) (pathsIn tiles)) to s (record { board = boardOf (plot .board); tiles = pathsIn (plot .tiles) ++ pathsIn tiles })
+      (addTiles-given (plotOf plot) (pathsIn tiles) (omega (arith, count-is (plot .tiles), count-is tiles))) n
+      (λ i. record { board = boardOf (b i); tiles = paths i }) (j .0)
+
+pub reads-tiles : (file : List ℕ) (at : ℕ) (whole : Bool) (plot : Plot) (r : Body) (ts : Tiles) (s : StepTaken) → ReadsBody file at (readBody (drop at file)) r → r .verdict ≡ Verdicts.Accepted
+    → ts ≡ tilesOf (tilesFor whole (pathIn (r .tile))) → StepsTo (addTiles plot (pathsIn ts)) (r .end) s → Reads file at (tileBody (tilesFor whole) plot (drop at file)) s
+reads-tiles file at whole plot r ts s b e q t =
+    reads-to file at (tileBody (tilesFor whole) plot (drop at file)) s (addTiles plot (pathsIn ts)) (r .end) t (b .low) (b .high)
+    (tileBody-read (drop at file) plot (tilesFor whole) (pathIn (r .tile)) (drop (r .end) file) (body-given file at r b e)
+    ∙ ap (λ (ps : List Path). mapAnswer (λ p. more p (drop (r .end) file)) (addTiles plot ps)) (sym (for-paths whole (pathIn (r .tile)) (body-path file at r b e .0) ts q)))
+
+-- a record that was read, by where it goes on
+module _ (file : List ℕ) (at : ℕ) (a : Answer Step) (s : StepTaken) (r : Reads file at a s) where
+  pub goes-on : (i : ℕ) → s .next ≡ N.At i → (a ≡ given (more (plotOf (s .plot)) (drop i file))) × (at ≤ i) × (i ≤ length file)
+  goes-on i e = let h = subst (Ahead at (length file)) e (r .ahead) in (sym (r .answer) ∙ ap (nextAnswer file (plotOf (s .plot))) e, h .0, h .1)
+
+  pub goes-end : s .next ≡ N.End → a ≡ given (ended (plotOf (s .plot)))
+  goes-end e = sym (r .answer) ∙ ap (nextAnswer file (plotOf (s .plot))) e
+
+  pub goes-refused : (q : Refusal) → s .next ≡ N.Refused q → a ≡ refused (refusalNumber q)
+  goes-refused q e = sym (r .answer) ∙ ap (nextAnswer file (plotOf (s .plot))) e
+
+-- ---- the plot at the end
+
+module _ (r : MadePlot) where
+  pub plot-made : (p : PlotSoFar) → Kept p → r .verdict ≡ Verdicts.Accepted → r .board ≡ p .board → r .tiles ≡ p .tiles → ReadsPlot (given (plotOf p)) r
+  unfolding refusalOf valueOr
+  plot-made p k v b t = record { verdict = ap verdictNumber v; board = ap boardOf b; tiles = t ∙ k .is }
+
+  pub plot-refused : (q : Refusal) (p : PlotSoFar) → (plotOf p ≡ noPlot) × (p .tiles ≡ tilesOf []) → r .verdict ≡ Verdicts.Refused q → r .board ≡ p .board → r .tiles ≡ p .tiles → ReadsPlot (refused (refusalNumber q)) r
+  unfolding refusalOf valueOr
+  plot-refused q p h v b t = record { verdict = ap verdictNumber v; board = ap boardOf b ∙ ap (λ (x : Plot). x .board) (h .0); tiles = t ∙ h .1 }
+
+pub plot-is : (a b : Answer Plot) (r : MadePlot) → a ≡ b → ReadsPlot b r → ReadsPlot a r
+plot-is a b r e h = subst (λ (x : Answer Plot). ReadsPlot x r) (sym e) h

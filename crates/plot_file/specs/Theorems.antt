@@ -1,0 +1,92 @@
+-- The theorems about plot files: which files are accepted, what is read from them, which refusals there are, and how many bytes settle a file. Each is
+-- said here in words and proved in `RecordLaws`, `FileLaws`, `LengthLaws` or `SettledLaws`. The reader is `plotIn` of `PlotFile`, records as data are
+-- `Records`; `ReadsPlot` says what the code's answer has to be. Assumes nothing.
+use mathlib.Core.Path.{_≡_, sym, ap, _∙_}
+use mathlib.Core.Logic.{_↔_}
+use mathlib.Core.Bool.{true}
+use mathlib.Core.List.{List, []}
+use Prim.Native.Nat.{ℕ, _^_, _≤_, _<_}
+use native.Mathlib.Omega.{arith}
+use lib.ListN.{length, take}
+use Rattle.refusal.specs.Refusal.{refused, given, refusalOf, valueOr, verdictNumber}
+use Rattle.tile.specs.Stored.{Storable, tilesOf, readTiles}
+use Rattle.tile.specs.StoredLaws.{readTiles-tilesOf}
+use Rattle.board.specs.Board.{boardOf, noBoard, valid, readBoard}
+use Rattle.board.specs.BoardLaws.{readBoard-given}
+use Rattle.plot_file.specs.declared.MadePlot.{MadePlot}
+use Rattle.plot_file.specs.PlotFile.{Plot, noPlot, plotIn, ReadsPlot}
+use Rattle.plot_file.specs.Records.{BoardRecord, TileRecord, fileOf, Holds}
+use Rattle.plot_file.specs.RecordLaws as Record
+use Rattle.plot_file.specs.FileLaws as File
+use Rattle.plot_file.specs.LengthLaws as Length
+use Rattle.plot_file.specs.SettledLaws as Settled
+
+-- The accepted files are exactly the files of a board record, any number of tile records and EN, where the board's size is accepted, each path has at most
+-- 32 codes 0 to 7, and there are at most 64 tiles. The plot that is read has that board and those tiles, in the order of the file.
+pub accepted-iff : (file : List ℕ) (plot : Plot) → (plotIn file ≡ given plot) ↔ ((board : BoardRecord) × (tiles : List TileRecord) × (file ≡ fileOf board tiles) × Holds board tiles plot)
+accepted-iff = File.accepted-iff
+
+-- Every byte belongs to exactly one record: equal files have the same records.
+pub file-once : (b c : BoardRecord) (ts us : List TileRecord) → fileOf b ts ≡ fileOf c us → (b ≡ c) × (ts ≡ us)
+file-once = File.file-once
+
+-- An accepted file has at most 2,246 bytes, 4 + 64 × 35 + 2, and no lower bound holds.
+pub accepted-length : (file : List ℕ) (plot : Plot) → plotIn file ≡ given plot → length file ≤ 2246
+accepted-length = Length.accepted-length
+
+pub accepted-length-least : (n : ℕ) → ((file : List ℕ) (plot : Plot) → plotIn file ≡ given plot → length file ≤ n) → 2246 ≤ n
+accepted-length-least = Length.longestFile-least
+
+-- A file's answer, accepted or refused, is settled by its first 2,279 bytes, 4 + 64 × 35 + 35, and not by fewer.
+pub settled : (file : List ℕ) (n : ℕ) → 2279 ≤ n → plotIn (take n file) ≡ plotIn file
+settled = Settled.settled
+
+pub settled-least : (n : ℕ) → ((file : List ℕ) → plotIn (take n file) ≡ plotIn file) → 2279 ≤ n
+settled-least = Settled.settledBy-least
+
+-- 01: "4,096 bytes are enough to settle any file"
+pub four-thousand-settle : (file : List ℕ) → plotIn (take 4096 file) ≡ plotIn file
+four-thousand-settle file = settled file 4096 (omega arith)
+
+-- Every refusal of a file is one of 1 to 6.
+pub refusal-listed : (file : List ℕ) (n : ℕ) → plotIn file ≡ refused n → (0 < n) × (n ≤ 6)
+refusal-listed = Record.plotIn-refusal
+
+-- The board of an accepted file is valid and has no laid marks, and its tiles are at most 64 paths that can be stored. Its fixed marks are a set of 256 cells.
+pub accepted-plot : (file : List ℕ) (plot : Plot) → plotIn file ≡ given plot
+    → (valid (plot .board) ≡ true) × (plot .board .laid ≡ 0) × (length (plot .tiles) ≤ 64) × Storable (plot .tiles)
+accepted-plot = File.accepted-plot
+
+pub accepted-fixed : (file : List ℕ) (plot : Plot) → plotIn file ≡ given plot → plot .board .fixed < 2 ^ 256
+accepted-fixed = File.accepted-fixed
+
+-- ---- the answer of the code
+
+-- What is read is accepted by the other calls: from the board and the tiles handed back they read the plot's.
+pub read-accepted : (file : List ℕ) (r : MadePlot) (plot : Plot) → ReadsPlot (plotIn file) r → plotIn file ≡ given plot
+    → (readBoard (r .board) ≡ given (plot .board)) × (readTiles (r .tiles) ≡ given (plot .tiles))
+unfolding valueOr
+read-accepted file r plot reads e =
+    let ok = accepted-plot file plot e in
+    let is : valueOr noPlot (plotIn file) ≡ plot = ap (valueOr noPlot) e in
+    let board : boardOf (r .board) ≡ plot .board = reads .board ∙ ap (λ (p : Plot). p .board) is in
+    let tiles : r .tiles ≡ tilesOf (plot .tiles) = reads .tiles ∙ ap (λ (p : Plot). tilesOf (p .tiles)) is in
+    (readBoard-given (r .board) (ap valid board ∙ ok .0) ∙ ap given board, ap readTiles tiles ∙ readTiles-tilesOf (plot .tiles) (ok .2) (ok .3))
+
+-- 01: "A refusal hands back a 0 by 0 board and no tiles", and its number.
+pub read-refused : (file : List ℕ) (r : MadePlot) (n : ℕ) → ReadsPlot (plotIn file) r → plotIn file ≡ refused n
+    → (verdictNumber (r .verdict) ≡ n) × (boardOf (r .board) ≡ noBoard) × (r .tiles ≡ tilesOf [])
+unfolding valueOr refusalOf
+read-refused file r n reads e =
+    let is : valueOr noPlot (plotIn file) ≡ noPlot = ap (valueOr noPlot) e in
+    (reads .verdict ∙ ap refusalOf e, reads .board ∙ ap (λ (p : Plot). p .board) is, reads .tiles ∙ ap (λ (p : Plot). tilesOf (p .tiles)) is)
+
+-- The bytes alone decide: two answers to equal bytes have the same number, board and tiles.
+pub bytes-alone : (file other : List ℕ) (r s : MadePlot) → file ≡ other → ReadsPlot (plotIn file) r → ReadsPlot (plotIn other) s
+    → (verdictNumber (r .verdict) ≡ verdictNumber (s .verdict)) × (boardOf (r .board) ≡ boardOf (s .board)) × (r .tiles ≡ s .tiles)
+bytes-alone file other r s e p q =
+    let same : plotIn file ≡ plotIn other = ap plotIn e in (
+      p .verdict ∙ ap refusalOf same ∙ sym (q .verdict),
+      p .board ∙ ap (λ a. valueOr noPlot a .board) same ∙ sym (q .board),
+      p .tiles ∙ ap (λ a. tilesOf (valueOr noPlot a .tiles)) same ∙ sym (q .tiles),
+    )
