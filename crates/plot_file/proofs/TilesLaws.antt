@@ -119,7 +119,7 @@ module _ (tiles others : Tiles) where
       unfolding next
       stored =
           let few = c .few in
-          is ∙ ap (λ (ts : Tiles). tileAt ts i) (c .is) ∙ tileAt-tilesOf (pathsIn others) (short-pathsIn others c) i (omega arith)
+          is ∙ ap (λ (ts : Tiles). tileAt ts i) (c .is) ∙ tileAt-tilesOf (pathsIn others) i (omega arith)
 
       next-short : length next ≤ 32
       unfolding next

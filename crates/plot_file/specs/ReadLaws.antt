@@ -16,7 +16,7 @@ use Rattle.board.specs.Board.{Board}
 use Rattle.plot_file.specs.declared.Mark.{Mark}
 use Rattle.plot_file.specs.declared.Mark.the-variants.{RB, LB, TB, TI, OR, EN}
 use Rattle.plot_file.specs.PlotFile.{Plot, letters, spells, markAmong, readMark, readPair, readBody, more, ended, boardBody, firstRecord, addTiles, tileBody, endBody, laterBody, laterRecord, onward, records, plotIn}
-use Rattle.plot_file.specs.Inner.{allMarks, isBoard, boardFor, startAt}
+use Rattle.plot_file.specs.Inner.{allMarks, isBoard, boardFor, tilesFor, startAt}
 use Rattle.plot_file.specs.RecordLaws.{readMark-is, length-letters, records-step}
 
 -- ---- a mark among others
@@ -144,18 +144,18 @@ module _ (file : List ℕ) (at : ℕ) where
 -- ---- records, by their marks and bodies
 
 module _ (bytes : List ℕ) where
-  pub firstRecord-mark : (mark : Mark) (rest : List ℕ) → readMark bytes ≡ given (mark, rest) → firstRecord bytes ≡ mapAnswer startAt (boardBody mark rest)
+  pub firstRecord-marked : (mark : Mark) (rest : List ℕ) → readMark bytes ≡ given (mark, rest) → firstRecord bytes ≡ mapAnswer startAt (boardBody mark rest)
   unfolding firstRecord bindAnswer
-  firstRecord-mark mark rest e = rw e
+  firstRecord-marked mark rest e = rw e
 
   pub firstRecord-refused : (n : ℕ) → readMark bytes ≡ refused n → firstRecord bytes ≡ refused n
   unfolding firstRecord bindAnswer
   firstRecord-refused n e = rw e
 
   module _ (plot : Plot) where
-    pub laterRecord-mark : (mark : Mark) (rest : List ℕ) → readMark bytes ≡ given (mark, rest) → laterRecord plot bytes ≡ laterBody mark plot rest
+    pub laterRecord-marked : (mark : Mark) (rest : List ℕ) → readMark bytes ≡ given (mark, rest) → laterRecord plot bytes ≡ laterBody mark plot rest
     unfolding laterRecord bindAnswer
-    laterRecord-mark mark rest e = rw e
+    laterRecord-marked mark rest e = rw e
 
     pub laterRecord-refused : (n : ℕ) → readMark bytes ≡ refused n → laterRecord plot bytes ≡ refused n
     unfolding laterRecord bindAnswer
@@ -169,6 +169,32 @@ module _ (bytes : List ℕ) where
     pub tileBody-refused : (tiles : Path → List Path) (n : ℕ) → readBody bytes ≡ refused n → tileBody tiles plot bytes ≡ refused n
     unfolding tileBody bindAnswer
     tileBody-refused tiles n e = rw e
+
+-- a later record, by its mark
+module _ (mark : Mark) (plot : Plot) (bytes : List ℕ) where
+  pub laterBody-board : isBoard mark ≡ true → laterBody mark plot bytes ≡ refused 3
+  unfolding laterBody
+  laterBody-board e = go mark e
+    where
+      go : (m : Mark) → isBoard m ≡ true → laterBody m plot bytes ≡ refused 3
+      go RB q = refl
+      go LB q = refl
+      go TB q = refl
+      go TI q = let z : _≡_ {A = ℕ} 0 1 = cc in absurd (omega arith)
+      go OR q = let z : _≡_ {A = ℕ} 0 1 = cc in absurd (omega arith)
+      go EN q = let z : _≡_ {A = ℕ} 0 1 = cc in absurd (omega arith)
+
+  pub laterBody-tile : mark ≡ TI → laterBody mark plot bytes ≡ tileBody (tilesFor false) plot bytes
+  unfolding laterBody
+  laterBody-tile e = ap (λ (m : Mark). laterBody m plot bytes) e
+
+  pub laterBody-orbit : mark ≡ OR → laterBody mark plot bytes ≡ tileBody (tilesFor true) plot bytes
+  unfolding laterBody
+  laterBody-orbit e = ap (λ (m : Mark). laterBody m plot bytes) e
+
+  pub laterBody-end : mark ≡ EN → laterBody mark plot bytes ≡ endBody plot bytes
+  unfolding laterBody
+  laterBody-end e = ap (λ (m : Mark). laterBody m plot bytes) e
 
 module _ (plot : Plot) (file : List ℕ) (at : ℕ) where
   pub endBody-end : length file ≤ at → endBody plot (drop at file) ≡ given (ended plot)

@@ -304,9 +304,9 @@ tileAt-past ts i h k = λ m. record { len = sym (List·getD-eq-default (ts .lens
     zero-at : (j : ℕ) → j < 32 → 0 ≡ getD (ts .codes) (32 * i + j) 0
     zero-at j l = let past : length (ts .codes) ≤ 32 * i + j = omega arith in sym (List·getD-eq-default (ts .codes) 0 past)
 
-pub tileAt-tilesOf : (ps : List Path) → Short ps → (i : ℕ) → i < 64 → tileAt (tilesOf ps) i ≡ tileOf (getD ps i [])
+pub tileAt-tilesOf : (ps : List Path) (i : ℕ) → i < 64 → tileAt (tilesOf ps) i ≡ tileOf (getD ps i [])
 unfolding tileAt tilesOf tileOf
-tileAt-tilesOf ps short i h =
+tileAt-tilesOf ps i h =
     λ m. record { len = getD-listOf (λ j. length (getD ps j [])) 64 i 0 h m; codes = codes m }
   where
     code : ℕ → ℕ

@@ -8,10 +8,14 @@ use Rattle.plot_file.proofs.records.end_record.Statement.{statement}
 use Rattle.plot_file.proofs.records.end_record.Tie as tie
 
 returns : tie.Need-returns
-returns c = reads-refused _ _ _ _ _ (endBody-more _ _ _ (c .before .if1 .taken)) (c .refuse .ensures)
+returns c =
+    let s = c .before .before .before in
+    reads-refused _ _ _ _ _ (endBody-more _ (s .args .file .now) (s .args .at) (c .before .if1 .taken)) (c .refuse .ensures)
 
 returns-2 : tie.Need-returns-2
-returns-2 c = let s = c .before .before in reads-end _ _ _ _ (endBody-end _ _ _ (c .if1 .left)) refl (s .pre .1)
+returns-2 c =
+    let s = c .before .before in
+    reads-end _ _ _ _ (endBody-end _ (s .args .file .now) (s .args .at) (c .if1 .left)) refl (s .pre .1)
 
 pub end-record-spec : {M : Type 1} → statement M
 end-record-spec = tie.close (tie.spec (λ c κs. search needs) returns returns-2)

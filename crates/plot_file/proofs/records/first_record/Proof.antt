@@ -1,7 +1,7 @@
 -- `plot_file::records::first_record` meets its contract: the mark decides.
 -- Assumes nothing.
 use native.Mathlib.Omega.{arith}
-use Rattle.plot_file.specs.ReadLaws.{firstRecord-mark, firstRecord-refused}
+use Rattle.plot_file.specs.ReadLaws.{firstRecord-marked, firstRecord-refused}
 use Rattle.plot_file.proofs.StepLaws.{marked-is, marked-refused, marked-behind, reads-refused, reads-from}
 use borrow.Author.Needs.{needs}
 use Rattle.plot_file.proofs.records.first_record.Statement.{statement}
@@ -13,7 +13,7 @@ board-record-requires c κs = marked-behind _ 0 _ (c .before .before .before .re
 returns : tie.Need-returns
 returns c =
     let read = c .before .before .before .before in
-    reads-from _ _ _ _ _ _ (c .board-record .ensures) (omega arith) (firstRecord-mark _ _ _ (marked-is _ 0 _ (read .read-mark .ensures) _ (c .before .before .marked .given .1)))
+    reads-from _ _ _ _ _ _ (c .board-record .ensures) (omega arith) (firstRecord-marked _ _ _ (marked-is _ 0 _ (read .read-mark .ensures) _ (c .before .before .marked .given .1)))
 
 returns-2 : tie.Need-returns-2
 returns-2 c =

@@ -1,43 +1,31 @@
 -- `plot_file::records::later_body` meets its contract: the function for the mark does.
 -- Assumes nothing.
-use mathlib.Core.Path.{_≡_, ap}
-use mathlib.Core.List.{List}
-use Prim.Native.Nat.{ℕ}
+use mathlib.Core.Path.{ap}
 use native.Mathlib.Omega.{arith}
-use Rattle.plot_file.specs.declared.Mark.{Mark}
-use Rattle.plot_file.specs.PlotFile.{Plot, laterBody}
+use Rattle.plot_file.specs.Inner.{isBoard}
+use Rattle.plot_file.specs.ReadLaws.{laterBody-board, laterBody-tile, laterBody-orbit, laterBody-end}
 use Rattle.plot_file.proofs.StepLaws.{reads-refused, reads-from}
 use borrow.Author.Needs.{needs}
 use Rattle.plot_file.proofs.records.later_body.Statement.{statement}
 use Rattle.plot_file.proofs.records.later_body.Tie as tie
 
--- the record, by the mark that is told
-by-mark : (mark is : Mark) (plot : Plot) (bytes : List ℕ) → mark ≡ is → laterBody mark plot bytes ≡ laterBody is plot bytes
-by-mark mark is plot bytes e = ap (λ (m : Mark). laterBody m plot bytes) e
-
 returns : tie.Need-returns
-unfolding laterBody
-returns c = reads-refused _ _ _ _ _ (by-mark _ _ _ _ (c .before .enum-told .given .1)) (c .refuse .ensures)
+returns c = reads-refused _ _ _ _ _ (laterBody-board _ _ _ (ap isBoard (c .before .enum-told .given .1))) (c .refuse .ensures)
 
 returns-2 : tie.Need-returns-2
-unfolding laterBody
-returns-2 c = reads-refused _ _ _ _ _ (by-mark _ _ _ _ (c .before .enum-told2 .given .1)) (c .refuse2 .ensures)
+returns-2 c = reads-refused _ _ _ _ _ (laterBody-board _ _ _ (ap isBoard (c .before .enum-told2 .given .1))) (c .refuse2 .ensures)
 
 returns-3 : tie.Need-returns-3
-unfolding laterBody
-returns-3 c = reads-refused _ _ _ _ _ (by-mark _ _ _ _ (c .before .enum-told3 .given .1)) (c .refuse3 .ensures)
+returns-3 c = reads-refused _ _ _ _ _ (laterBody-board _ _ _ (ap isBoard (c .before .enum-told3 .given .1))) (c .refuse3 .ensures)
 
 returns-4 : tie.Need-returns-4
-unfolding laterBody
-returns-4 c = reads-from _ _ _ _ _ _ (c .tile-record .ensures) (omega arith) (by-mark _ _ _ _ (c .before .enum-told4 .given .1))
+returns-4 c = reads-from _ _ _ _ _ _ (c .tile-record .ensures) (omega arith) (laterBody-tile _ _ _ (c .before .enum-told4 .given .1))
 
 returns-5 : tie.Need-returns-5
-unfolding laterBody
-returns-5 c = reads-from _ _ _ _ _ _ (c .tile-record2 .ensures) (omega arith) (by-mark _ _ _ _ (c .before .enum-told5 .given .1))
+returns-5 c = reads-from _ _ _ _ _ _ (c .tile-record2 .ensures) (omega arith) (laterBody-orbit _ _ _ (c .before .enum-told5 .given .1))
 
 returns-6 : tie.Need-returns-6
-unfolding laterBody
-returns-6 c = reads-from _ _ _ _ _ _ (c .end-record .ensures) (omega arith) (by-mark _ _ _ _ (c .before .enum-told6 .given .1))
+returns-6 c = reads-from _ _ _ _ _ _ (c .end-record .ensures) (omega arith) (laterBody-end _ _ _ (c .before .enum-told6 .given .1))
 
 pub later-body-spec : {M : Type 1} → statement M
 later-body-spec =

@@ -1,7 +1,7 @@
 -- `plot_file::records::later_record` meets its contract: the mark decides.
 -- Assumes nothing.
 use native.Mathlib.Omega.{arith}
-use Rattle.plot_file.specs.ReadLaws.{laterRecord-mark, laterRecord-refused}
+use Rattle.plot_file.specs.ReadLaws.{laterRecord-marked, laterRecord-refused}
 use Rattle.plot_file.proofs.StepLaws.{marked-is, marked-refused, marked-behind, reads-refused, reads-from}
 use borrow.Author.Needs.{needs}
 use Rattle.plot_file.proofs.records.later_record.Statement.{statement}
@@ -16,7 +16,7 @@ returns : tie.Need-returns
 returns c =
     let read = c .before .before .before .before in
     let s = read .before .before in
-    reads-from _ _ _ _ _ _ (c .later-body .ensures) (omega arith) (laterRecord-mark _ _ _ _ (marked-is (s .args .file .now) (s .args .at) _ (read .read-mark .ensures) _ (c .before .before .marked .given .1)))
+    reads-from _ _ _ _ _ _ (c .later-body .ensures) (omega arith) (laterRecord-marked _ _ _ _ (marked-is (s .args .file .now) (s .args .at) _ (read .read-mark .ensures) _ (c .before .before .marked .given .1)))
 
 returns-2 : tie.Need-returns-2
 returns-2 c =

@@ -1,0 +1,94 @@
+-- What structs of the code that hold a plot say: its board, its free cells and its tiles, and that both counts of the code are the plot's, also as the
+-- contract of `count_tilings` says it. Rests on tile's `EqualLaws`, board's `Board` and tiler's `Counting`. Assumes nothing.
+use mathlib.Core.Path.{_≡_, refl, sym, ap, ap₂, _∙_, subst}
+use mathlib.Core.Bool.{Bool, true, false, So, cond}
+use mathlib.Core.List.{List}
+use Prim.Native.Nat.{ℕ}
+use lib.ListN.{length}
+use Rattle.cells.specs.ArrayLaws.{length-listOf}
+use Rattle.tile.specs.declared.Tiles.{Tiles}
+use Rattle.refusal.specs.Refusal.{refused, given, mapAnswer, bindAnswer, valueOr}
+use Rattle.refusal.specs.RefusalLaws.{refused-given, given-inj}
+use Rattle.tile.specs.Path.{equalCounts}
+use Rattle.tile.specs.Stored.{pathAt, pathsIn}
+use Rattle.tile.specs.EqualLaws.{readTiles-sound, readEqualTiles-equal, readEqualTiles-unequal}
+use Rattle.board.specs.declared.RectangularBoard.{RectangularBoard}
+use Rattle.board.specs.Board.{Board, boardOf, marks, freeCount, valid, readBoard}
+use Rattle.graph.specs.Rooms.{layerRoom, nodeRoom, edgeRoom}
+use Rattle.tiler.specs.declared.Count.{Count}
+use Rattle.tiler.specs.Boards.{setting}
+use Rattle.tiler.specs.Counting.{readPlot, layersAnswer, countTilings, countAnswer, CountsTilings, graphOf, weighGraph, generateGraph}
+use Rattle.plot_file.specs.PlotFile.{Plot}
+use Rattle.report.specs.Report.{withEqualTiles, layersOf, graphIn}
+use Rattle.report.specs.Inner.{Holds}
+
+-- a board that is read is accepted, and is the one that is stored
+pub read-board : (b : RectangularBoard) (board : Board) → readBoard b ≡ given board → (boardOf b ≡ board) × So (valid (boardOf b))
+unfolding readBoard
+read-board b board e = go (valid (boardOf b)) refl e
+  where
+    go : (t : Bool) → valid (boardOf b) ≡ t → cond t (given (boardOf b)) (refused 4) ≡ given board → (boardOf b ≡ board) × So (valid (boardOf b))
+    go true q h = (given-inj (boardOf b) board h, q)
+    go false q h = absurd (refused-given 4 board h)
+
+-- ---- what is held
+
+module _ (plot : Plot) (board : RectangularBoard) (tiles : Tiles) (h : Holds plot board tiles) where
+  pub held-board : boardOf board ≡ plot .board
+  held-board = read-board board (plot .board) (h .boardIs) .0
+
+  pub held-valid : So (valid (plot .board))
+  held-valid = subst (λ (b : Board). So (valid b)) held-board (read-board board (plot .board) (h .boardIs) .1)
+
+  pub held-free : valueOr 0 (mapAnswer freeCount (readBoard board)) ≡ freeCount (plot .board)
+  unfolding valueOr mapAnswer
+  held-free = rw (h .boardIs)
+
+  pub held-tiles : pathsIn tiles ≡ plot .tiles
+  held-tiles = sym (readTiles-sound tiles (plot .tiles) (h .tilesAre) .2)
+
+  pub held-count : tiles .count ≡ length (plot .tiles)
+  held-count = sym (length-listOf (pathAt (tiles .lens) (tiles .codes)) (tiles .count)) ∙ ap length held-tiles
+
+  -- ---- what is counted
+
+  -- board and tiles as the calls read them: refusal 7 where two tiles have different numbers of cells
+  plot-equal : equalCounts (plot .tiles) ≡ true → readPlot board tiles ≡ given (plot .board, plot .tiles)
+  unfolding readPlot bindAnswer mapAnswer
+  plot-equal e = rw (h .boardIs, readEqualTiles-equal tiles (plot .tiles) (h .tilesAre) e)
+
+  plot-unequal : equalCounts (plot .tiles) ≡ false → readPlot board tiles ≡ refused 7
+  unfolding readPlot bindAnswer mapAnswer
+  plot-unequal e = rw (h .boardIs, readEqualTiles-unequal tiles (plot .tiles) (h .tilesAre) e)
+
+  -- the layer count of the calls is the plot's,
+  pub held-layers : countTilings board tiles 512 ≡ layersOf plot
+  unfolding countTilings layersOf withEqualTiles bindAnswer
+  held-layers = go (equalCounts (plot .tiles)) refl
+    where
+      go : (t : Bool) → equalCounts (plot .tiles) ≡ t
+          → bindAnswer (readPlot board tiles) (λ p. layersAnswer (setting (p .0) (p .1)) (marks (p .0)) 512)
+          ≡ cond (equalCounts (plot .tiles)) (layersAnswer (setting (plot .board) (plot .tiles)) (marks (plot .board)) 512) (refused 7)
+      go true e = rw (plot-equal e, e)
+      go false e = rw (plot-unequal e, e)
+
+  -- and so is the graph
+  pub held-graph : generateGraph board tiles 4096 1024 8192 ≡ graphIn plot
+  unfolding generateGraph graphIn withEqualTiles bindAnswer nodeRoom edgeRoom
+  held-graph = go (equalCounts (plot .tiles)) refl
+    where
+      go : (t : Bool) → equalCounts (plot .tiles) ≡ t
+          → bindAnswer (readPlot board tiles) (λ p. weighGraph 1024 4096 (graphOf (setting (p .0) (p .1)) (marks (p .0))))
+          ≡ cond (equalCounts (plot .tiles)) (weighGraph 1024 4096 (graphOf (setting (plot .board) (plot .tiles)) (marks (plot .board)))) (refused 7)
+      go true e = rw (plot-equal e, e)
+      go false e = rw (plot-unequal e, e)
+
+  -- as the contract of `count_tilings` says it, with layers of 512 boards
+  pub held-counted : (boardsA countsA boardsB countsB boardsA′ countsA′ boardsB′ countsB′ : List ℕ) (r : Count)
+      → CountsTilings board tiles boardsA countsA boardsB countsB boardsA′ countsA′ boardsB′ countsB′ r
+      → length boardsA ≡ 2048 → length countsA ≡ 512 → length boardsB ≡ 2048 → length countsB ≡ 512 → countAnswer r ≡ layersOf plot
+  unfolding layerRoom
+  held-counted boardsA countsA boardsB countsB boardsA′ countsA′ boardsB′ countsB′ r c a b d e =
+      c .answer
+      ∙ ap (countTilings board tiles) (ap₂ (λ (x y : ℕ). layerRoom x y (length boardsB) (length countsB)) a b ∙ ap₂ (λ (x y : ℕ). layerRoom 2048 512 x y) d e)
+      ∙ held-layers

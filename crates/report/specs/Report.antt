@@ -1,0 +1,133 @@
+-- Definitions: the text that the program `plot` prints for a file. What stands in quotation marks is 01's, from its sections Known plots, The layer count and The
+-- graph. Counts, graph and tilings are those of `tiler`, `graph` and `covers`; what a file holds is `plotIn` of `plot_file`. Assumes nothing.
+use mathlib.Core.Path.{_≡_}
+use mathlib.Core.Bool.{cond}
+use mathlib.Core.List.{List, [], _∷_, _++_, flatMap}
+use Prim.Native.Nat.{ℕ, zero, suc, _+_, _/_, _%_, min}
+use Prim.Native.String.{String}
+use lib.Dec.{ltb}
+use lib.ListN.{length, take, drop}
+use Rattle.cells.specs.Arrays.{listOf}
+use Rattle.refusal.specs.Refusal.{Answer, refused, given}
+use Rattle.tile.specs.Path.{equalCounts}
+use Rattle.board.specs.Board.{marks, freeCount}
+use Rattle.covers.specs.Counts.{atNode, tiling}
+use Rattle.graph.specs.Tilings.{countIn, countFromGraph}
+use Rattle.tiler.specs.Boards.{setting}
+use Rattle.tiler.specs.Counting.{layersAnswer, Graph, graphOf, weighGraph}
+use Rattle.plot_file.specs.Ascii.{ascii}
+use Rattle.plot_file.specs.PlotFile.{Plot, plotIn}
+
+-- ---- what is counted
+
+-- "7, two tiles with different numbers of cells", else the answer
+unfoldable pub withEqualTiles : {A : Type 0} → Plot → Answer A → Answer A
+unfolding equalCounts
+withEqualTiles plot answer = cond (equalCounts (plot .tiles)) answer (refused 7)
+
+-- the program "lends 512 boards a layer,"
+unfoldable pub layersOf : Plot → Answer ℕ
+unfolding withEqualTiles layersAnswer setting marks
+layersOf plot = withEqualTiles plot (layersAnswer (setting (plot .board) (plot .tiles)) (marks (plot .board)) 512)
+
+-- "1,024 nodes, 4,096 edges,"
+unfoldable pub graphIn : Plot → Answer Graph
+unfolding withEqualTiles weighGraph graphOf setting marks
+graphIn plot = withEqualTiles plot (weighGraph 1024 4096 (graphOf (setting (plot .board) (plot .tiles)) (marks (plot .board))))
+
+-- "and lists the first 16 tilings, or all if there are fewer": how many are listed, and the node list of one
+unfoldable pub listed : Graph → ℕ
+unfolding countFromGraph
+listed g = min 16 (countFromGraph (g .complete) (g .counts))
+
+unfoldable pub listIn : Graph → ℕ → List ℕ
+unfolding tiling atNode
+listIn g m = tiling (g .edges) (countIn (g .counts)) (atNode (λ v. v) (g .complete)) m
+
+-- ---- the parts of a line
+
+-- the decimal digits of a number, the highest first, k + 1 at most; n itself is more than enough (`decimal-value`, `decimal-digits` and `decimal-front` say
+-- that they are its digits, with no 0 in front)
+unfoldable pub digits : ℕ → ℕ → List ℕ
+digits zero n = (48 + n % 10) ∷ []
+digits (suc k) n = cond (ltb n 10) ((48 + n) ∷ []) (digits k (n / 10) ++ (48 + n % 10) ∷ [])
+
+unfoldable pub decimal : ℕ → List ℕ
+unfolding digits
+decimal n = digits n n
+
+-- a field: some words, and a number behind them
+unfoldable pub field : String → ℕ → List ℕ
+unfolding ascii decimal
+field words n = ascii words ++ decimal n
+
+-- "a line feed ends each line"
+unfoldable pub feed : List ℕ
+unfolding ascii
+feed = ascii "\n"
+
+-- ---- the lines
+
+-- "A refused file prints `refused` and its number"
+unfoldable pub refusedLine : ℕ → List ℕ
+unfolding field feed
+refusedLine n = field "refused " n ++ feed
+
+-- "The fields are width, height, free cells;"
+unfoldable pub boardLine : Plot → List ℕ
+unfolding field feed freeCount
+boardLine plot =
+    field "board " (plot .board .width) ++ field " " (plot .board .height) ++ field " free " (freeCount (plot .board)) ++ feed
+
+-- "tiles;"
+unfoldable pub tilesLine : Plot → List ℕ
+unfolding field feed
+tilesLine plot = field "tiles " (length (plot .tiles)) ++ feed
+
+-- "layer count;" "A refused count prints `layers refused 8` or `graph refused 8` in its line's place"
+unfoldable pub layersLine : Answer ℕ → List ℕ
+unfolding field feed
+layersLine (refused n) = field "layers refused " n ++ feed
+layersLine (given n) = field "layers " n ++ feed
+
+-- "graph count, nodes, edges;"
+unfoldable pub graphLine : Graph → List ℕ
+unfolding field feed countFromGraph
+graphLine g =
+    field "graph " (countFromGraph (g .complete) (g .counts)) ++ field " nodes " (length (g .nodes)) ++ field " edges " (length (g .edges)) ++ feed
+
+-- "number and node list"
+unfoldable pub tilingLine : Graph → ℕ → List ℕ
+unfolding field feed ascii listIn flatMap
+tilingLine g m = field "tiling " m ++ ascii ":" ++ flatMap (field " ") (listIn g m) ++ feed
+
+-- "the graph line follows refused layers too, and no tiling lines follow a refused graph"
+unfoldable pub graphLines : Answer Graph → List ℕ
+unfolding field feed graphLine tilingLine listed listOf flatMap
+graphLines (refused n) = field "graph refused " n ++ feed
+graphLines (given g) = graphLine g ++ flatMap (tilingLine g) (listOf (λ m. m) (listed g))
+
+-- ---- the text
+
+unfoldable pub plotLines : Plot → List ℕ
+unfolding boardLine tilesLine layersLine layersOf graphLines graphIn
+plotLines plot = boardLine plot ++ tilesLine plot ++ layersLine (layersOf plot) ++ graphLines (graphIn plot)
+
+-- "A refused file prints […] its only line"
+unfoldable pub linesFor : Answer Plot → List ℕ
+unfolding refusedLine plotLines
+linesFor (refused n) = refusedLine n
+linesFor (given plot) = plotLines plot
+
+-- the text for a file
+unfoldable pub report : List ℕ → List ℕ
+unfolding linesFor plotIn
+report file = linesFor (plotIn file)
+
+-- ---- the answer of the code
+
+-- `write_report`: as much of the text as there is room for stands in front of the lent bytes, and behind it what stood there; the number of its bytes comes back.
+-- The program's bytes hold every text (`report-fits`)
+pub record WritesReport (file out out′ : List ℕ) (r : ℕ) : Type 0 where
+  pub bytes : out′ ≡ take (length out) (report file) ++ drop (length (report file)) out
+  pub length : r ≡ min (length out) (length (report file))

@@ -1,0 +1,125 @@
+-- The theorems about the text that the program `plot` prints: how long it is at most, how many bytes of a file settle it, that its counts are the number of
+-- cuttings, that its two counts agree, and what its tiling lines list. The text is `report` of `Report`; its examples are in `Examples`. Each is said here
+-- in words and proved in `CountLaws`, `FitLaws` or `PlotLaws`. What stands in quotation marks is 01's. Assumes nothing.
+use mathlib.Core.Path.{_≡_, refl, ap, ap₂, _∙_}
+use mathlib.Core.List.{List, [], _∷_, _++_, List·Memᴰ as Mem}
+use mathlib.Core.Option.{some}
+use Prim.Native.Nat.{ℕ, _≤_, _<_, min}
+use native.Mathlib.Omega.{arith}
+use lib.ListN.{length, take, drop}
+use lib.Seq.{take-all, take-append-seam}
+use Rattle.refusal.specs.Refusal.{Answer, refused, given}
+use Rattle.covers.specs.Cuttings.{Exactly, Numbering}
+use Rattle.covers.specs.Counts.{Chain}
+use Rattle.graph.specs.Tilings.{countFromGraph}
+use Rattle.tiler.specs.Counting.{Graph}
+use Rattle.tiler.specs.Cuttings.{IsCutting, HasFreeCell, AllEdgeJoined}
+use Rattle.plot_file.specs.PlotFile.{Plot, plotIn}
+use Rattle.plot_file.specs.Theorems.{refusal-listed, accepted-plot, accepted-fixed, four-thousand-settle}
+use Rattle.report.specs.Report.{layersOf, graphIn, listed, listIn, linesFor, report, WritesReport}
+use Rattle.report.specs.BuiltLaws.{cuttingIn}
+use Rattle.report.specs.CountLaws as Count
+use Rattle.report.specs.PlotLaws as P
+use Rattle.report.specs.PlotLaws.{AcceptedPlot}
+use Rattle.report.specs.FitLaws.{refused-length, plot-length}
+
+-- ---- 1. Refusals
+
+-- A layer count is refused by 7, 8 or 9,
+pub layers-refused : (plot : Plot) (n : ℕ) → layersOf plot ≡ refused n → (7 ≤ n) × (n ≤ 9)
+layers-refused = Count.layers-refusals
+
+-- and a graph by 7, 8, 9 or 10.
+pub graph-refused : (plot : Plot) (n : ℕ) → graphIn plot ≡ refused n → (7 ≤ n) × (n ≤ 10)
+graph-refused = Count.graph-refusals
+
+-- a number below the count, of which a tiling line is printed
+below-count : (g : Graph) (m : ℕ) → m < listed g → m < countFromGraph (g .complete) (g .counts)
+unfolding listed
+below-count g m h = omega arith
+
+chain-some : (R : ℕ → ℕ → Type 0) (a b : ℕ) (xs : List ℕ) → Chain R a b xs → 1 ≤ length xs
+chain-some R a b [] c = absurd c
+chain-some R a b (x ∷ xs) c = omega arith
+
+-- bytes that have room for a text hold all of it
+whole : (text out out′ : List ℕ) (r : ℕ) → length text ≤ 20843 → 20843 ≤ length out → r ≡ min (length out) (length text)
+    → out′ ≡ take (length out) text ++ drop (length text) out → (r ≡ length text) × (take r out′ ≡ text)
+whole text out out′ r fits room told is =
+    let all : r ≡ length text = omega arith in (
+      all,
+      ap₂ (λ (n : ℕ) (bytes : List ℕ). take n bytes) all
+          (is ∙ ap (λ (l : List ℕ). l ++ drop (length text) out) (take-all (length out) text (omega arith)))
+          ∙ take-append-seam text (drop (length text) out),
+    )
+
+accepted : (file : List ℕ) (plot : Plot) → plotIn file ≡ given plot → AcceptedPlot plot
+accepted file plot is =
+    let r = accepted-plot file plot is in record { board = r .0; laid = r .1; fixed = accepted-fixed file plot is; few = r .2; storable = r .3 }
+
+-- ---- 2. The text
+
+-- No text is longer than 20,843 bytes: the board's line has at most 21, the tiles' 9, the layers' 28, the graph's 49, and each of 16 tiling lines 1,296
+-- ("tiling ", two digits, ":", 257 times a blank and four digits, and the line feed).
+pub report-fits : (file : List ℕ) → length (report file) ≤ 20843
+unfolding report linesFor
+report-fits file = go (plotIn file) refl
+  where
+    go : (a : Answer Plot) → plotIn file ≡ a → length (linesFor a) ≤ 20843
+    go (refused n) is = let few = refusal-listed file n is .1 in omega (arith, refused-length n (omega arith))
+    go (given plot) is = plot-length plot (accepted file plot is)
+
+-- So a call with as many bytes leaves the whole text in front of them, and tells its length.
+pub report-whole : (file out out′ : List ℕ) (r : ℕ) → WritesReport file out out′ r → 20843 ≤ length out → (r ≡ length (report file)) × (take r out′ ≡ report file)
+report-whole file out out′ r w room = whole (report file) out out′ r (report-fits file) room (w .length) (w .bytes)
+
+-- "4,096 bytes are enough to settle any file": the text is that of the first 4,096 bytes.
+pub report-settled : (file : List ℕ) → report (take 4096 file) ≡ report file
+unfolding report
+report-settled file = ap linesFor (four-thousand-settle file)
+
+module _ (file : List ℕ) (plot : Plot) (is : plotIn file ≡ given plot) where
+  ok : AcceptedPlot plot
+  ok = accepted file plot is
+
+  -- ---- 3. The counts. Demand 3's conditions: the board has a free cell, and every cell of a tile of two or more cells shares an edge with another of
+  -- that tile
+
+  -- The number in the line `layers N` is the number of cuttings,
+  pub layers-are-cuttings : (n : ℕ) → layersOf plot ≡ given n → HasFreeCell (plot .board) → AllEdgeJoined (plot .tiles)
+      → Exactly n (IsCutting (plot .board) (plot .tiles))
+  layers-are-cuttings n e = P.layers-cuttings plot ok n e
+
+  module _ (g : Graph) (made : graphIn plot ≡ given g) where
+    -- and so is the number behind `graph`.
+    pub graph-count-is-cuttings : HasFreeCell (plot .board) → AllEdgeJoined (plot .tiles)
+        → Exactly (countFromGraph (g .complete) (g .counts)) (IsCutting (plot .board) (plot .tiles))
+    graph-count-is-cuttings free joined = (cuttingIn g, P.lists-cuttings plot ok g made free joined)
+
+    -- Both numbers agree where neither count is refused, whatever the board and the tiles.
+    pub counts-agree : (n : ℕ) → layersOf plot ≡ given n → countFromGraph (g .complete) (g .counts) ≡ n
+    counts-agree n e = P.counts-same plot ok g made n e
+
+    -- ---- 4. The tiling lines
+
+    -- The numbers below the graph's count number the cuttings: the pieces that the steps of the list of a number mark (`cuttingIn`) are a cutting, two numbers
+    -- never give the same, and every cutting has its number. So the tiling lines are different cuttings, and all of them where there are at most 16.
+    pub tilings-are-cuttings : HasFreeCell (plot .board) → AllEdgeJoined (plot .tiles)
+        → Numbering (IsCutting (plot .board) (plot .tiles)) (countFromGraph (g .complete) (g .counts)) (cuttingIn g)
+    tilings-are-cuttings = P.lists-cuttings plot ok g made
+
+    module _ (m : ℕ) (line : m < listed g) where
+      -- A line's list begins at node 0, goes from each node to the next over an edge, and ends at the full node,
+      pub list-is-chain : (v : ℕ) × (g .complete ≡ some v) × Chain (λ p c. Mem (p, c) (g .edges)) 0 v (listIn g m)
+      list-is-chain = P.nodes-chain plot ok g made m (below-count g m line)
+
+      -- has at least one node and at most 257,
+      pub list-has-node : 1 ≤ length (listIn g m)
+      list-has-node = let c = list-is-chain in chain-some (λ p c. Mem (p, c) (g .edges)) 0 (c .0) (listIn g m) (c .2)
+
+      pub list-has-few-nodes : length (listIn g m) ≤ 257
+      list-has-few-nodes = P.nodes-short plot ok g made m (below-count g m line)
+
+      -- and its nodes are the graph's.
+      pub list-in-graph : (v : ℕ) → Mem v (listIn g m) → v < length (g .nodes)
+      list-in-graph = P.nodes-below plot ok g made m (below-count g m line)
