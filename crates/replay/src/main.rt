@@ -14,6 +14,7 @@ ghost use lib.ListN.{length};
 
 mod commands;
 mod counts;
+mod plots;
 mod text;
 mod tilings;
 mod write;
@@ -136,6 +137,8 @@ fn answer(line: &[u8]) {
         tilings::tilings(line);
     } else if same(command, b"tiling") {
         tilings::tiling(line);
+    } else if same(command, b"plot") {
+        plots::plot(line);
     } else {
         write::bytes(b"unknown command");
     }

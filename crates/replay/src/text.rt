@@ -256,6 +256,28 @@ fn hex_in(text: &[u8]) -> u64 {
     n
 }
 
+// The byte of two hexadecimal digits.
+fn byte_of(high: u8, low: u8) -> u8 {
+    (16 * hex_digit(high) + hex_digit(low)) as u8
+}
+
+// Stores the bytes of a text, two hexadecimal digits each, and gives how many there are; a digit with
+// none behind it is not read, so that `-` has no bytes. What there is no room for is not read.
+pub fn bytes_in(text: &[u8], bytes: &mut [u8]) -> usize
+    ensures { λ r. ⌜ r ≤ length (now (bytes .entry)) ⌝ }
+{
+    let count = text.len() / 2;
+    let mut i = 0;
+    while i < count {
+        if bytes.len() <= i {
+            return i;
+        }
+        bytes[i] = byte_of(text[2 * i], text[2 * i + 1]);
+        i += 1;
+    }
+    i
+}
+
 // The difference, 0 where there is none.
 fn less(n: usize, by: usize) -> usize
     ensures { λ r. ⌜ r ≤ n ⌝ }
