@@ -232,7 +232,8 @@ hasCell-setOf test cell h = ap (λ (n : ℕ). eqb n 1) (bit-fromBits (λ c. cond
     back true = refl
     back false = refl
 
-setOf-lt : (test : ℕ → Bool) → setOf test < 2 ^ 256
+-- a set of tested cells is one of 256 cells
+pub setOf-lt : (test : ℕ → Bool) → setOf test < 2 ^ 256
 unfolding setOf
 setOf-lt test = fromBits-lt (λ c. cond (test c) 1 0) (λ c. digit (test c)) 256
 

@@ -7,8 +7,8 @@ use libc::STDIN_FILENO;
 use libc::STDOUT_FILENO;
 
 fn main() {
-    let mut file = io::buffer();
-    let mut text = io::large_buffer();
+    let mut file = [0u8; 4096];
+    let mut text = [0u8; 65536];
     let read = io::read_full(STDIN_FILENO, &mut file);
     let length = report::write_report(&file[..read], &mut text);
     io::write_all(STDOUT_FILENO, &text[..length]);

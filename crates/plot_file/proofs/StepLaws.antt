@@ -14,7 +14,7 @@ use Rattle.refusal.specs.declared.Refusal.the-variants as R
 use Rattle.refusal.specs.declared.Verdict.{Verdict}
 use Rattle.refusal.specs.declared.Verdict.the-variants as Verdicts
 use Rattle.refusal.specs.Refusal.{Answer, refused, given, mapAnswer, refusalNumber, refusalOf, valueOr, verdictNumber}
-use Rattle.refusal.specs.RefusalLaws.{refusalNumber-pos}
+use Rattle.refusal.specs.RefusalLaws.{refusalNumber-pos, map-map}
 use Rattle.tile.specs.Path.{Path, codesOk}
 use Rattle.tile.specs.Stored.{pathIn, readPath, tileOf, pathsIn, tilesOf, MakesTile}
 use Rattle.tile.specs.StoredLaws.{pathIn-tileOf, clean-tileOf, readPath-is, readPath-refused}
@@ -47,11 +47,6 @@ told (refused n) Verdicts.Accepted d x pos e q = absurd (omega (arith, pos n ref
 told (refused n) (Verdicts.Refused r) d x pos e q = ap refused e
 told (given y) Verdicts.Accepted d x pos e q = ap given q
 told (given y) (Verdicts.Refused r) d x pos e q = absurd (omega (arith, refusalNumber-pos r))
-
-map-map : {A B C : Type 0} (f : A → B) (g : B → C) (a : Answer A) → mapAnswer g (mapAnswer f a) ≡ mapAnswer (λ x. g (f x)) a
-unfolding mapAnswer
-map-map f g (refused n) = refl
-map-map f g (given x) = refl
 
 map-answerOf : {A B : Type 0} (f : A → B) (v : Verdict) (x : A) → mapAnswer f (answerOf v x) ≡ answerOf v (f x)
 unfolding mapAnswer
@@ -228,8 +223,8 @@ reads-board file at mark made s is h m t =
     let board : Answer Board = boardFor mark (getD file at 0) (getD file (at + 1) 0) in
     reads-to file at (mapAnswer startAt (boardBody mark (drop at file))) s (mapAnswer boardOnly (answerOf (made .verdict) (boardOf (made .board)))) (at + 2) t (omega arith) h
     (ap (mapAnswer startAt) (boardBody-at mark file at is h)
-    ∙ map-map (λ (x : Board). (x, drop (at + 2) file)) startAt board
-    ∙ sym (map-map boardOnly (λ p. more p (drop (at + 2) file)) board)
+    ∙ map-map startAt (λ (x : Board). (x, drop (at + 2) file)) board
+    ∙ sym (map-map (λ p. more p (drop (at + 2) file)) boardOnly board)
     ∙ ap (λ (x : Answer Board). mapAnswer (λ p. more p (drop (at + 2) file)) (mapAnswer boardOnly x)) (sym (board-told mark (getD file at 0) (getD file (at + 1) 0) made m)))
 
 -- the step behind some tiles more, and their record

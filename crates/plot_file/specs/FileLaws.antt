@@ -10,20 +10,19 @@ use borrow.Author.Tests.{leb-true, le-leb}
 use lib.Dec.{leb}
 use lib.ListN.{length, take, drop, length-append}
 use lib.Seq.{take-append-seam, drop-append-seam, take-at, drop-at}
-use Rattle.cells.specs.BitLaws.{fromBits-lt}
 use Rattle.cells.specs.MemberLaws.{mem-flatMap}
 use Rattle.refusal.specs.Refusal.{Answer, refused, given, mapAnswer, bindAnswer}
-use Rattle.refusal.specs.RefusalLaws.{refused-given, given-inj}
+use Rattle.refusal.specs.RefusalLaws.{refused-given, given-inj, map-given, bind-given}
 use Rattle.tile.specs.Path.{Path, codesOk}
 use Rattle.tile.specs.OrbitLaws.{orbit-length-path, orbit-codesOk}
 use Rattle.tile.specs.Stored.{Storable}
 use Rattle.board.specs.Board.{Board, sizeOk, setOf, shapeMark, shaped, valid, newBoard, lBoard, tBoard}
-use Rattle.board.specs.BoardLaws.{digit, shaped-valid}
+use Rattle.board.specs.BoardLaws.{shaped-valid, setOf-lt}
 use Rattle.plot_file.specs.declared.Mark.{Mark}
 use Rattle.plot_file.specs.declared.Mark.the-variants.{RB, LB, TB, TI, OR, EN}
 use Rattle.plot_file.specs.PlotFile.{Plot, letters, readMark, readPair, Step, more, ended, boardBody, firstRecord, addTiles, laterRecord, onward, records, plotIn}
 use Rattle.plot_file.specs.Records.{BoardRecord, rb, lb, tb, TileRecord, ti, or, boardBytes, tileBytes, fileOf, boardHeld, directions, tilesHeld, Holds}
-use Rattle.plot_file.specs.RecordLaws.{map-given, bind-given, readMark-is, readMark-letters, length-letters, Left, laterRecord-left, laterRecord-tile, laterRecord-end, records-step}
+use Rattle.plot_file.specs.RecordLaws.{readMark-is, readMark-letters, length-letters, Left, laterRecord-left, laterRecord-tile, laterRecord-end, records-step}
 
 -- ---- the first record
 
@@ -81,10 +80,10 @@ firstRecord-board (tb a b) board rest e = firstRecord-mark TB (a ∷ b ∷ rest)
 
 -- ---- the records behind it
 
-pub addTiles-given : (plot : Plot) (paths : List Path) (next : Plot) → addTiles plot paths ≡ given next
+pub addTiles-is : (plot : Plot) (paths : List Path) (next : Plot) → addTiles plot paths ≡ given next
     → (length (plot .tiles ++ paths) ≤ 64) × (plotOf (plot .board) (plot .tiles ++ paths) ≡ next)
 unfolding addTiles
-addTiles-given plot paths next e = go (leb (length (plot .tiles ++ paths)) 64) refl e
+addTiles-is plot paths next e = go (leb (length (plot .tiles ++ paths)) 64) refl e
   where
     go : (t : Bool) → leb (length (plot .tiles ++ paths)) 64 ≡ t → cond t (given (plotOf (plot .board) (plot .tiles ++ paths))) (refused 6) ≡ given next
         → (length (plot .tiles ++ paths) ≤ 64) × (plotOf (plot .board) (plot .tiles ++ paths) ≡ next)
@@ -146,7 +145,7 @@ records-run (suc n) plot bytes last e =
   where
     go : (next : Plot) (rest : List ℕ) → Left plot bytes (more next rest) → Run next rest last → Run plot bytes last
     go next rest l r =
-        let a = addTiles-given plot (tilesHeld (l .tile)) next (l .adds) in
+        let a = addTiles-is plot (tilesHeld (l .tile)) next (l .adds) in
         subst (λ (b : List ℕ). Run plot b last) (sym (l .front))
         (run-more plot (l .tile) rest last (l .short, l .codes) (a .0) (subst (λ (p : Plot). Run p rest last) (sym (a .1)) r))
 
@@ -292,10 +291,6 @@ file-once b c ts us e =
 
 abbrev Made : Board → Type 0
 Made b = (valid b ≡ true) × (b .laid ≡ 0) × (b .fixed < 2 ^ 256)
-
-setOf-lt : (test : ℕ → Bool) → setOf test < 2 ^ 256
-unfolding setOf
-setOf-lt test = fromBits-lt (λ c. cond (test c) 1 0) (λ c. digit (test c)) 256
 
 shaped-made : (w h rows low high : ℕ) (b : Board) → shaped w h rows low high ≡ given b → Made b
 unfolding shaped

@@ -31,9 +31,6 @@ answerOf (Verdicts.Refused r) made = refused (refusalNumber r)
 
 -- ---- marks
 
-abbrev pub allMarks : List Mark
-allMarks = RB ∷ LB ∷ TB ∷ TI ∷ OR ∷ EN ∷ []
-
 abbrev pub markAnswer : Marked → Answer Mark
 markAnswer (M.Is mark) = given mark
 markAnswer (M.Refused r) = refused (refusalNumber r)

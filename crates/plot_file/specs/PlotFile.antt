@@ -35,6 +35,9 @@ letters TI = ascii "TI"
 letters OR = ascii "OR"
 letters EN = ascii "EN"
 
+abbrev pub allMarks : List Mark
+allMarks = RB ∷ LB ∷ TB ∷ TI ∷ OR ∷ EN ∷ []
+
 -- whether two bytes are a mark's
 unfoldable pub spells : Mark → ℕ → ℕ → Bool
 unfolding letters
@@ -51,7 +54,7 @@ unfoldable pub readMark : List ℕ → Answer (Mark × List ℕ)
 unfolding markAmong mapAnswer
 readMark [] = refused 1
 readMark (a ∷ []) = refused 1
-readMark (a ∷ b ∷ rest) = mapAnswer (λ mark. (mark, rest)) (markAmong (RB ∷ LB ∷ TB ∷ TI ∷ OR ∷ EN ∷ []) a b)
+readMark (a ∷ b ∷ rest) = mapAnswer (λ mark. (mark, rest)) (markAmong allMarks a b)
 
 -- ---- bodies, each with the bytes behind it
 
@@ -74,7 +77,7 @@ readBody (k ∷ rest) =
 
 -- ---- records
 
--- what a record leaves: the plot with what it adds and the bytes behind it, or the plot as the file has it
+-- what a record leaves: the plot with what it adds and the bytes behind it, or, at EN, the whole plot
 pub data Step : Type 0 where
   more : Plot → List ℕ → Step
   ended : Plot → Step

@@ -15,8 +15,8 @@ use Rattle.tile.specs.Stored.{readPath}
 use Rattle.board.specs.Board.{Board}
 use Rattle.plot_file.specs.declared.Mark.{Mark}
 use Rattle.plot_file.specs.declared.Mark.the-variants.{RB, LB, TB, TI, OR, EN}
-use Rattle.plot_file.specs.PlotFile.{Plot, letters, spells, markAmong, readMark, readPair, readBody, more, ended, boardBody, firstRecord, addTiles, tileBody, endBody, laterBody, laterRecord, onward, records, plotIn}
-use Rattle.plot_file.specs.Inner.{allMarks, isBoard, boardFor, tilesFor, startAt}
+use Rattle.plot_file.specs.PlotFile.{allMarks, Plot, letters, spells, markAmong, readMark, readPair, readBody, more, ended, boardBody, firstRecord, addTiles, tileBody, endBody, laterBody, laterRecord, onward, records, plotIn}
+use Rattle.plot_file.specs.Inner.{isBoard, boardFor, tilesFor, startAt}
 use Rattle.plot_file.specs.RecordLaws.{readMark-is, length-letters, records-step}
 
 -- ---- a mark among others

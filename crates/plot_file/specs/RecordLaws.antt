@@ -1,4 +1,4 @@
--- Laws of the records of a plot file: what `mapAnswer` and `bindAnswer` answer; a mark and a body are read exactly where they stand; what a later record is;
+-- Laws of the records of a plot file: a mark and a body are read exactly where they stand; what a later record is;
 -- a record that was read left fewer bytes, so that `records` has enough turns; every refusal is one of 1 to 6. Rests on `PlotFile`, `Records` and
 -- the laws of answers, paths and boards. Assumes nothing.
 use mathlib.Core.Path.{_≡_, refl, sym, ap, ap₂, _∙_, subst}
@@ -11,30 +11,15 @@ use lib.Dec.{eqb, leb}
 use lib.ListN.{length, getD, take, drop, take-append-drop, length-append}
 use lib.Seq.{length-take-le, take-append-seam, drop-append-seam}
 use Rattle.refusal.specs.Refusal.{Answer, refused, given, mapAnswer, bindAnswer}
-use Rattle.refusal.specs.RefusalLaws.{refused-given, refused-inj, given-inj}
+use Rattle.refusal.specs.RefusalLaws.{refused-given, refused-inj, given-inj, map-given, bind-given}
 use Rattle.tile.specs.Path.{Path, codesOk, orbit}
 use Rattle.tile.specs.Stored.{readPath}
 use Rattle.tile.specs.StoredLaws.{readPath-is, readPath-given}
 use Rattle.board.specs.Board.{Board, sizeOk, shaped, newBoard, lBoard, tBoard}
 use Rattle.plot_file.specs.declared.Mark.{Mark}
 use Rattle.plot_file.specs.declared.Mark.the-variants.{RB, LB, TB, TI, OR, EN}
-use Rattle.plot_file.specs.PlotFile.{Plot, letters, spells, markAmong, readMark, readPair, readBody, Step, more, ended, boardBody, firstRecord, addTiles, tileBody, endBody, laterBody, laterRecord, onward, records, plotIn}
+use Rattle.plot_file.specs.PlotFile.{allMarks, Plot, letters, spells, markAmong, readMark, readPair, readBody, Step, more, ended, boardBody, firstRecord, addTiles, tileBody, endBody, laterBody, laterRecord, onward, records, plotIn}
 use Rattle.plot_file.specs.Records.{TileRecord, ti, or, tileBytes, directions, tilesHeld}
-
--- ---- answers
-
-module _ {A B : Type 0} where
-  -- a value that was put through f
-  pub map-given : (f : A → B) (a : Answer A) (y : B) → mapAnswer f a ≡ given y → (x : A) × (a ≡ given x) × (f x ≡ y)
-  unfolding mapAnswer
-  map-given f (refused n) y e = absurd (refused-given n y e)
-  map-given f (given x) y e = (x, refl, given-inj (f x) y e)
-
-  -- a value that f answered
-  pub bind-given : (a : Answer A) (f : A → Answer B) (y : B) → bindAnswer a f ≡ given y → (x : A) × (a ≡ given x) × (f x ≡ given y)
-  unfolding bindAnswer
-  bind-given (refused n) f y e = absurd (refused-given n y e)
-  bind-given (given x) f y e = (x, refl, e)
 
 -- ---- marks
 
@@ -70,8 +55,8 @@ unfolding readMark
 readMark-is [] mark rest e = absurd (refused-given 1 (mark, rest) e)
 readMark-is (a ∷ []) mark rest e = absurd (refused-given 1 (mark, rest) e)
 readMark-is (a ∷ b ∷ bytes) mark rest e =
-    let r = map-given (λ m. (m, bytes)) (markAmong (RB ∷ LB ∷ TB ∷ TI ∷ OR ∷ EN ∷ []) a b) (mark, rest) e in
-    ap (λ (l : List ℕ). l ++ bytes) (markAmong-letters (RB ∷ LB ∷ TB ∷ TI ∷ OR ∷ EN ∷ []) a b (r .0) (r .1))
+    let r = map-given (λ m. (m, bytes)) (markAmong allMarks a b) (mark, rest) e in
+    ap (λ (l : List ℕ). l ++ bytes) (markAmong-letters allMarks a b (r .0) (r .1))
     ∙ ap (λ (m : Mark × List ℕ). letters (m .0) ++ m .1) (r .2)
 
 -- a mark in front is read
@@ -278,7 +263,7 @@ unfolding readMark
 readMark-listed [] = one
 readMark-listed (a ∷ []) = one
 readMark-listed (a ∷ b ∷ rest) =
-    listed-map (λ mark. (mark, rest)) (markAmong (RB ∷ LB ∷ TB ∷ TI ∷ OR ∷ EN ∷ []) a b) (markAmong-listed (RB ∷ LB ∷ TB ∷ TI ∷ OR ∷ EN ∷ []) a b)
+    listed-map (λ mark. (mark, rest)) (markAmong allMarks a b) (markAmong-listed allMarks a b)
 
 readPair-listed : (make : ℕ → ℕ → Answer Board) (bytes : List ℕ) → ((a b : ℕ) → Listed (make a b)) → Listed (readPair make bytes)
 unfolding readPair

@@ -11,28 +11,23 @@ use lib.Dec.{leb}
 use lib.ListN.{length, take, drop, length-append, length-take}
 use lib.Seq.{take-take, take-nil, length-take-le, take-append-add}
 use Rattle.refusal.specs.Refusal.{Answer, refused, given, mapAnswer, bindAnswer}
-use Rattle.refusal.specs.RefusalLaws.{refused-inj}
+use Rattle.refusal.specs.RefusalLaws.{refused-inj, map-map}
 use Rattle.tile.specs.Path.{Path, orbit}
 use Rattle.tile.specs.Stored.{readPath}
 use Rattle.tile.specs.StoredLaws.{readPath-is}
 use Rattle.board.specs.Board.{Board, newBoard, lBoard, tBoard}
 use Rattle.plot_file.specs.declared.Mark.{Mark}
 use Rattle.plot_file.specs.declared.Mark.the-variants.{RB, LB, TB, TI, OR, EN}
-use Rattle.plot_file.specs.PlotFile.{Plot, letters, markAmong, readMark, readPair, readBody, Step, more, ended, boardBody, firstRecord, addTiles, tileBody, endBody, laterBody, laterRecord, onward, records, plotIn}
+use Rattle.plot_file.specs.PlotFile.{allMarks, Plot, letters, markAmong, readMark, readPair, readBody, Step, more, ended, boardBody, firstRecord, addTiles, tileBody, endBody, laterBody, laterRecord, onward, records, plotIn}
 use Rattle.plot_file.specs.Records.{rb, TileRecord, ti, boardBytes, tileBytes, boardHeld, tilesHeld}
 use Rattle.plot_file.specs.RecordLaws.{readBody-is, readBody-path, laterRecord-left, laterRecord-mark, records-same, records-step}
-use Rattle.plot_file.specs.FileLaws.{plotOf, Fine, addTiles-given, firstRecord-given, plotIn-records}
+use Rattle.plot_file.specs.FileLaws.{plotOf, Fine, addTiles-is, firstRecord-given, plotIn-records}
 use Rattle.plot_file.specs.LengthLaws.{tilesHeld-some, length-boardBytes, longPath, copies, copies-bytes, copies-held, copies-all, longPath-fine}
 
 abbrev pub settledBy : ℕ
 settledBy = 2279
 
 -- ---- answers
-
-map-map : {A B C : Type 0} (g : B → C) (f : A → B) (a : Answer A) → mapAnswer g (mapAnswer f a) ≡ mapAnswer (λ x. g (f x)) a
-unfolding mapAnswer
-map-map g f (refused n) = refl
-map-map g f (given x) = refl
 
 bind-map : {A B C : Type 0} (g : B → Answer C) (f : A → B) (a : Answer A) → bindAnswer (mapAnswer f a) g ≡ bindAnswer a (λ x. g (f x))
 unfolding mapAnswer bindAnswer
@@ -45,7 +40,7 @@ readMark-cut : (n : ℕ) (bytes : List ℕ) → readMark (take (suc (suc n)) byt
 unfolding readMark mapAnswer
 readMark-cut n [] = refl
 readMark-cut n (a ∷ []) = refl
-readMark-cut n (a ∷ b ∷ rest) = sym (map-map (λ m. (m .0, take n (m .1))) (λ mark. (mark, rest)) (markAmong (RB ∷ LB ∷ TB ∷ TI ∷ OR ∷ EN ∷ []) a b))
+readMark-cut n (a ∷ b ∷ rest) = sym (map-map (λ m. (m .0, take n (m .1))) (λ mark. (mark, rest)) (markAmong allMarks a b))
 
 readPair-cut : (make : ℕ → ℕ → Answer Board) (n : ℕ) (bytes : List ℕ) → readPair make (take (suc (suc n)) bytes) ≡ mapAnswer (λ r. (r .0, take n (r .1))) (readPair make bytes)
 unfolding readPair mapAnswer
@@ -183,7 +178,7 @@ laterRecord-cut m n plot bytes h =
 -- a record of a tile adds one tile or more
 addTiles-more : (plot : Plot) (t : TileRecord) (next : Plot) → addTiles plot (tilesHeld t) ≡ given next → (length (next .tiles) ≤ 64) × (length (plot .tiles) < length (next .tiles))
 addTiles-more plot t next e =
-    let a = addTiles-given plot (tilesHeld t) next e in
+    let a = addTiles-is plot (tilesHeld t) next e in
     let n : length (plot .tiles ++ tilesHeld t) ≡ length (next .tiles) = ap (λ (p : Plot). length (p .tiles)) (a .1) in
     (omega (arith, a .0), omega (arith, length-append (plot .tiles) (tilesHeld t), tilesHeld-some t))
 

@@ -62,7 +62,8 @@ accepted-fixed = File.accepted-fixed
 
 -- ---- the answer of the code
 
--- What is read is accepted by the other calls: from the board and the tiles handed back they read the plot's.
+-- No call refuses what is read by 4, 6 or 5: from the board and the tiles handed back they read the plot's. (Tiles with different numbers of cells are read,
+-- and the counts refuse them by 7.)
 pub read-accepted : (file : List ℕ) (r : MadePlot) (plot : Plot) → ReadsPlot (plotIn file) r → plotIn file ≡ given plot
     → (readBoard (r .board) ≡ given (plot .board)) × (readTiles (r .tiles) ≡ given (plot .tiles))
 unfolding valueOr

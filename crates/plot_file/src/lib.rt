@@ -38,8 +38,8 @@ pub struct MadePlot {
 
 // The board and the tiles of a plot file, or its refusal: record by record, 1, the mark is cut or
 // missing; 2, an unknown mark; 3, the first record is no board, or a later one is; 1, a length or
-// body byte is missing; 4, the board's size; 5, a path over 32 or a code over 7; 6, the tiles would
-// pass 64; 3, a byte after EN.
+// body byte is missing (but a length over 32 is 5 before its bytes are looked for); 4, the board's
+// size; 5, a code over 7; 6, the tiles would pass 64; 3, a byte after EN.
 pub fn read_plot(file: &[u8]) -> MadePlot
     ensures { λ r. ⌜ ReadsPlot (plotIn (now (file .entry))) r ⌝ }
 {

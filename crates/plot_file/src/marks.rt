@@ -7,8 +7,8 @@ ghost use mathlib.Core.Bool.{_&&_};
 ghost use Prim.Native.Nat.{_≤_};
 ghost use lib.Dec.{eqb};
 ghost use lib.ListN.{length, drop};
-ghost use Rattle.plot_file.specs.PlotFile.{markAmong, readMark};
-ghost use Rattle.plot_file.specs.Inner.{allMarks, markAnswer, markedAnswer};
+ghost use Rattle.plot_file.specs.PlotFile.{allMarks, markAmong, readMark};
+ghost use Rattle.plot_file.specs.Inner.{markAnswer, markedAnswer};
 
 // A mark, whose record goes on two bytes behind its own place, or a refusal.
 pub enum Marked {

@@ -1,8 +1,8 @@
 // One record: what it leaves of the file and of the plot. Private helpers; they ask that a place is
 // in the file or at its end, and that the tiles so far are stored with zeros behind them.
 //
-// A record that may stand between the board's and the tiles' is one more mark and one more arm of
-// `later_body`: the plot so far, board and tiles, goes through every record.
+// The plot so far, board and tiles, goes through every record behind the first, so that a further kind
+// of record, whether it changes the board or the tiles, is a further arm of `later_body`.
 use crate::Mark;
 use crate::bodies;
 use crate::marks;

@@ -1,11 +1,12 @@
--- Laws of refusals and answers: every refusal has a number above 0, and an answer with a refusal's number is that refusal. Assumes nothing.
-use mathlib.Core.Path.{_≡_, sym, ap}
+-- Laws of refusals and answers: every refusal has a number above 0; an answer with a refusal's number is that refusal; what `mapAnswer` and `bindAnswer` answer.
+-- Assumes nothing.
+use mathlib.Core.Path.{_≡_, refl, sym, ap}
 use Prim.Native.Nat.{ℕ, suc, _<_}
 use native.Mathlib.Omega.{arith}
 use lib.Dec.{lit<}
 use Rattle.refusal.specs.declared.Refusal.{Refusal}
 use Rattle.refusal.specs.declared.Refusal.the-variants as R
-use Rattle.refusal.specs.Refusal.{Answer, refused, given, bindAnswer, refusalNumber, refusalOf, valueOr}
+use Rattle.refusal.specs.Refusal.{Answer, refused, given, mapAnswer, bindAnswer, refusalNumber, refusalOf, valueOr}
 
 pub refusalNumber-pos : (r : Refusal) → 0 < refusalNumber r
 refusalNumber-pos R.Cut = lit< tt
@@ -45,3 +46,24 @@ given-inj x y e = ap (valueOr x) e
 pub refused-inj : {A : Type 0} (n m : ℕ) → _≡_ {A = Answer A} (refused n) (refused m) → n ≡ m
 unfolding refusalOf
 refused-inj n m e = ap refusalOf e
+
+-- ---- values that were put through functions
+
+module _ {A B : Type 0} where
+  -- a value that was put through f
+  pub map-given : (f : A → B) (a : Answer A) (y : B) → mapAnswer f a ≡ given y → (x : A) × (a ≡ given x) × (f x ≡ y)
+  unfolding mapAnswer
+  map-given f (refused n) y e = absurd (refused-given n y e)
+  map-given f (given x) y e = (x, refl, given-inj (f x) y e)
+
+  -- a value that f answered
+  pub bind-given : (a : Answer A) (f : A → Answer B) (y : B) → bindAnswer a f ≡ given y → (x : A) × (a ≡ given x) × (f x ≡ given y)
+  unfolding bindAnswer
+  bind-given (refused n) f y e = absurd (refused-given n y e)
+  bind-given (given x) f y e = (x, refl, e)
+
+-- one function after another
+pub map-map : {A B C : Type 0} (g : B → C) (f : A → B) (a : Answer A) → mapAnswer g (mapAnswer f a) ≡ mapAnswer (λ x. g (f x)) a
+unfolding mapAnswer
+map-map g f (refused n) = refl
+map-map g f (given x) = refl

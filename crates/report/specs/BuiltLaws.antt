@@ -36,13 +36,8 @@ use Rattle.tiler.specs.AcceptedLaws.{accepted-free}
 use Rattle.tiler.specs.GivenLaws.{plot-accepted, graph-is, graph-laws, graph-steps, graph-start, nodes-are, graph-sums, graph-room, graph-count, graph-stored, words-count}
 use Rattle.tiler.specs.NumberLaws.{cuttings-numbered}
 use Rattle.tiler.specs.Theorems.{path-counts-fit, full-node-is-full, words-are-the-graph, own-graph-is-sound}
-use Rattle.report.specs.Report.{listIn}
+use Rattle.report.specs.Report.{nodeListOf, cuttingOf}
 use Rattle.report.specs.Inner.{Built}
-
--- the pieces that the steps of a node list mark, as 01 reads a cutting from it: the nodes are the graph's boards
-unfoldable pub cuttingIn : Graph → ℕ → ℕ → Bool
-unfolding holds stepPiece listIn
-cuttingIn g m = holds eqb (piecesOf stepPiece (map (λ v. getD (g .nodes) v 0) (listIn g m)))
 
 -- an element of a list, whatever stands behind the list
 any-default : {A : Type 0} (xs : List A) (i : ℕ) (a b : A) → i < length xs → getD xs i a ≡ getD xs i b
@@ -91,12 +86,12 @@ module _ (b : RectangularBoard) (fixed : Sound (b .fixed)) (laid : Sound (b .lai
           go none q l = absurd (omega arith)
           go (some v) q l = (v, q, full-node-is-full b fixed laid ts nodeWords countWords edgeWords g made v q .1, l)
 
-      list-to : (v : ℕ) → g .complete ≡ some v → tiling (g .edges) (countIn (g .counts)) v m ≡ listIn g m
-      unfolding listIn atNode
+      list-to : (v : ℕ) → g .complete ≡ some v → tiling (g .edges) (countIn (g .counts)) v m ≡ nodeListOf g m
+      unfolding nodeListOf atNode
       list-to v q = ap (λ (o : Option ℕ). tiling (g .edges) (countIn (g .counts)) (atNode (λ u. u) o) m) (sym q)
 
       -- the list is a chain of edges from node 0 to the full node,
-      pub list-chain : (v : ℕ) × (g .complete ≡ some v) × Chain (λ p c. Mem (p, c) (g .edges)) 0 v (listIn g m)
+      pub list-chain : (v : ℕ) × (g .complete ≡ some v) × Chain (λ p c. Mem (p, c) (g .edges)) 0 v (nodeListOf g m)
       list-chain =
           let f = full-node in (
             f .0,
@@ -106,16 +101,16 @@ module _ (b : RectangularBoard) (fixed : Sound (b .fixed)) (laid : Sound (b .lai
           )
 
       -- each of its nodes is one of the graph,
-      pub list-below : (v : ℕ) → Mem v (listIn g m) → v < length (g .nodes)
+      pub list-below : (v : ℕ) → Mem v (nodeListOf g m) → v < length (g .nodes)
       list-below v i =
           let f = full-node in
           tiling-below (length (g .nodes)) (g .edges) (countIn (g .counts)) (graph-sums b fixed laid ts nodeWords countWords edgeWords g made) (f .0) m (f .2) (f .3) v
           (subst (Mem v) (sym (list-to (f .0) (f .1))) i)
 
       -- and there is at most one more than there are free cells
-      list-is : listIn g m ≡ tiling (graphEdges S start) (pathCountOf S start) (atNode (λ v. v) (fullNode (S .full) (nodesOf S start))) m
-      unfolding listIn graphOf
-      list-is = ap (λ (k : Graph). listIn k m) (sym (graph-is b fixed laid ts nodeWords countWords edgeWords g made))
+      list-is : nodeListOf g m ≡ tiling (graphEdges S start) (pathCountOf S start) (atNode (λ v. v) (fullNode (S .full) (nodesOf S start))) m
+      unfolding nodeListOf graphOf
+      list-is = ap (λ (k : Graph). nodeListOf k m) (sym (graph-is b fixed laid ts nodeWords countWords edgeWords g made))
 
       counted : m < graphCount S start
       counted = subst (λ (n : ℕ). m < n) (graph-count b fixed laid ts nodeWords countWords edgeWords g made) below
@@ -133,7 +128,7 @@ module _ (b : RectangularBoard) (fixed : Sound (b .fixed)) (laid : Sound (b .lai
                 full-counts-none S (graph-laws b fixed laid ts nodeWords countWords edgeWords g made) start (graph-start b fixed laid ts nodeWords countWords edgeWords g made) q .1,
               ))
 
-      pub list-length : length (listIn g m) ≤ freeCount (boardOf b) + 1
+      pub list-length : length (nodeListOf g m) ≤ freeCount (boardOf b) + 1
       list-length =
           omega (
             arith,
@@ -144,23 +139,23 @@ module _ (b : RectangularBoard) (fixed : Sound (b .fixed)) (laid : Sound (b .lai
             accepted-free b ts (plot-accepted b fixed laid ts nodeWords countWords edgeWords g made) (number-lt (b .fixed) fixed) (number-lt (b .laid) laid),
           )
 
-      pub list-short : length (listIn g m) ≤ 257
+      pub list-short : length (nodeListOf g m) ≤ 257
       list-short = omega (arith, list-length, free-le (boardOf b))
 
       -- its boards are those of the definition, and so are the pieces that its steps mark
-      boards-are : map (λ v. getD (g .nodes) v 0) (listIn g m) ≡ tilingOf S start m
+      boards-are : map (λ v. getD (g .nodes) v 0) (nodeListOf g m) ≡ tilingOf S start m
       boards-are =
-          map-ext (λ v. getD (g .nodes) v 0) (λ v. getD (nodesOf S start) v start) (listIn g m)
+          map-ext (λ v. getD (g .nodes) v 0) (λ v. getD (nodesOf S start) v start) (nodeListOf g m)
           (λ v i. any-default (g .nodes) v 0 start (list-below v i) ∙ ap (λ (ns : List ℕ). getD ns v start) (nodes-are b fixed laid ts nodeWords countWords edgeWords g made))
           ∙ ap (map (λ v. getD (nodesOf S start) v start)) list-is
 
-      cutting-is : cuttingIn g m ≡ cuttingAt S start m
-      unfolding cuttingIn setting
+      cutting-is : cuttingOf g m ≡ cuttingAt S start m
+      unfolding cuttingOf setting
       cutting-is = ap (λ (xs : List ℕ). holds eqb (piecesOf stepPiece xs)) boards-are
 
     -- under demand 3's conditions the numbers below the count number the cuttings
     pub lists-number-cuttings : HasFreeCell (boardOf b) → AllEdgeJoined (pathsIn ts)
-        → Numbering (IsCutting (boardOf b) (pathsIn ts)) (countFromGraph (g .complete) (g .counts)) (cuttingIn g)
+        → Numbering (IsCutting (boardOf b) (pathsIn ts)) (countFromGraph (g .complete) (g .counts)) (cuttingOf g)
     lists-number-cuttings free joined =
         renumber (sym (graph-count b fixed laid ts nodeWords countWords edgeWords g made)) cutting-is
         (cuttings-numbered b fixed laid ts (plot-accepted b fixed laid ts nodeWords countWords edgeWords g made) free joined)
@@ -169,8 +164,8 @@ module _ (b : RectangularBoard) (fixed : Sound (b .fixed)) (laid : Sound (b .lai
 
   module _ (nodes counts edges nodes′ counts′ edges′ : List ℕ) (r : MadeGraph) (made : GeneratesGraph b ts nodes counts edges nodes′ counts′ edges′ r)
       (g : Graph) (e : generateGraph b ts (length nodes) (length counts) (length edges) ≡ given g) where
-    list-read : (m : ℕ) → nodeList (r .graph) counts′ edges′ m ≡ listIn g m
-    unfolding nodeList listIn valueOr
+    list-read : (m : ℕ) → nodeList (r .graph) counts′ edges′ m ≡ nodeListOf g m
+    unfolding nodeList nodeListOf valueOr
     list-read m =
         let w = words-are-the-graph b fixed laid ts nodes counts edges nodes′ counts′ edges′ r made g e in
         ap₂ (λ (ds : List (ℕ × ℕ)) (count : ℕ → ℕ). tiling ds count (atNode (λ v. v) (completeNode (r .graph .complete))) m) (w .2) (fun-ext (w .1))
@@ -189,11 +184,3 @@ module _ (b : RectangularBoard) (fixed : Sound (b .fixed)) (laid : Sound (b .lai
           list = λ m h. list-read m;
           short = λ m h. list-short (length nodes) (length counts) (length edges) g e m h;
         }
-
-  -- the same for words of the lengths that the program lends
-  pub built : (nodes counts edges nodes′ counts′ edges′ : List ℕ) (made : MadeGraph) (g : Graph) → length nodes ≡ 4096 → length counts ≡ 1024 → length edges ≡ 8192
-      → GeneratesGraph b ts nodes counts edges nodes′ counts′ edges′ made → generateGraph b ts 4096 1024 8192 ≡ given g
-      → Built g (made .graph) nodes′ counts′ edges′
-  built nodes counts edges nodes′ counts′ edges′ made g n c d generated e =
-      built-graph nodes counts edges nodes′ counts′ edges′ made generated g
-      (ap₂ (λ (x y : ℕ). generateGraph b ts x y (length edges)) n c ∙ ap (generateGraph b ts 4096 1024) d ∙ e)

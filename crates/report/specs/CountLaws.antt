@@ -13,7 +13,7 @@ use lib.Dec.{leb, lit<}
 use lib.ListN.{length, getD, List·getD-eq-default}
 use Rattle.cells.specs.FirstsLaws.{any-true, mem-getD}
 use Rattle.refusal.specs.Refusal.{Answer, refused, given, mapAnswer, bindAnswer}
-use Rattle.refusal.specs.RefusalLaws.{refused-given, refused-inj}
+use Rattle.refusal.specs.RefusalLaws.{refused-given, refused-inj, map-given, bind-given}
 use Rattle.tile.specs.Path.{equalCounts}
 use Rattle.board.specs.Board.{marks}
 use Rattle.covers.specs.Cuttings.{Setting, childBoards}
@@ -21,7 +21,7 @@ use Rattle.covers.specs.Counts.{Entry, counts, layers, layerOf, layerCount, ent
 use Rattle.tiler.specs.Boards.{setting}
 use Rattle.tiler.specs.Counting.{countLimit, tooLarge, weigh, weighTo, layersAnswer, graphOf, weighGraph}
 use Rattle.plot_file.specs.PlotFile.{Plot}
-use Rattle.report.specs.Report.{withEqualTiles, layersOf, graphIn}
+use Rattle.report.specs.Report.{withEqualTiles, plotLayers, plotGraph}
 
 -- ---- refusals
 
@@ -70,16 +70,16 @@ weighTo-refusals at room zero = weigh-refusals room (at zero)
 weighTo-refusals at room (suc n) = refuses-bind Layers (weighTo at room n) _ (weighTo-refusals at room n) (λ es. weigh-refusals room (at (suc n)))
 
 -- A layer count is refused by 7, 8 or 9,
-pub layers-refusals : (plot : Plot) (n : ℕ) → layersOf plot ≡ refused n → (7 ≤ n) × (n ≤ 9)
-unfolding layersOf withEqualTiles layersAnswer
+pub layers-refusals : (plot : Plot) (n : ℕ) → plotLayers plot ≡ refused n → (7 ≤ n) × (n ≤ 9)
+unfolding plotLayers withEqualTiles layersAnswer
 layers-refusals plot =
     let S = setting (plot .board) (plot .tiles) in
     let s = marks (plot .board) in
     refuses-cond Layers (equalCounts (plot .tiles)) _ _ (refuses-map Layers _ _ (weighTo-refusals (layerOf S s) 512 (S .freeCount s))) (refuses-one Layers 7 (omega arith, omega arith))
 
 -- and a graph by 7, 8, 9 or 10.
-pub graph-refusals : (plot : Plot) (n : ℕ) → graphIn plot ≡ refused n → (7 ≤ n) × (n ≤ 10)
-unfolding graphIn withEqualTiles weighGraph
+pub graph-refusals : (plot : Plot) (n : ℕ) → plotGraph plot ≡ refused n → (7 ≤ n) × (n ≤ 10)
+unfolding plotGraph withEqualTiles weighGraph
 graph-refusals plot =
     let g = graphOf (setting (plot .board) (plot .tiles)) (marks (plot .board)) in
     refuses-cond Graphs (equalCounts (plot .tiles)) _ _
@@ -91,16 +91,6 @@ graph-refusals plot =
     (refuses-one Graphs 7 (omega arith, omega arith))
 
 -- ---- a layer count that is given fits 64 bits
-
-bind-given : {A B : Type 0} (a : Answer A) (f : A → Answer B) (y : B) → bindAnswer a f ≡ given y → (x : A) × (a ≡ given x) × (f x ≡ given y)
-unfolding bindAnswer
-bind-given (refused n) f y e = absurd (refused-given n y e)
-bind-given (given x) f y e = (x, refl, e)
-
-map-given : {A B : Type 0} (f : A → B) (a : Answer A) (y : B) → mapAnswer f a ≡ given y → (x : A) × (a ≡ given x)
-unfolding mapAnswer
-map-given f (refused n) y e = absurd (refused-given n y e)
-map-given f (given x) y e = (x, refl)
 
 weigh-small : (room : ℕ) (es ds : List (Entry ℕ)) → weigh room es ≡ given ds → (e : Entry ℕ) → Mem e es → e .1 < countLimit
 unfolding weigh tooLarge
@@ -140,7 +130,7 @@ unfolding layersAnswer graphCount atNode
 given-small S s room n e = go (fullNode (S .full) (nodesOf S s))
   where
     weighed : (es : List (Entry ℕ)) × (weighTo (layerOf S s) room (S .freeCount s) ≡ given es)
-    weighed = map-given (λ es. layerCount S s) (weighTo (layerOf S s) room (S .freeCount s)) n e
+    weighed = let r = map-given (λ es. layerCount S s) (weighTo (layerOf S s) room (S .freeCount s)) n e in (r .0, r .1)
 
     go : (o : Option ℕ) → atNode (pathCountOf S s) o < countLimit
     go none = lit< tt

@@ -17,7 +17,7 @@ use Rattle.graph.specs.Tilings.{countFromGraph}
 use Rattle.tiler.specs.Counting.{Graph}
 use Rattle.plot_file.specs.Ascii.{ascii}
 use Rattle.plot_file.specs.PlotFile.{Plot}
-use Rattle.report.specs.Report.{layersOf, graphIn, listed, listIn, decimal, field, feed, refusedLine, boardLine, tilesLine, layersLine, graphLine, tilingLine, graphLines, plotLines}
+use Rattle.report.specs.Report.{plotLayers, plotGraph, listed, nodeListOf, decimal, field, feed, refusedLine, boardLine, tilesLine, layersLine, graphLine, tilingLine, graphLines, plotLines}
 use Rattle.report.specs.DecimalLaws.{decimal-length}
 use Rattle.report.specs.BuiltLaws.{free-le}
 use Rattle.report.specs.CountLaws.{layers-refusals, graph-refusals}
@@ -58,11 +58,11 @@ tiles-length plot ok =
     let few = ok .few in
     omega (arith, length-append (field "tiles " (length (plot .tiles))) feed, field-length "tiles " 1 (length (plot .tiles)) (omega arith))
 
-pub layers-length : (plot : Plot) → AcceptedPlot plot → length (layersLine (layersOf plot)) ≤ 28
+pub layers-length : (plot : Plot) → AcceptedPlot plot → length (layersLine (plotLayers plot)) ≤ 28
 unfolding layersLine feed ascii
-layers-length plot ok = go (layersOf plot) refl
+layers-length plot ok = go (plotLayers plot) refl
   where
-    go : (a : Answer ℕ) → layersOf plot ≡ a → length (layersLine a) ≤ 28
+    go : (a : Answer ℕ) → plotLayers plot ≡ a → length (layersLine a) ≤ 28
     go (refused n) e = let few = layers-refusals plot n e .1 in omega (arith, refusal-length "layers refused " n (omega arith))
     go (given n) e =
         let small = layers-small plot ok n e in
@@ -73,7 +73,7 @@ unfolding flatMap
 flatMap-length f k [] h = omega arith
 flatMap-length f k (x ∷ xs) h = omega (arith, length-append (f x) (flatMap f xs), h x (here refl), flatMap-length f k xs (λ y m. h y (there m)))
 
-module _ (plot : Plot) (ok : AcceptedPlot plot) (g : Graph) (e : graphIn plot ≡ given g) where
+module _ (plot : Plot) (ok : AcceptedPlot plot) (g : Graph) (e : plotGraph plot ≡ given g) where
   pub graph-length : length (graphLine g) ≤ 49
   unfolding graphLine feed ascii
   graph-length =
@@ -88,13 +88,13 @@ module _ (plot : Plot) (ok : AcceptedPlot plot) (g : Graph) (e : graphIn plot �
       ))
 
   -- a node of a list has at most four digits
-  list-length : (m : ℕ) → m < countFromGraph (g .complete) (g .counts) → length (flatMap (field " ") (listIn g m)) ≤ 1285
+  list-length : (m : ℕ) → m < countFromGraph (g .complete) (g .counts) → length (flatMap (field " ") (nodeListOf g m)) ≤ 1285
   unfolding ascii
   list-length m below =
       omega (
         arith,
         nodes-short plot ok g e m below,
-        flatMap-length (field " ") 5 (listIn g m)
+        flatMap-length (field " ") 5 (nodeListOf g m)
             (λ v i. field-length " " 3 v (lt-of-lt-of-le (nodes-below plot ok g e m below v i) (le-trans (nodes-few plot ok g e) (lit≤ tt)))),
       )
 
@@ -118,11 +118,11 @@ module _ (plot : Plot) (ok : AcceptedPlot plot) (g : Graph) (e : graphIn plot �
   unfolding graphLines
   lines-length = omega (arith, length-append (graphLine g) (flatMap (tilingLine g) (listOf (λ m. m) (listed g))), graph-length, tilings-length)
 
-pub graphs-length : (plot : Plot) → AcceptedPlot plot → length (graphLines (graphIn plot)) ≤ 20785
+pub graphs-length : (plot : Plot) → AcceptedPlot plot → length (graphLines (plotGraph plot)) ≤ 20785
 unfolding graphLines ascii
-graphs-length plot ok = go (graphIn plot) refl
+graphs-length plot ok = go (plotGraph plot) refl
   where
-    go : (a : Answer Graph) → graphIn plot ≡ a → length (graphLines a) ≤ 20785
+    go : (a : Answer Graph) → plotGraph plot ≡ a → length (graphLines a) ≤ 20785
     go (refused n) e = let few = graph-refusals plot n e .1 in omega (arith, refusal-length "graph refused " n (omega arith))
     go (given g) e = lines-length plot ok g e
 
@@ -134,5 +134,5 @@ four-parts a b c d p q r s = simp length-append (omega arith)
 pub plot-length : (plot : Plot) → AcceptedPlot plot → length (plotLines plot) ≤ 20843
 unfolding plotLines
 plot-length plot ok =
-    four-parts (boardLine plot) (tilesLine plot) (layersLine (layersOf plot)) (graphLines (graphIn plot)) (board-length plot ok) (tiles-length plot ok)
+    four-parts (boardLine plot) (tilesLine plot) (layersLine (plotLayers plot)) (graphLines (plotGraph plot)) (board-length plot ok) (tiles-length plot ok)
     (layers-length plot ok) (graphs-length plot ok)

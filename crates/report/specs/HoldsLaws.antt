@@ -1,6 +1,6 @@
 -- What structs of the code that hold a plot say: its board, its free cells and its tiles, and that both counts of the code are the plot's, also as the
 -- contract of `count_tilings` says it. Rests on tile's `EqualLaws`, board's `Board` and tiler's `Counting`. Assumes nothing.
-use mathlib.Core.Path.{_≡_, refl, sym, ap, ap₂, _∙_, subst}
+use mathlib.Core.Path.{_≡_, refl, sym, ap, ap₂, _∙_}
 use mathlib.Core.Bool.{Bool, true, false, So, cond}
 use mathlib.Core.List.{List}
 use Prim.Native.Nat.{ℕ}
@@ -19,8 +19,8 @@ use Rattle.tiler.specs.declared.Count.{Count}
 use Rattle.tiler.specs.Boards.{setting}
 use Rattle.tiler.specs.Counting.{readPlot, layersAnswer, countTilings, countAnswer, CountsTilings, graphOf, weighGraph, generateGraph}
 use Rattle.plot_file.specs.PlotFile.{Plot}
-use Rattle.report.specs.Report.{withEqualTiles, layersOf, graphIn}
-use Rattle.report.specs.Inner.{Holds}
+use Rattle.report.specs.Report.{withEqualTiles, plotLayers, plotGraph}
+use Rattle.report.specs.Inner.{HoldsPlot}
 
 -- a board that is read is accepted, and is the one that is stored
 pub read-board : (b : RectangularBoard) (board : Board) → readBoard b ≡ given board → (boardOf b ≡ board) × So (valid (boardOf b))
@@ -33,12 +33,9 @@ read-board b board e = go (valid (boardOf b)) refl e
 
 -- ---- what is held
 
-module _ (plot : Plot) (board : RectangularBoard) (tiles : Tiles) (h : Holds plot board tiles) where
+module _ (plot : Plot) (board : RectangularBoard) (tiles : Tiles) (h : HoldsPlot plot board tiles) where
   pub held-board : boardOf board ≡ plot .board
   held-board = read-board board (plot .board) (h .boardIs) .0
-
-  pub held-valid : So (valid (plot .board))
-  held-valid = subst (λ (b : Board). So (valid b)) held-board (read-board board (plot .board) (h .boardIs) .1)
 
   pub held-free : valueOr 0 (mapAnswer freeCount (readBoard board)) ≡ freeCount (plot .board)
   unfolding valueOr mapAnswer
@@ -62,8 +59,8 @@ module _ (plot : Plot) (board : RectangularBoard) (tiles : Tiles) (h : Holds plo
   plot-unequal e = rw (h .boardIs, readEqualTiles-unequal tiles (plot .tiles) (h .tilesAre) e)
 
   -- the layer count of the calls is the plot's,
-  pub held-layers : countTilings board tiles 512 ≡ layersOf plot
-  unfolding countTilings layersOf withEqualTiles bindAnswer
+  pub held-layers : countTilings board tiles 512 ≡ plotLayers plot
+  unfolding countTilings plotLayers withEqualTiles bindAnswer
   held-layers = go (equalCounts (plot .tiles)) refl
     where
       go : (t : Bool) → equalCounts (plot .tiles) ≡ t
@@ -73,8 +70,8 @@ module _ (plot : Plot) (board : RectangularBoard) (tiles : Tiles) (h : Holds plo
       go false e = rw (plot-unequal e, e)
 
   -- and so is the graph
-  pub held-graph : generateGraph board tiles 4096 1024 8192 ≡ graphIn plot
-  unfolding generateGraph graphIn withEqualTiles bindAnswer nodeRoom edgeRoom
+  pub held-graph : generateGraph board tiles 4096 1024 8192 ≡ plotGraph plot
+  unfolding generateGraph plotGraph withEqualTiles bindAnswer nodeRoom edgeRoom
   held-graph = go (equalCounts (plot .tiles)) refl
     where
       go : (t : Bool) → equalCounts (plot .tiles) ≡ t
@@ -86,7 +83,7 @@ module _ (plot : Plot) (board : RectangularBoard) (tiles : Tiles) (h : Holds plo
   -- as the contract of `count_tilings` says it, with layers of 512 boards
   pub held-counted : (boardsA countsA boardsB countsB boardsA′ countsA′ boardsB′ countsB′ : List ℕ) (r : Count)
       → CountsTilings board tiles boardsA countsA boardsB countsB boardsA′ countsA′ boardsB′ countsB′ r
-      → length boardsA ≡ 2048 → length countsA ≡ 512 → length boardsB ≡ 2048 → length countsB ≡ 512 → countAnswer r ≡ layersOf plot
+      → length boardsA ≡ 2048 → length countsA ≡ 512 → length boardsB ≡ 2048 → length countsB ≡ 512 → countAnswer r ≡ plotLayers plot
   unfolding layerRoom
   held-counted boardsA countsA boardsB countsB boardsA′ countsA′ boardsB′ countsB′ r c a b d e =
       c .answer

@@ -13,7 +13,7 @@ use Rattle.graph.specs.declared.GraphResult.{GraphResult}
 use Rattle.graph.specs.Tilings.{completeNode, countFromGraph, badGraph, nodeList}
 use Rattle.tiler.specs.Counting.{Graph}
 use Rattle.plot_file.specs.PlotFile.{Plot}
-use Rattle.report.specs.Report.{listIn}
+use Rattle.report.specs.Report.{nodeListOf}
 
 -- ---- text in lent bytes
 
@@ -29,7 +29,7 @@ pub record Puts (out : List ℕ) (at : ℕ) (text : List ℕ) (out′ : List ℕ
 -- ---- a plot and a graph
 
 -- a board and tiles of the code that hold a plot
-pub record Holds (plot : Plot) (board : RectangularBoard) (tiles : Tiles) : Type 0 where
+pub record HoldsPlot (plot : Plot) (board : RectangularBoard) (tiles : Tiles) : Type 0 where
   pub boardIs : readBoard board ≡ given (plot .board)
   pub tilesAre : readTiles tiles ≡ given (plot .tiles)
 
@@ -39,5 +39,5 @@ pub record Built (g : Graph) (r : GraphResult) (nodes counts edges : List ℕ) :
   pub edgeNumber : r .edges ≡ length (g .edges)
   pub count : countFromGraph (completeNode (r .complete)) counts ≡ countFromGraph (g .complete) (g .counts)
   pub sound : badGraph r (length nodes) counts edges ≡ false
-  pub list : (m : ℕ) → m < countFromGraph (g .complete) (g .counts) → nodeList r counts edges m ≡ listIn g m
-  pub short : (m : ℕ) → m < countFromGraph (g .complete) (g .counts) → length (listIn g m) ≤ 257
+  pub list : (m : ℕ) → m < countFromGraph (g .complete) (g .counts) → nodeList r counts edges m ≡ nodeListOf g m
+  pub short : (m : ℕ) → m < countFromGraph (g .complete) (g .counts) → length (nodeListOf g m) ≤ 257

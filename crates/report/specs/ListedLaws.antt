@@ -20,7 +20,7 @@ use Rattle.graph.specs.Tilings.{countFromGraph, nodeList, tilingAnswer, GivesTi
 use Rattle.graph.specs.GraphLaws.{length-numbersFor}
 use Rattle.graph.specs.TilingLaws.{told-tiling, list-read}
 use Rattle.tiler.specs.Counting.{Graph}
-use Rattle.report.specs.Report.{listIn, listed, tilingLine}
+use Rattle.report.specs.Report.{nodeListOf, listed, tilingLine}
 use Rattle.report.specs.Inner.{Puts, Built}
 use Rattle.report.specs.TextLaws.{puts-append, puts-as}
 
@@ -43,7 +43,7 @@ module _ {r : GraphResult} {nodes counts edges : List ℕ} {m : ℕ} {out out′
         (omega (arith, ap length (built .list m below), built .short m below))
 
     -- of a graph that is built it is the graph's
-    pub told-list : (n : ℕ) → t ≡ T.Length n → take n out′ ≡ listIn g m
+    pub told-list : (n : ℕ) → t ≡ T.Length n → take n out′ ≡ nodeListOf g m
     told-list n e =
         let size = given-inj (length (nodeList r counts edges m)) n (sym (read-list .0) ∙ ap tilingAnswer e) in
         ap (λ (k : ℕ). take k out′) (sym size) ∙ read-list .1 ∙ built .list m below

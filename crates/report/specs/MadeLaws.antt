@@ -18,14 +18,14 @@ use Rattle.tiler.specs.declared.MadeGraph.{MadeGraph}
 use Rattle.tiler.specs.Counting.{Graph, generateGraph, GeneratesGraph}
 use Rattle.tiler.specs.AnswerLaws.{given-graph}
 use Rattle.plot_file.specs.PlotFile.{Plot}
-use Rattle.report.specs.Report.{graphIn, field, feed, boardLine, tilesLine, graphLine}
-use Rattle.report.specs.Inner.{Holds, Built}
+use Rattle.report.specs.Report.{plotGraph, field, feed, boardLine, tilesLine, graphLine}
+use Rattle.report.specs.Inner.{HoldsPlot, Built}
 use Rattle.report.specs.HoldsLaws.{held-board, held-free, held-count, held-graph}
 use Rattle.report.specs.BuiltLaws.{built-graph}
 
 -- ---- the lines
 
-module _ {plot : Plot} {board : RectangularBoard} {tiles : Tiles} (h : Holds plot board tiles) where
+module _ {plot : Plot} {board : RectangularBoard} {tiles : Tiles} (h : HoldsPlot plot board tiles) where
   pub board-line : (free : ℕ) → free ≡ valueOr 0 (mapAnswer freeCount (readBoard board))
       → field "board " (board .width) ++ field " " (board .height) ++ field " free " free ++ feed ≡ boardLine plot
   unfolding boardLine
@@ -47,19 +47,19 @@ graph-line built count e = let c = e ∙ built .count in cc
 
 -- ---- the graph
 
-module _ (plot : Plot) (board : RectangularBoard) (tiles : Tiles) (h : Holds plot board tiles) (nodes counts edges : List ℕ)
+module _ (plot : Plot) (board : RectangularBoard) (tiles : Tiles) (h : HoldsPlot plot board tiles) (nodes counts edges : List ℕ)
     (n : length nodes ≡ 4096) (c : length counts ≡ 1024) (d : length edges ≡ 8192) {nodes′ counts′ edges′ : List ℕ} {made : MadeGraph}
     (generated : GeneratesGraph board tiles nodes counts edges nodes′ counts′ edges′ made) where
-  answer-is : generateGraph board tiles (length nodes) (length counts) (length edges) ≡ graphIn plot
+  answer-is : generateGraph board tiles (length nodes) (length counts) (length edges) ≡ plotGraph plot
   answer-is =
       ap₂ (λ (x y : ℕ). generateGraph board tiles x y (length edges)) n c ∙ ap (generateGraph board tiles 4096 1024) d ∙ held-graph plot board tiles h
 
-  pub made-refused : (x : Refusal) → made .verdict ≡ Verdicts.Refused x → graphIn plot ≡ refused (refusalNumber x)
+  pub made-refused : (x : Refusal) → made .verdict ≡ Verdicts.Refused x → plotGraph plot ≡ refused (refusalNumber x)
   made-refused x e =
       sym answer-is ∙ refused-of (generateGraph board tiles (length nodes) (length counts) (length edges)) x (ap verdictNumber (sym e) ∙ generated .verdict)
 
   pub made-given : Sound (board .fixed) → Sound (board .laid) → made .verdict ≡ Verdicts.Accepted
-      → (g : Graph) × (graphIn plot ≡ given g) × Built g (made .graph) nodes′ counts′ edges′
+      → (g : Graph) × (plotGraph plot ≡ given g) × Built g (made .graph) nodes′ counts′ edges′
   made-given fixed laid e =
       let g = given-graph board tiles (length nodes) (length counts) (length edges) (sym (generated .verdict) ∙ ap verdictNumber e) in
       (g .0, sym answer-is ∙ g .1, built-graph board fixed laid tiles nodes counts edges nodes′ counts′ edges′ made generated (g .0) (g .1))

@@ -32,10 +32,10 @@ use Rattle.tiler.specs.GivenLaws.{layers-count}
 use Rattle.tiler.specs.NumberLaws.{count-cuttings}
 use Rattle.tiler.specs.Theorems.{counts-agree}
 use Rattle.plot_file.specs.PlotFile.{Plot}
-use Rattle.report.specs.Report.{layersOf, graphIn, listIn}
-use Rattle.report.specs.Inner.{Holds}
+use Rattle.report.specs.Report.{plotLayers, plotGraph, nodeListOf, cuttingOf}
+use Rattle.report.specs.Inner.{HoldsPlot}
 use Rattle.report.specs.HoldsLaws.{held-board, held-tiles, held-layers, held-graph}
-use Rattle.report.specs.BuiltLaws.{graph-nodes, graph-edges, graph-count-small, list-chain, list-below, list-short, cuttingIn, lists-number-cuttings}
+use Rattle.report.specs.BuiltLaws.{graph-nodes, graph-edges, graph-count-small, list-chain, list-below, list-short, lists-number-cuttings}
 use Rattle.report.specs.CountLaws.{given-small}
 
 -- what is known of the plot of an accepted file: its board is accepted and has no laid marks, its fixed marks are a set of 256 cells, and its tiles, at most
@@ -79,7 +79,7 @@ module _ (plot : Plot) (ok : AcceptedPlot plot) where
       ap₂ (λ (f l : ℕ). record { width = plot .board .width; height = plot .board .height; fixed = f; laid = l })
       (number-cellsOf (plot .board .fixed) (ok .fixed)) (number-cellsOf (plot .board .laid) none)
 
-  pub holds-struct : Holds plot (structOf plot) (tilesOf (plot .tiles))
+  pub holds-struct : HoldsPlot plot (structOf plot) (tilesOf (plot .tiles))
   holds-struct = record {
     boardIs = readBoard-given (structOf plot) (ap valid board-struct ∙ ok .board) ∙ ap given board-struct;
     tilesAre = readTiles-tilesOf (plot .tiles) (ok .few) (ok .storable);
@@ -110,7 +110,7 @@ module _ (plot : Plot) (ok : AcceptedPlot plot) where
   joined-struct : AllEdgeJoined (plot .tiles) → AllEdgeJoined (pathsIn ts)
   joined-struct = subst AllEdgeJoined (sym (held-tiles plot b ts holds-struct))
 
-  module _ (n : ℕ) (e : layersOf plot ≡ given n) where
+  module _ (n : ℕ) (e : plotLayers plot ≡ given n) where
     told : countTilings b ts 512 ≡ given n
     told = held-layers plot b ts holds-struct ∙ e
 
@@ -123,7 +123,7 @@ module _ (plot : Plot) (ok : AcceptedPlot plot) where
     pub layers-cuttings : HasFreeCell (plot .board) → AllEdgeJoined (plot .tiles) → Exactly n (IsCutting (plot .board) (plot .tiles))
     layers-cuttings free joined = of-plot (λ d paths. Exactly n (IsCutting d paths)) (count-cuttings b fixed laid ts (free-struct free) (joined-struct joined) 512 n told)
 
-  module _ (g : Graph) (e : graphIn plot ≡ given g) where
+  module _ (g : Graph) (e : plotGraph plot ≡ given g) where
     made : generateGraph b ts 4096 1024 8192 ≡ given g
     made = held-graph plot b ts holds-struct ∙ e
 
@@ -139,20 +139,20 @@ module _ (plot : Plot) (ok : AcceptedPlot plot) where
     count-fits = graph-count-small b fixed laid ts 4096 1024 8192 g made
 
     pub lists-cuttings : HasFreeCell (plot .board) → AllEdgeJoined (plot .tiles)
-        → Numbering (IsCutting (plot .board) (plot .tiles)) (countFromGraph (g .complete) (g .counts)) (cuttingIn g)
+        → Numbering (IsCutting (plot .board) (plot .tiles)) (countFromGraph (g .complete) (g .counts)) (cuttingOf g)
     lists-cuttings free joined =
-        of-plot (λ d paths. Numbering (IsCutting d paths) (countFromGraph (g .complete) (g .counts)) (cuttingIn g))
+        of-plot (λ d paths. Numbering (IsCutting d paths) (countFromGraph (g .complete) (g .counts)) (cuttingOf g))
         (lists-number-cuttings b fixed laid ts 4096 1024 8192 g made (free-struct free) (joined-struct joined))
 
-    pub counts-same : (n : ℕ) → layersOf plot ≡ given n → countFromGraph (g .complete) (g .counts) ≡ n
+    pub counts-same : (n : ℕ) → plotLayers plot ≡ given n → countFromGraph (g .complete) (g .counts) ≡ n
     counts-same n q = counts-agree b fixed laid ts 512 n (told n q) 4096 1024 8192 g made
 
     module _ (m : ℕ) (below : m < countFromGraph (g .complete) (g .counts)) where
-      pub nodes-chain : (v : ℕ) × (g .complete ≡ some v) × Chain (λ p c. Mem (p, c) (g .edges)) 0 v (listIn g m)
+      pub nodes-chain : (v : ℕ) × (g .complete ≡ some v) × Chain (λ p c. Mem (p, c) (g .edges)) 0 v (nodeListOf g m)
       nodes-chain = list-chain b fixed laid ts 4096 1024 8192 g made m below
 
-      pub nodes-below : (v : ℕ) → Mem v (listIn g m) → v < length (g .nodes)
+      pub nodes-below : (v : ℕ) → Mem v (nodeListOf g m) → v < length (g .nodes)
       nodes-below = list-below b fixed laid ts 4096 1024 8192 g made m below
 
-      pub nodes-short : length (listIn g m) ≤ 257
+      pub nodes-short : length (nodeListOf g m) ≤ 257
       nodes-short = list-short b fixed laid ts 4096 1024 8192 g made m below

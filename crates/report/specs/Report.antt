@@ -1,18 +1,19 @@
 -- Definitions: the text that the program `plot` prints for a file. What stands in quotation marks is 01's, from its sections Known plots, The layer count and The
 -- graph. Counts, graph and tilings are those of `tiler`, `graph` and `covers`; what a file holds is `plotIn` of `plot_file`. Assumes nothing.
 use mathlib.Core.Path.{_≡_}
-use mathlib.Core.Bool.{cond}
-use mathlib.Core.List.{List, [], _∷_, _++_, flatMap}
+use mathlib.Core.Bool.{Bool, cond}
+use mathlib.Core.List.{List, [], _∷_, _++_, map, flatMap}
 use Prim.Native.Nat.{ℕ, zero, suc, _+_, _/_, _%_, min}
 use Prim.Native.String.{String}
-use lib.Dec.{ltb}
-use lib.ListN.{length, take, drop}
+use lib.Dec.{eqb, ltb}
+use lib.ListN.{length, getD, take, drop}
+use Rattle.cells.specs.Firsts.{holds}
 use Rattle.cells.specs.Arrays.{listOf}
 use Rattle.refusal.specs.Refusal.{Answer, refused, given}
 use Rattle.tile.specs.Path.{equalCounts}
 use Rattle.board.specs.Board.{marks, freeCount}
-use Rattle.covers.specs.Counts.{atNode, tiling}
-use Rattle.graph.specs.Tilings.{countIn, countFromGraph}
+use Rattle.covers.specs.Counts.{atNode, tiling, piecesOf}
+use Rattle.graph.specs.Tilings.{countIn, countFromGraph, stepPiece}
 use Rattle.tiler.specs.Boards.{setting}
 use Rattle.tiler.specs.Counting.{layersAnswer, Graph, graphOf, weighGraph}
 use Rattle.plot_file.specs.Ascii.{ascii}
@@ -26,23 +27,28 @@ unfolding equalCounts
 withEqualTiles plot answer = cond (equalCounts (plot .tiles)) answer (refused 7)
 
 -- the program "lends 512 boards a layer,"
-unfoldable pub layersOf : Plot → Answer ℕ
+unfoldable pub plotLayers : Plot → Answer ℕ
 unfolding withEqualTiles layersAnswer setting marks
-layersOf plot = withEqualTiles plot (layersAnswer (setting (plot .board) (plot .tiles)) (marks (plot .board)) 512)
+plotLayers plot = withEqualTiles plot (layersAnswer (setting (plot .board) (plot .tiles)) (marks (plot .board)) 512)
 
 -- "1,024 nodes, 4,096 edges,"
-unfoldable pub graphIn : Plot → Answer Graph
+unfoldable pub plotGraph : Plot → Answer Graph
 unfolding withEqualTiles weighGraph graphOf setting marks
-graphIn plot = withEqualTiles plot (weighGraph 1024 4096 (graphOf (setting (plot .board) (plot .tiles)) (marks (plot .board))))
+plotGraph plot = withEqualTiles plot (weighGraph 1024 4096 (graphOf (setting (plot .board) (plot .tiles)) (marks (plot .board))))
 
 -- "and lists the first 16 tilings, or all if there are fewer": how many are listed, and the node list of one
 unfoldable pub listed : Graph → ℕ
 unfolding countFromGraph
 listed g = min 16 (countFromGraph (g .complete) (g .counts))
 
-unfoldable pub listIn : Graph → ℕ → List ℕ
+unfoldable pub nodeListOf : Graph → ℕ → List ℕ
 unfolding tiling atNode
-listIn g m = tiling (g .edges) (countIn (g .counts)) (atNode (λ v. v) (g .complete)) m
+nodeListOf g m = tiling (g .edges) (countIn (g .counts)) (atNode (λ v. v) (g .complete)) m
+
+-- the cutting that the list gives: "the set of pieces that its steps mark", the nodes being the graph's boards. No line prints it; the theorems speak of it
+unfoldable pub cuttingOf : Graph → ℕ → ℕ → Bool
+unfolding holds stepPiece nodeListOf
+cuttingOf g m = holds eqb (piecesOf stepPiece (map (λ v. getD (g .nodes) v 0) (nodeListOf g m)))
 
 -- ---- the parts of a line
 
@@ -98,8 +104,8 @@ graphLine g =
 
 -- "number and node list"
 unfoldable pub tilingLine : Graph → ℕ → List ℕ
-unfolding field feed ascii listIn flatMap
-tilingLine g m = field "tiling " m ++ ascii ":" ++ flatMap (field " ") (listIn g m) ++ feed
+unfolding field feed ascii nodeListOf flatMap
+tilingLine g m = field "tiling " m ++ ascii ":" ++ flatMap (field " ") (nodeListOf g m) ++ feed
 
 -- "the graph line follows refused layers too, and no tiling lines follow a refused graph"
 unfoldable pub graphLines : Answer Graph → List ℕ
@@ -110,8 +116,8 @@ graphLines (given g) = graphLine g ++ flatMap (tilingLine g) (listOf (λ m. m) (
 -- ---- the text
 
 unfoldable pub plotLines : Plot → List ℕ
-unfolding boardLine tilesLine layersLine layersOf graphLines graphIn
-plotLines plot = boardLine plot ++ tilesLine plot ++ layersLine (layersOf plot) ++ graphLines (graphIn plot)
+unfolding boardLine tilesLine layersLine plotLayers graphLines plotGraph
+plotLines plot = boardLine plot ++ tilesLine plot ++ layersLine (plotLayers plot) ++ graphLines (plotGraph plot)
 
 -- "A refused file prints […] its only line"
 unfoldable pub linesFor : Answer Plot → List ℕ

@@ -12,14 +12,14 @@ use Rattle.plot_file.specs.declared.MadePlot.{MadePlot}
 use Rattle.plot_file.specs.PlotFile.{Plot, plotIn, ReadsPlot}
 use Rattle.plot_file.specs.Theorems.{refusal-listed, read-accepted}
 use Rattle.report.specs.Report.{refusedLine, plotLines, linesFor, report}
-use Rattle.report.specs.Inner.{Holds}
+use Rattle.report.specs.Inner.{HoldsPlot}
 
 module _ (file : List ℕ) (r : MadePlot) (reads : ReadsPlot (plotIn file) r) where
-  pub accepted-text : r .verdict ≡ Verdicts.Accepted → (plot : Plot) × Holds plot (r .board) (r .tiles) × (report file ≡ plotLines plot)
+  pub accepted-text : r .verdict ≡ Verdicts.Accepted → (plot : Plot) × HoldsPlot plot (r .board) (r .tiles) × (report file ≡ plotLines plot)
   unfolding report linesFor refusalOf
   accepted-text v = go (plotIn file) refl
     where
-      go : (a : Answer Plot) → plotIn file ≡ a → (plot : Plot) × Holds plot (r .board) (r .tiles) × (report file ≡ plotLines plot)
+      go : (a : Answer Plot) → plotIn file ≡ a → (plot : Plot) × HoldsPlot plot (r .board) (r .tiles) × (report file ≡ plotLines plot)
       go (refused n) e =
           let z : 0 ≡ n = sym (ap verdictNumber v) ∙ reads .verdict ∙ ap refusalOf e in
           absurd (omega (arith, refusal-listed file n e .0))

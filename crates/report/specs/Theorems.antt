@@ -16,8 +16,7 @@ use Rattle.tiler.specs.Counting.{Graph}
 use Rattle.tiler.specs.Cuttings.{IsCutting, HasFreeCell, AllEdgeJoined}
 use Rattle.plot_file.specs.PlotFile.{Plot, plotIn}
 use Rattle.plot_file.specs.Theorems.{refusal-listed, accepted-plot, accepted-fixed, four-thousand-settle}
-use Rattle.report.specs.Report.{layersOf, graphIn, listed, listIn, linesFor, report, WritesReport}
-use Rattle.report.specs.BuiltLaws.{cuttingIn}
+use Rattle.report.specs.Report.{plotLayers, plotGraph, listed, nodeListOf, cuttingOf, linesFor, report, WritesReport}
 use Rattle.report.specs.CountLaws as Count
 use Rattle.report.specs.PlotLaws as P
 use Rattle.report.specs.PlotLaws.{AcceptedPlot}
@@ -26,11 +25,11 @@ use Rattle.report.specs.FitLaws.{refused-length, plot-length}
 -- ---- 1. Refusals
 
 -- A layer count is refused by 7, 8 or 9,
-pub layers-refused : (plot : Plot) (n : ℕ) → layersOf plot ≡ refused n → (7 ≤ n) × (n ≤ 9)
+pub layers-refused : (plot : Plot) (n : ℕ) → plotLayers plot ≡ refused n → (7 ≤ n) × (n ≤ 9)
 layers-refused = Count.layers-refusals
 
 -- and a graph by 7, 8, 9 or 10.
-pub graph-refused : (plot : Plot) (n : ℕ) → graphIn plot ≡ refused n → (7 ≤ n) × (n ≤ 10)
+pub graph-refused : (plot : Plot) (n : ℕ) → plotGraph plot ≡ refused n → (7 ≤ n) × (n ≤ 10)
 graph-refused = Count.graph-refusals
 
 -- a number below the count, of which a tiling line is printed
@@ -86,40 +85,40 @@ module _ (file : List ℕ) (plot : Plot) (is : plotIn file ≡ given plot) where
   -- that tile
 
   -- The number in the line `layers N` is the number of cuttings,
-  pub layers-are-cuttings : (n : ℕ) → layersOf plot ≡ given n → HasFreeCell (plot .board) → AllEdgeJoined (plot .tiles)
+  pub layers-are-cuttings : (n : ℕ) → plotLayers plot ≡ given n → HasFreeCell (plot .board) → AllEdgeJoined (plot .tiles)
       → Exactly n (IsCutting (plot .board) (plot .tiles))
   layers-are-cuttings n e = P.layers-cuttings plot ok n e
 
-  module _ (g : Graph) (made : graphIn plot ≡ given g) where
+  module _ (g : Graph) (made : plotGraph plot ≡ given g) where
     -- and so is the number behind `graph`.
     pub graph-count-is-cuttings : HasFreeCell (plot .board) → AllEdgeJoined (plot .tiles)
         → Exactly (countFromGraph (g .complete) (g .counts)) (IsCutting (plot .board) (plot .tiles))
-    graph-count-is-cuttings free joined = (cuttingIn g, P.lists-cuttings plot ok g made free joined)
+    graph-count-is-cuttings free joined = (cuttingOf g, P.lists-cuttings plot ok g made free joined)
 
     -- Both numbers agree where neither count is refused, whatever the board and the tiles.
-    pub counts-agree : (n : ℕ) → layersOf plot ≡ given n → countFromGraph (g .complete) (g .counts) ≡ n
+    pub counts-agree : (n : ℕ) → plotLayers plot ≡ given n → countFromGraph (g .complete) (g .counts) ≡ n
     counts-agree n e = P.counts-same plot ok g made n e
 
     -- ---- 4. The tiling lines
 
-    -- The numbers below the graph's count number the cuttings: the pieces that the steps of the list of a number mark (`cuttingIn`) are a cutting, two numbers
+    -- The numbers below the graph's count number the cuttings: the pieces that the steps of the list of a number mark (`cuttingOf`) are a cutting, two numbers
     -- never give the same, and every cutting has its number. So the tiling lines are different cuttings, and all of them where there are at most 16.
     pub tilings-are-cuttings : HasFreeCell (plot .board) → AllEdgeJoined (plot .tiles)
-        → Numbering (IsCutting (plot .board) (plot .tiles)) (countFromGraph (g .complete) (g .counts)) (cuttingIn g)
+        → Numbering (IsCutting (plot .board) (plot .tiles)) (countFromGraph (g .complete) (g .counts)) (cuttingOf g)
     tilings-are-cuttings = P.lists-cuttings plot ok g made
 
     module _ (m : ℕ) (line : m < listed g) where
       -- A line's list begins at node 0, goes from each node to the next over an edge, and ends at the full node,
-      pub list-is-chain : (v : ℕ) × (g .complete ≡ some v) × Chain (λ p c. Mem (p, c) (g .edges)) 0 v (listIn g m)
+      pub list-is-chain : (v : ℕ) × (g .complete ≡ some v) × Chain (λ p c. Mem (p, c) (g .edges)) 0 v (nodeListOf g m)
       list-is-chain = P.nodes-chain plot ok g made m (below-count g m line)
 
       -- has at least one node and at most 257,
-      pub list-has-node : 1 ≤ length (listIn g m)
-      list-has-node = let c = list-is-chain in chain-some (λ p c. Mem (p, c) (g .edges)) 0 (c .0) (listIn g m) (c .2)
+      pub list-has-node : 1 ≤ length (nodeListOf g m)
+      list-has-node = let c = list-is-chain in chain-some (λ p c. Mem (p, c) (g .edges)) 0 (c .0) (nodeListOf g m) (c .2)
 
-      pub list-has-few-nodes : length (listIn g m) ≤ 257
+      pub list-has-few-nodes : length (nodeListOf g m) ≤ 257
       list-has-few-nodes = P.nodes-short plot ok g made m (below-count g m line)
 
       -- and its nodes are the graph's.
-      pub list-in-graph : (v : ℕ) → Mem v (listIn g m) → v < length (g .nodes)
+      pub list-in-graph : (v : ℕ) → Mem v (nodeListOf g m) → v < length (g .nodes)
       list-in-graph = P.nodes-below plot ok g made m (below-count g m line)

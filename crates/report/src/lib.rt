@@ -1,5 +1,5 @@
-// The text that the program `plot` prints for a file, in lent bytes. What it is, is a definition of
-// specs/Report.antt over the file's bytes alone; nothing is asked of a caller. A text that is longer
+// The text that the program `plot` prints for a file, in lent bytes. The text is defined over the
+// file's bytes alone (specs/Report.antt), and nothing is asked of a caller. A text that is longer
 // than the lent bytes is cut at their end; the program's are long enough for every file.
 use board::FreeCells;
 use board::RectangularBoard;
@@ -19,8 +19,8 @@ ghost use Rattle.board.specs.Board.{freeCount, readBoard};
 ghost use Rattle.graph.specs.Tilings.{countFromGraph};
 ghost use Rattle.tiler.specs.Counting.{Graph};
 ghost use Rattle.plot_file.specs.PlotFile.{Plot};
-ghost use Rattle.report.specs.Report.{listed, layersLine, layersOf, graphLines, graphIn, tilingLine, plotLines, WritesReport};
-ghost use Rattle.report.specs.Inner.{Puts, Holds, Built};
+ghost use Rattle.report.specs.Report.{listed, layersLine, plotLayers, graphLines, plotGraph, tilingLine, plotLines, WritesReport};
+ghost use Rattle.report.specs.Inner.{Puts, HoldsPlot, Built};
 
 mod lines;
 mod text;
@@ -40,7 +40,7 @@ pub fn write_report(file: &[u8], out: &mut [u8]) -> usize
 
 // The lines of a plot that is read.
 fn put_plot(out: &mut [u8], plot: MadePlot) -> usize
-    ensures text { λ r. ⌜ ((p : Plot) → Holds p (plot .board) (plot .tiles) → Puts (now (out .entry)) 0 (plotLines p) (now (out .exit)) r) ⌝ }
+    ensures text { λ r. ⌜ ((p : Plot) → HoldsPlot p (plot .board) (plot .tiles) → Puts (now (out .entry)) 0 (plotLines p) (now (out .exit)) r) ⌝ }
     ensures within { λ r. ⌜ r ≤ length (now (out .entry)) ⌝ }
 {
     let board = plot.board;
@@ -65,7 +65,7 @@ fn free_cells(board: RectangularBoard) -> usize
 // The line of the layer count, with room for 512 boards a layer.
 fn put_layers(out: &mut [u8], at: usize, board: RectangularBoard, tiles: Tiles) -> usize
     requires { ⌜ at ≤ length (now out) ⌝ }
-    ensures text { λ r. ⌜ ((p : Plot) → Holds p board tiles → Puts (now (out .entry)) at (layersLine (layersOf p)) (now (out .exit)) r) ⌝ }
+    ensures text { λ r. ⌜ ((p : Plot) → HoldsPlot p board tiles → Puts (now (out .entry)) at (layersLine (plotLayers p)) (now (out .exit)) r) ⌝ }
     ensures within { λ r. ⌜ r ≤ length (now (out .entry)) ⌝ }
 {
     let mut boards_a = [0u64; 2048];
@@ -86,7 +86,7 @@ fn put_layers(out: &mut [u8], at: usize, board: RectangularBoard, tiles: Tiles) 
 // The line of the graph and those of its tilings, with room for 1,024 nodes and 4,096 edges.
 fn put_graph(out: &mut [u8], at: usize, board: RectangularBoard, tiles: Tiles) -> usize
     requires { ⌜ at ≤ length (now out) ⌝ }
-    ensures text { λ r. ⌜ ((p : Plot) → Holds p board tiles → Puts (now (out .entry)) at (graphLines (graphIn p)) (now (out .exit)) r) ⌝ }
+    ensures text { λ r. ⌜ ((p : Plot) → HoldsPlot p board tiles → Puts (now (out .entry)) at (graphLines (plotGraph p)) (now (out .exit)) r) ⌝ }
     ensures within { λ r. ⌜ r ≤ length (now (out .entry)) ⌝ }
 {
     let mut nodes = [0u64; 4096];

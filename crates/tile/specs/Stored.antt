@@ -1,7 +1,7 @@
 -- Definitions: what the structs of the code stand for. A `Tile` has a length and 32 codes, and `Tiles` a count, 64 lengths and 2,048 codes, 32 for
 -- each tile; they hold any numbers. `readTile` and `readTiles` give the paths, or 01's refusal; `tileOf` and `tilesOf` store paths, with zeros
--- behind. Reading what was stored gives it back (`readTile-tileOf`, `readTiles-tilesOf`). `withTile` and `tileAt` put a tile behind the others
--- and take one out, whatever the structs hold. Assumes nothing.
+-- behind. Reading what was stored gives it back (`readTile-tileOf`, `readTiles-tilesOf`). `withTile` puts a tile behind
+-- the others and `tileAt` gives one of them, whatever the structs hold. Assumes nothing.
 use mathlib.Core.Path.{_≡_}
 use mathlib.Core.Bool.{Bool, So, _&&_, cond}
 use mathlib.Core.List.{List, [], List·Memᴰ as Mem}

@@ -6,8 +6,8 @@ use lib.ListN.{drop}
 use Rattle.refusal.specs.Refusal.{Answer}
 use Rattle.plot_file.specs.declared.Mark.{Mark}
 use Rattle.plot_file.specs.Ascii.{ascii}
-use Rattle.plot_file.specs.PlotFile.{letters, spells, markAmong}
-use Rattle.plot_file.specs.Inner.{allMarks}
+use Rattle.plot_file.specs.PlotFile.{allMarks, letters, spells, markAmong}
+use Rattle.plot_file.specs.Inner.{}
 use Rattle.plot_file.specs.ReadLaws.{mark-here, mark-later, mark-none}
 use borrow.Author.Needs.{needs}
 use Rattle.plot_file.proofs.marks.mark_of.Statement.{statement}
