@@ -4,6 +4,7 @@ A set of cells is a number, cell (row, column) being bit 16 * row + column. What
 neighbour counts and the chosen cell only picks and counts cases; answers are the programs' own.
 """
 
+import collections
 import os
 import pathlib
 import subprocess
@@ -443,15 +444,21 @@ def build_oracle(sources, folder):
 
 
 def answers_of(program, commands, threads=1):
-    """Runs a program on commands, one a line; its answers. The Rust has so many threads."""
+    """Runs a program on commands, one a line; its answers. The Rust has so many threads.
+
+    What it says on standard error is passed on, each line once.
+    """
     run = subprocess.run(
         [program],
         input="".join(command + "\n" for command in commands),
         stdout=subprocess.PIPE,
-        check=True,
+        stderr=subprocess.PIPE,
         encoding="ascii",
         env={**os.environ, "RAYON_NUM_THREADS": str(threads)},
     )
+    for said, times in collections.Counter(run.stderr.splitlines()).items():
+        print(said if times == 1 else f"{said} ({times} times)", file=sys.stderr)
+    run.check_returncode()
     answers = run.stdout.splitlines()
     if len(answers) != len(commands):
         stop(f"{program}: {len(commands)} commands, {len(answers)} answers")
