@@ -51,6 +51,17 @@ def command(file):
     return f"plot {file.hex() or '-'}"
 
 
+def bodies(file):
+    """The marks and bodies of a file that is read, but for EN."""
+    found, rest = [], file
+    while rest != EN:
+        mark = rest[:2].decode()
+        end = 4 if mark in BOARDS else 3 + rest[2]
+        found.append((mark, rest[2:end]))
+        rest = rest[end:]
+    return found
+
+
 # Random files: a list of records, EN among them, and what is done to it.
 
 SHAPES = [text.upper() for text in plots.SHAPES]

@@ -1,5 +1,5 @@
-// What a text holds: its fields, a field's number, code, tile, tiles, marks or list of numbers, and a
-// line's board.
+// What a text holds: its fields, a field's number, code, tile, tiles, marks, bytes or list of numbers,
+// and a line's board.
 use board::RectangularBoard;
 use cells::Cells;
 use tile::Tile;
