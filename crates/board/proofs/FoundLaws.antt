@@ -18,7 +18,7 @@ use Rattle.board.specs.declared.choice.Chosen.the-variants as H
 use Rattle.board.specs.declared.placing.Stored.{Stored}
 use Rattle.board.specs.declared.placing.Stored.the-variants as S
 use Rattle.board.specs.Board.{Board, cellOf, positionOf, marks, isMarked, freeAt, isFree, valid}
-use Rattle.board.specs.Children.{neighbourCount, countOf, columns, higher, bestOf, chosen, pruned, children}
+use Rattle.board.specs.Children.{neighbourCount, countOf, columns, higher, bestOf, chosen, withCount, chosenCount, pruned, children}
 use Rattle.board.specs.Inner.{foundOf, childOf, fitsOfAll, OnBoard, Keeps}
 use Rattle.board.specs.BoardLaws.{inside-iff, cellOf-positionOf, isMarked-marks, valid-width, valid-height}
 use Rattle.board.specs.ChosenLaws.{mem-columns, free-inside, chosen-best, pruned-chosen}
@@ -47,7 +47,7 @@ module _ (free free′ : ℕ → Bool) (count count′ : ℕ → ℕ) where
       kept false c e = k c e
 
 module _ (b : Board) (wide : b .width ≤ 16) (high : b .height ≤ 16) (m : ℕ) (em : m ≡ marks b) (counts : List ℕ) (ec : counts ≡ listOf (neighbourCount (b .width) (b .height) (b .laid)) 256) where
-  pub count-is : (cell : ℕ) → cell % 16 < b .width → cell / 16 < b .height → getD counts cell 0 ≡ countOf b cell
+  count-is : (cell : ℕ) → cell % 16 < b .width → cell / 16 < b .height → getD counts cell 0 ≡ countOf b cell
   count-is cell c r = ap (λ (l : List ℕ). getD l cell 0) ec ∙ getD-listOf (neighbourCount (b .width) (b .height) (b .laid)) 256 cell 0 (omega arith)
 
   free-is : (cell : ℕ) → cell % 16 < b .width → cell / 16 < b .height → not (hasCell m cell) ≡ isFree b cell
@@ -59,7 +59,7 @@ module _ (b : Board) (wide : b .width ≤ 16) (high : b .height ≤ 16) (m : ℕ
       (ap (λ (t : Bool). t && not (isMarked b (cellOf (positionOf cell)))) (inside-iff (b .width) (b .height) (cell / 16) (cell % 16) .1 (r, c))
       ∙ ap (λ (n : ℕ). not (isMarked b n)) (cellOf-positionOf cell))
 
-  pub chosen-is : bestOf (λ c. not (hasCell m c)) (λ c. getD counts c 0) none (columns (b .height) (b .width)) ≡ chosen b
+  chosen-is : bestOf (λ c. not (hasCell m c)) (λ c. getD counts c 0) none (columns (b .height) (b .width)) ≡ chosen b
   unfolding chosen
   chosen-is =
       bestOf-ext (λ c. not (hasCell m c)) (isFree b) (λ c. getD counts c 0) (countOf b) (columns (b .height) (b .width)) none
@@ -69,41 +69,61 @@ module _ (b : Board) (wide : b .width ≤ 16) (high : b .height ≤ 16) (m : ℕ
 
 -- ---- what the code finds, and what it does then
 
-module _ (b : Board) (ok : valid b ≡ true) (m : ℕ) (em : m ≡ marks b) (counts : List ℕ) (ec : counts ≡ listOf (neighbourCount (b .width) (b .height) (b .laid)) 256) (x : Chosen) (ex : x ≡ foundOf (λ c. getD counts c 0) (bestOf (λ c. not (hasCell m c)) (λ c. getD counts c 0) none (columns (b .height) (b .width)))) where
-  found-is : x ≡ foundOf (λ c. getD counts c 0) (chosen b)
-  found-is = ex ∙ ap (foundOf (λ c. getD counts c 0)) (chosen-is b (valid-width b ok) (valid-height b ok) m em counts ec)
+module _ (b : Board) (ok : valid b ≡ true) where
+  chosen-on : (cell : ℕ) → chosen b ≡ some cell → OnBoard b cell
+  chosen-on cell e =
+      let i = free-inside b cell (chosen-best b (valid-width b ok) cell e .free) in
+      record { wide = valid-width b ok; high = valid-height b ok; col = i .0; row = i .1 }
 
-  pub found-full : x ≡ H.Full → chosen b ≡ none
-  found-full e = go (chosen b) (sym e ∙ found-is)
+  -- by the array of counts and the marks of both kinds
+  pub found-is : (m : ℕ) → m ≡ marks b → (counts : List ℕ) → counts ≡ listOf (neighbourCount (b .width) (b .height) (b .laid)) 256 → (x : Chosen) → x ≡ foundOf (λ c. getD counts c 0) (bestOf (λ c. not (hasCell m c)) (λ c. getD counts c 0) none (columns (b .height) (b .width))) → x ≡ foundOf (countOf b) (chosen b)
+  found-is m em counts ec x ex =
+      ex ∙ ap (foundOf (λ c. getD counts c 0)) (chosen-is b (valid-width b ok) (valid-height b ok) m em counts ec) ∙ go (chosen b) refl
     where
-      go : (o : Option ℕ) → H.Full ≡ foundOf (λ c. getD counts c 0) o → o ≡ none
+      go : (o : Option ℕ) → chosen b ≡ o → foundOf (λ c. getD counts c 0) o ≡ foundOf (countOf b) o
+      go none e = refl
+      go (some c) e =
+          let on = chosen-on c e in
+          ap (H.Cell c) (count-is b (valid-width b ok) (valid-height b ok) m em counts ec c (on .col) (on .row))
+
+module _ (b : Board) (x : Chosen) (ex : x ≡ foundOf (countOf b) (chosen b)) where
+  pub found-full : x ≡ H.Full → chosen b ≡ none
+  found-full e = go (chosen b) (sym e ∙ ex)
+    where
+      go : (o : Option ℕ) → H.Full ≡ foundOf (countOf b) o → o ≡ none
       go none q = refl
       go (some c) q = let z : _≡_ {A = ℕ} 0 1 = cc in absurd (omega arith)
 
+  pub found-full-count : x ≡ H.Full → none ≡ chosenCount b
+  unfolding chosenCount withCount
+  found-full-count e = sym (ap (withCount b) (found-full e))
+
   module _ (cell n : ℕ) (e : x ≡ H.Cell cell n) where
-    told : (chosen b ≡ some cell) × (n ≡ getD counts cell 0)
-    told = go (chosen b) (sym e ∙ found-is)
+    told : (chosen b ≡ some cell) × (n ≡ countOf b cell)
+    told = go (chosen b) (sym e ∙ ex)
       where
-        go : (o : Option ℕ) → H.Cell cell n ≡ foundOf (λ c. getD counts c 0) o → (o ≡ some cell) × (n ≡ getD counts cell 0)
+        go : (o : Option ℕ) → H.Cell cell n ≡ foundOf (countOf b) o → (o ≡ some cell) × (n ≡ countOf b cell)
         go none q = let z : _≡_ {A = ℕ} 0 1 = cc in absurd (omega arith)
         go (some c) q =
             let s : cell ≡ c = cc in
-            let t : n ≡ getD counts c 0 = cc in
-            (ap some (sym s), t ∙ ap (λ (i : ℕ). getD counts i 0) (sym s))
+            let t : n ≡ countOf b c = cc in
+            (ap some (sym s), t ∙ ap (countOf b) (sym s))
 
     pub found-cell : chosen b ≡ some cell
     found-cell = told .0
 
-    pub found-on : OnBoard b cell
-    found-on =
-        let i = free-inside b cell (chosen-best b (valid-width b ok) cell found-cell .free) in
-        record { wide = valid-width b ok; high = valid-height b ok; col = i .0; row = i .1 }
+    pub found-cell-count : some (cell, n) ≡ chosenCount b
+    unfolding chosenCount withCount
+    found-cell-count = ap (λ (k : ℕ). some (cell, k)) (told .1) ∙ sym (ap (withCount b) found-cell)
+
+    pub found-on : valid b ≡ true → OnBoard b cell
+    found-on ok = chosen-on b ok cell found-cell
 
     -- the test of the chosen cell's count is that of any free cell
-    pub found-pruned : (paths : List Path) (t : Bool) → t ≡ (eqb n 4 && not (containsSingle paths)) → pruned b paths ≡ t
-    found-pruned paths t f =
+    pub found-pruned : valid b ≡ true → (paths : List Path) (t : Bool) → t ≡ (eqb n 4 && not (containsSingle paths)) → pruned b paths ≡ t
+    found-pruned ok paths t f =
         pruned-chosen b (valid-width b ok) paths cell found-cell
-        ∙ ap (λ (k : ℕ). eqb k 4 && not (containsSingle paths)) (sym (told .1 ∙ count-is b (valid-width b ok) (valid-height b ok) m em counts ec cell (found-on .col) (found-on .row)))
+        ∙ ap (λ (k : ℕ). eqb k 4 && not (containsSingle paths)) (sym (told .1))
         ∙ sym f
 
 module _ (b : Board) (paths : List Path) (old : List ℕ) where

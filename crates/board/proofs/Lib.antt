@@ -5,5 +5,6 @@ pub mod MadeLaws
 pub mod WalkLaws
 pub mod ChoiceLaws
 pub mod PlacingLaws
+pub mod FitForLaws
 pub mod FoundLaws
 pub mod AnswerLaws

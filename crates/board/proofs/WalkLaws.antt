@@ -27,11 +27,11 @@ use Rattle.direction.specs.DirectionLaws.{by-code, onCode-given, opposite-lt}
 use Rattle.tile.specs.Path.{Path}
 use Rattle.board.specs.declared.walk.Place.{Place}
 use Rattle.board.specs.declared.walk.Place.the-variants as P
-use Rattle.board.specs.declared.walk.Fit.{Fit}
-use Rattle.board.specs.declared.walk.Fit.the-variants as F
+use Rattle.board.specs.declared.Fit.{Fit}
+use Rattle.board.specs.declared.Fit.the-variants as F
 use Rattle.board.specs.Board.{cellOf, below, inside}
-use Rattle.board.specs.Children.{cover, moved, offset, pointAt}
-use Rattle.board.specs.Inner.{freeIn, back, onward, walked, placeIf, fitPieces}
+use Rattle.board.specs.Children.{cover, moved, offset, pointAt, fitPieces}
+use Rattle.board.specs.Inner.{freeIn, back, onward, walked, placeIf}
 use Rattle.board.specs.BoardLaws.{inside-parts, inside-iff}
 use Rattle.board.specs.FitLaws.{cover-free, cover-blocked, cover-end, cover-append, walked-moved}
 

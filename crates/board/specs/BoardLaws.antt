@@ -101,7 +101,7 @@ isMarked-marks b c h = go (hasCell (b .fixed) c) (hasCell (b .laid) c) refl refl
 
 -- ---- an accepted board
 
-sizeOk-le : (w h : ℕ) → So (sizeOk w h) → (w ≤ 16) × (h ≤ 16)
+pub sizeOk-le : (w h : ℕ) → So (sizeOk w h) → (w ≤ 16) × (h ≤ 16)
 unfolding sizeOk
 sizeOk-le w h = go (eqb w 0 && eqb h 0) refl
   where

@@ -11,19 +11,24 @@ use lib.Dec.{eqb, ltb, leb}
 use lib.IntN.{_+ℤ_, negℤ}
 use lib.ListN.{length, getD, take}
 use Rattle.cells.specs.Set.{hasCell, withCell, unionOf}
+use Rattle.cells.specs.Words.{value}
 use Rattle.cells.specs.Firsts.{any, firsts}
 use Rattle.cells.specs.Arrays.{listOf}
 use Rattle.cells.specs.Lists.{wordsFor, storedIn}
 use Rattle.tile.specs.declared.Tiles.{Tiles}
-use Rattle.refusal.specs.Refusal.{Answer, refused, given, mapAnswer, bindAnswer, refusalNumber, valueOr}
+use Rattle.refusal.specs.Refusal.{Answer, refused, given, mapAnswer, bindAnswer, refusalNumber, refusalOf, valueOr}
 use Rattle.direction.specs.Position.{Position, at, origin, shift}
 use Rattle.direction.specs.Direction.{step}
 use Rattle.tile.specs.Path.{Path, points, cells, containsSingle}
-use Rattle.tile.specs.Stored.{readTiles}
+use Rattle.tile.specs.Stored.{readPath, readTiles}
 use Rattle.board.specs.declared.RectangularBoard.{RectangularBoard}
+use Rattle.board.specs.declared.ChosenCell.{ChosenCell}
+use Rattle.board.specs.declared.ChosenCell.the-variants as H
+use Rattle.board.specs.declared.Fit.{Fit}
+use Rattle.board.specs.declared.Fit.the-variants as F
 use Rattle.board.specs.declared.Children.{Children}
 use Rattle.board.specs.declared.Children.the-variants as C
-use Rattle.board.specs.Board.{Board, cellOf, positionOf, inside, marks, freeAt, isFree, readBoard}
+use Rattle.board.specs.Board.{Board, boardAt, cellOf, positionOf, inside, marks, freeAt, isFree, sizeOk, readBoard}
 
 -- ---- neighbour counts
 
@@ -153,6 +158,10 @@ unfoldable pub children : Board → List Path → List ℕ
 unfolding pruned childrenOn chosen
 children b paths = cond (pruned b paths) [] (childrenOn b paths (chosen b))
 
+-- the children of the board with some marks, of a start and some tiles
+abbrev pub childrenAt : Board → List Path → ℕ → List ℕ
+childrenAt b paths n = children (boardAt b n) paths
+
 -- ---- `place_tile`
 
 -- refusal 4 of the board, then 6 and 5 of the tiles
@@ -179,6 +188,34 @@ pub record PlacesTiles (b : RectangularBoard) (ts : Tiles) (old new : List ℕ) 
 pub record WritesChildren (b : RectangularBoard) (ts : Tiles) (old new : List ℕ) (r : Children) : Type 0 where
   pub answer : childrenAnswer r ≡ mapAnswer length (placeTile b ts (length old))
   pub words : new ≡ storedIn (take (length old / 4) (valueOr [] (childrenOf b ts))) old
+
+-- ---- `chosen_cell` and `tile_fits_at_position`: what the children are made of, one by one
+
+-- a cell and its neighbour count
+unfoldable pub withCount : Board → Option ℕ → Option (ℕ × ℕ)
+unfolding neighbourCount
+withCount b none = none
+withCount b (some cell) = some (cell, countOf b cell)
+
+-- the chosen cell and its neighbour count; none for a full board
+unfoldable pub chosenCount : Board → Option (ℕ × ℕ)
+unfolding withCount chosen
+chosenCount b = withCount b (chosen b)
+
+abbrev pub chosenAnswer : ChosenCell → Answer (Option (ℕ × ℕ))
+chosenAnswer (H.Cell cell count) = given (some (cell, count))
+chosenAnswer H.Full = given none
+chosenAnswer (H.Refused r) = refused (refusalNumber r)
+
+-- the piece that some codes make as a path, with point j on a cell; none for a size that no board has, for codes that refusal 5 names, and for a
+-- point that the path does not have
+unfoldable pub fitFor : Board → List ℕ → ℕ → ℕ → List ℕ
+unfolding sizeOk readPath refusalOf fitAt
+fitFor b codes j cell = cond (sizeOk (b .width) (b .height) && (eqb (refusalOf (readPath codes)) 0 && leb j (length codes))) (fitAt b codes j cell) []
+
+abbrev pub fitPieces : Fit → List ℕ
+fitPieces (F.Piece w0 w1 w2 w3) = value (w0 ∷ w1 ∷ w2 ∷ w3 ∷ []) ∷ []
+fitPieces F.Nothing = []
 
 -- ---- words that the laws use
 

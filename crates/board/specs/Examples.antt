@@ -1,5 +1,5 @@
--- The definitions compute: the sizes that 01's section Boards names, line by line, the children of small boards, and what `place_tile` answers.
--- Assumes nothing.
+-- The definitions compute: the sizes that 01's section Boards names, line by line, the children of small boards, what they are made of one by one, and
+-- what `place_tile` answers. Assumes nothing.
 use mathlib.Core.Path.{_≡_, refl}
 use mathlib.Core.Bool.{true, false}
 use mathlib.Core.List.{List, [], _∷_, map}
@@ -10,12 +10,12 @@ use Rattle.cells.specs.Words.{number}
 use Rattle.cells.specs.Lists.{wordsFor}
 use Rattle.tile.specs.declared.Tiles.{Tiles}
 use Rattle.refusal.specs.Refusal.{Answer, refused, given, mapAnswer}
-use Rattle.direction.specs.Direction.{rotate, reflect}
+use Rattle.direction.specs.Direction.{step, rotate, reflect}
 use Rattle.tile.specs.Path.{Path, orbit}
 use Rattle.tile.specs.Stored.{tilesOf}
 use Rattle.board.specs.declared.RectangularBoard.{RectangularBoard}
 use Rattle.board.specs.Board.{Board, newBoard, lBoard, tBoard, valid, freeCount, isFull, readBoard}
-use Rattle.board.specs.Children.{neighbourCount, countOf, chosen, pruned, children, placeTile}
+use Rattle.board.specs.Children.{neighbourCount, countOf, chosen, pruned, children, placeTile, chosenCount, fitFor}
 
 -- ---- sizes: width, height and fixed marks
 
@@ -116,6 +116,23 @@ lower = 31 * 2 ^ 16
 point-order : children (board 5 2 (lower - 2 ^ 18) (2 ^ 18)) ((3 ∷ 3 ∷ []) ∷ []) ≡ (28 + lower) ∷ (14 + lower) ∷ (7 + lower) ∷ []
 unfolding children
 point-order = refl
+
+-- ---- `chosen_cell` and `tile_fits_at_position`
+
+-- a full board has no chosen cell; otherwise the cell and its count: an edge cell, and the middle of the ring
+chosen-counts : (chosenCount (board 1 1 0 1) ≡ none) × (chosenCount (board 3 2 1 0) ≡ some (16, 1)) × (chosenCount (board 3 3 0 ring) ≡ some (17, 4))
+unfolding chosenCount
+chosen-counts = (refl, refl, refl)
+
+-- Right with point 1 on (0, 1) covers both cells of 2 by 1; with point 0 there it leaves the board
+one-fit : (fitFor (board 2 1 0 0) (3 ∷ []) 1 1 ≡ 3 ∷ []) × (fitFor (board 2 1 0 0) (3 ∷ []) 0 1 ≡ [])
+unfolding fitFor step
+one-fit = (refl, refl)
+
+-- nothing fits a board 17 wide, with a code 9, with point 2 of a path of one step, or on a cell outside
+no-fits : fitFor (board 17 1 0 0) (3 ∷ []) 1 1 ∷ fitFor (board 2 1 0 0) (9 ∷ []) 1 1 ∷ fitFor (board 2 1 0 0) (3 ∷ []) 2 0 ∷ fitFor (board 2 1 0 0) (3 ∷ []) 1 2 ∷ [] ≡ [] ∷ [] ∷ [] ∷ [] ∷ []
+unfolding fitFor step
+no-fits = refl
 
 -- ---- `place_tile`
 

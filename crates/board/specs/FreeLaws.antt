@@ -10,7 +10,7 @@ use native.Mathlib.Omega.{arith}
 use borrow.Author.Tests.{not-true}
 use Rattle.cells.specs.Set.{bit, hasCell, Disjoint, size}
 use Rattle.cells.specs.BitLaws.{bit-le, bit-ext, bit-high, zero-bit, bit-add, add-lt, fromBits-lt}
-use Rattle.cells.specs.SetLaws.{hasCell-iff, hasCell-false, size-add}
+use Rattle.cells.specs.SetLaws.{hasCell-iff, hasCell-false, size-le, size-add}
 use Rattle.direction.specs.Position.{Position, origin, shift}
 use Rattle.tile.specs.EqualLaws.{cells-origin}
 use Rattle.tile.specs.Path.{Path, cellCount}
@@ -23,6 +23,11 @@ use Rattle.board.specs.PieceLaws.{piece-cell, size-piece}
 use Rattle.board.specs.ChildLaws.{piece-lt, piece-apart, marks-lay, lay-valid}
 
 -- ---- free cells and marks
+
+-- there are at most 256
+pub free-le : (b : Board) → freeCount b ≤ 256
+unfolding freeCount
+free-le b = size-le (freeSet b)
 
 -- 1 for a cell of the rectangle, else 0
 abbrev inBit : Board → ℕ → ℕ

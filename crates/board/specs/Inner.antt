@@ -9,7 +9,6 @@ use lib.Dec.{eqb, leb}
 use lib.IntN.{natAbs}
 use lib.ListN.{length, getD, take, drop}
 use Rattle.cells.specs.Set.{hasCell}
-use Rattle.cells.specs.Words.{value}
 use Rattle.cells.specs.Lists.{storedIn}
 use Rattle.refusal.specs.declared.Refusal.the-variants as R
 use Rattle.direction.specs.Position.{Position, shift}
@@ -19,8 +18,6 @@ use Rattle.board.specs.declared.Children.{Children}
 use Rattle.board.specs.declared.Children.the-variants as C
 use Rattle.board.specs.declared.walk.Place.{Place}
 use Rattle.board.specs.declared.walk.Place.the-variants as P
-use Rattle.board.specs.declared.walk.Fit.{Fit}
-use Rattle.board.specs.declared.walk.Fit.the-variants as F
 use Rattle.board.specs.declared.choice.Chosen.{Chosen}
 use Rattle.board.specs.declared.choice.Chosen.the-variants as H
 use Rattle.board.specs.declared.placing.Stored.{Stored}
@@ -54,11 +51,6 @@ walked path j p = p ∷ back p path j ++ onward p (drop j path)
 -- the place at a position of which a test holds
 unfoldable pub placeIf : (Position → Bool) → Position → Place
 placeIf test p = cond (test p) (P.At (natAbs (p .row)) (natAbs (p .col))) P.Nowhere
-
--- the piece, or none
-abbrev pub fitPieces : Fit → List ℕ
-fitPieces (F.Piece w0 w1 w2 w3) = value (w0 ∷ w1 ∷ w2 ∷ w3 ∷ []) ∷ []
-fitPieces F.Nothing = []
 
 -- a best cell and its count
 abbrev pub foundOf : (ℕ → ℕ) → Option ℕ → Chosen

@@ -1,13 +1,15 @@
 -- Laws of pieces: the cells at positions of the rectangle; a fit with a point on a cell is a piece over the cell, and every piece over it is one; so
--- `pieces` has exactly the pieces over a cell, each once; how many there can be; how many cells a piece has. Rests on `FitLaws`. Assumes nothing.
+-- `pieces` has exactly the pieces over a cell, each once; how many there can be; how many cells a piece has; that no fit stands on a cell outside;
+-- and what `fitFor` is. Rests on `FitLaws`. Assumes nothing.
 use mathlib.Core.Path.{_≡_, refl, sym, ap, _∙_, subst}
 use mathlib.Core.Logic.{_↔_}
-use mathlib.Core.Bool.{So}
+use mathlib.Core.Bool.{Bool, true, false, So, cond, _&&_, false≢true, and-false}
 use mathlib.Core.List.{List, [], _∷_, flatMap, List·Memᴰ as Mem, List·Memᴰ·head as here, List·Memᴰ·tail as there, Memᴰ·cast as cast, Memᴰ·map as mem-map, Memᴰ·of-map as of-map}
 use Prim.Native.Nat.{ℕ, _+_, _≤_, _<_}
 use native.Mathlib.Decide.{decLt}
 use native.Mathlib.Omega.{arith}
-use lib.Dec.{eqb}
+use borrow.Author.Tests.{le-leb, lt-leb, leb-true, ne-eqb}
+use lib.Dec.{eqb, leb}
 use lib.ListN.{length, length-append, length-map}
 use Rattle.cells.specs.Set.{bit, hasCell, withCell, size}
 use Rattle.cells.specs.BitLaws.{zero-bit}
@@ -21,8 +23,10 @@ use Rattle.direction.specs.PositionLaws.{samePosition-iff}
 use Rattle.direction.specs.Direction.{step}
 use Rattle.tile.specs.Path.{Path, points, cells, cellCount}
 use Rattle.tile.specs.PathLaws.{cells-shift}
-use Rattle.board.specs.Board.{Board, cellOf, positionOf, inside, freeAt}
-use Rattle.board.specs.Children.{withCells, cover, moved, offset, pointAt, Fits, IsPiece, fitAt, fitsOf, pieces, mostChildren}
+use Rattle.refusal.specs.Refusal.{refusalOf}
+use Rattle.tile.specs.Stored.{readPath}
+use Rattle.board.specs.Board.{Board, cellOf, positionOf, inside, freeAt, sizeOk}
+use Rattle.board.specs.Children.{withCells, cover, moved, offset, pointAt, Fits, IsPiece, fitAt, fitsOf, pieces, fitFor, mostChildren}
 use Rattle.board.specs.BoardLaws.{cellOf-lt, positionOf-cellOf, cellOf-inj, cellOf-positionOf, freeAt-inside}
 use Rattle.board.specs.FitLaws.{mem-cover, length-cover, bit-withCells-past, bit-withCells-new, bit-withCells-iff, offset-takes, offset-only}
 use Rattle.cells.specs.MemberLaws.{eqb-tells, mem-place, mem-listOf, mem-flatMap, length-flatMap}
@@ -53,6 +57,22 @@ pub fitAt-piece : (b : Board) (path : Path) (j cell n : ℕ) → Mem n (fitAt b 
 unfolding fitAt
 fitAt-piece b path j cell n m = mem-cover (freeAt b) 0 (moved (offset (pointAt path j) (positionOf cell)) path) n .0 m
 
+-- point j stands on the cell, which therefore is in the rectangle
+module _ (b : Board) (path : Path) (j cell : ℕ) (h : j ≤ length path) where
+  fitAt-on : Mem (positionOf cell) (moved (offset (pointAt path j) (positionOf cell)) path)
+  fitAt-on =
+      cast (sym (offset-takes (pointAt path j) (positionOf cell))) (point-moved path j (offset (pointAt path j) (positionOf cell)) h)
+
+  fitAt-inside : (n : ℕ) → Mem n (fitAt b path j cell) → So (inside (b .width) (b .height) (positionOf cell))
+  fitAt-inside n m = freeAt-inside b (positionOf cell) (fitAt-piece b path j cell n m .0 (positionOf cell) fitAt-on)
+
+  pub fitAt-outside : inside (b .width) (b .height) (positionOf cell) ≡ false → fitAt b path j cell ≡ []
+  fitAt-outside e = go (fitAt b path j cell) refl
+    where
+      go : (ns : List ℕ) → fitAt b path j cell ≡ ns → ns ≡ []
+      go [] q = refl
+      go (n ∷ ns) q = absurd (false≢true (sym e ∙ fitAt-inside n (subst (Mem n) (sym q) (here refl))))
+
 module _ (b : Board) (hw : b .width ≤ 16) (hh : b .height ≤ 16) where
   fits-inside : (path : Path) (d p : Position) → Fits b path d → Mem p (moved d path) → So (inside (b .width) (b .height) p)
   fits-inside path d p f m = freeAt-inside b p (f p m)
@@ -60,12 +80,10 @@ module _ (b : Board) (hw : b .width ≤ 16) (hh : b .height ≤ 16) where
   pub fitAt-over : (path : Path) (j cell n : ℕ) → j ≤ length path → Mem n (fitAt b path j cell) → So (hasCell n cell)
   fitAt-over path j cell n h m =
       let d : Position = offset (pointAt path j) (positionOf cell) in
-      let fit = fitAt-piece b path j cell n m in
-      let on : Mem (positionOf cell) (moved d path) = cast (sym (offset-takes (pointAt path j) (positionOf cell))) (point-moved path j d h) in
-      let small : cellOf (positionOf cell) < 256 = cellOf-lt (b .width) (b .height) (positionOf cell) (fits-inside path d (positionOf cell) (fit .0) on) hw hh in
+      let small : cellOf (positionOf cell) < 256 = cellOf-lt (b .width) (b .height) (positionOf cell) (fitAt-inside b path j cell h n m) hw hh in
       let set : bit (withCells 0 (moved d path)) cell ≡ 1 =
-      ap (bit (withCells 0 (moved d path))) (sym (cellOf-positionOf cell)) ∙ bit-withCells-new 0 (moved d path) (positionOf cell) on small in
-      hasCell-iff n cell .1 (ap (λ (x : ℕ). bit x cell) (fit .1) ∙ set)
+      ap (bit (withCells 0 (moved d path))) (sym (cellOf-positionOf cell)) ∙ bit-withCells-new 0 (moved d path) (positionOf cell) (fitAt-on b path j cell h) small in
+      hasCell-iff n cell .1 (ap (λ (x : ℕ). bit x cell) (fitAt-piece b path j cell n m .1) ∙ set)
 
   -- a cell of a piece is that of a moved cell of the tile
   pub piece-cell : (path : Path) (d : Position) → Fits b path d → (cell : ℕ) → So (hasCell (withCells 0 (moved d path)) cell) → Mem (positionOf cell) (moved d path)
@@ -85,6 +103,36 @@ module _ (b : Board) (hw : b .width ≤ 16) (hh : b .height ≤ 16) where
       let same : d ≡ offset (pointAt path (r .0)) (positionOf cell) = offset-only (pointAt path (r .0)) (positionOf cell) d (r .2) in
       let fit : Mem (withCells 0 (moved d path)) (cover (freeAt b) 0 (moved d path)) = mem-cover (freeAt b) 0 (moved d path) (withCells 0 (moved d path)) .1 (f, refl) in
       (r .0, r .1, subst (λ (x : Position). Mem (withCells 0 (moved d path)) (cover (freeAt b) 0 (moved x path))) same fit)
+
+-- ---- `fitFor`: the fit where size, codes and point are right, and none otherwise
+
+module _ (b : Board) (codes : List ℕ) (j cell : ℕ) where
+  pub fitFor-size : sizeOk (b .width) (b .height) ≡ false → fitFor b codes j cell ≡ []
+  unfolding fitFor
+  fitFor-size e = rw e
+
+  pub fitFor-refused : 0 < refusalOf (readPath codes) → fitFor b codes j cell ≡ []
+  unfolding fitFor
+  fitFor-refused h = rw (ne-eqb (refusalOf (readPath codes)) 0 (λ e. omega arith), and-false (sizeOk (b .width) (b .height)))
+
+  pub fitFor-point : length codes < j → fitFor b codes j cell ≡ []
+  unfolding fitFor
+  fitFor-point h =
+      rw (lt-leb j (length codes) h, and-false (eqb (refusalOf (readPath codes)) 0), and-false (sizeOk (b .width) (b .height)))
+
+  pub fitFor-outside : inside (b .width) (b .height) (positionOf cell) ≡ false → fitFor b codes j cell ≡ []
+  unfolding fitFor
+  fitFor-outside e = go (leb j (length codes)) refl (sizeOk (b .width) (b .height)) (eqb (refusalOf (readPath codes)) 0)
+    where
+      go : (t : Bool) → leb j (length codes) ≡ t → (r s : Bool) → cond (r && (s && t)) (fitAt b codes j cell) [] ≡ []
+      go true q true true = fitAt-outside b codes j cell (leb-true j (length codes) q) e
+      go t q true false = refl
+      go t q false s = refl
+      go false q true true = refl
+
+  pub fitFor-fit : So (sizeOk (b .width) (b .height)) → 0 ≡ refusalOf (readPath codes) → j ≤ length codes → fitFor b codes j cell ≡ fitAt b codes j cell
+  unfolding fitFor
+  fitFor-fit s e h = rw (s, ← e, le-leb j (length codes) h)
 
 -- ---- the pieces on a cell
 

@@ -1,10 +1,12 @@
-// Neighbour counts and the chosen cell. Private helpers; they ask that the size has been tested.
+// Neighbour counts and the chosen cell. Private helpers; they ask that the size has been tested, the
+// last of them that the board has.
+use crate::RectangularBoard;
 use crate::shape;
 use crate::walk;
 use crate::walk::Place;
 use cells::Cells;
 ghost use mathlib.Core.Path.{_≡_};
-ghost use mathlib.Core.Bool.{not, _||_};
+ghost use mathlib.Core.Bool.{true, not, _||_};
 ghost use mathlib.Core.List.{[], _∷_};
 ghost use mathlib.Core.Option.{Option, none};
 ghost use Prim.Native.Nat.{ℕ, _+_, _*_, _≤_, _<_};
@@ -13,7 +15,8 @@ ghost use lib.ListN.{getD};
 ghost use Rattle.cells.specs.Set.{hasCell};
 ghost use Rattle.cells.specs.Words.{number};
 ghost use Rattle.cells.specs.Arrays.{listOf};
-ghost use Rattle.board.specs.Children.{one, outer, laidBeside, neighbourCount, columns, bestOf};
+ghost use Rattle.board.specs.Board.{boardOf, valid};
+ghost use Rattle.board.specs.Children.{one, outer, laidBeside, neighbourCount, countOf, columns, bestOf, chosen};
 ghost use Rattle.board.specs.Inner.{foundOf};
 
 // The best cell so far and its count; none where no free cell was seen.
@@ -79,7 +82,7 @@ fn count_at(laid: Cells, width: usize, height: usize, cell: usize) -> u8
 }
 
 // The neighbour counts of the 256 cells.
-pub fn neighbour_counts(laid: Cells, width: usize, height: usize) -> [u8; 256]
+fn neighbour_counts(laid: Cells, width: usize, height: usize) -> [u8; 256]
     requires { ⌜ (width ≤ 16) × (height ≤ 16) ⌝ }
     ensures { λ r. ⌜ r ≡ listOf (neighbourCount width height (number laid)) 256 ⌝ }
 {
@@ -127,7 +130,7 @@ fn scan_column(marks: Cells, counts: &[u8; 256], height: usize, col: usize, best
 }
 
 // The free cell with the highest count, the first by columns and then by rows.
-pub fn choose(marks: Cells, counts: &[u8; 256], width: usize, height: usize) -> Chosen
+fn choose(marks: Cells, counts: &[u8; 256], width: usize, height: usize) -> Chosen
     requires { ⌜ (width ≤ 16) × (height ≤ 16) ⌝ }
     ensures { λ r. ⌜ r ≡ foundOf (λ c. getD (now (counts .entry)) c 0) (bestOf (λ c. not (hasCell (number marks) c)) (λ c. getD (now (counts .entry)) c 0) none (columns height width)) ⌝ }
 {
@@ -138,4 +141,15 @@ pub fn choose(marks: Cells, counts: &[u8; 256], width: usize, height: usize) -> 
         col += 1;
     }
     found
+}
+
+// The chosen cell of a board and its count.
+pub fn chosen_cell(board: RectangularBoard) -> Chosen
+    requires { ⌜ valid (boardOf board) ≡ true ⌝ }
+    ensures { λ r. ⌜ r ≡ foundOf (countOf (boardOf board)) (chosen (boardOf board)) ⌝ }
+{
+    let marked = board.marks();
+    let laid = board.laid;
+    let counts = neighbour_counts(laid, board.width, board.height);
+    choose(marked, &counts, board.width, board.height)
 }

@@ -1,22 +1,24 @@
 // Boards: the port of the Rust's board.rs. A board has at most 16 by 16 cells, a size, and two sets
 // of marks, fixed ones and laid ones (Vec<Vec<bool>> in the Rust).
 //
-// The struct holds any numbers, and nothing is asked of a caller: the calls that count cells or place
-// tiles test the board and refuse (4); `marks` and `mark_tile_at_position` are unions of sets, which
-// any numbers have. What each call answers is a definition of specs/: Board.antt for boards,
-// Children.antt for the children of a board.
+// The struct holds any numbers, and nothing is asked of a caller: the calls that count cells, choose
+// one or give children test the board and refuse (4); `marks` and `mark_tile_at_position` are unions of
+// sets, which any numbers have, and `tile_fits_at_position` tests no marks. What each call answers is a
+// definition of specs/: Board.antt for boards, Children.antt for the children of a board.
 use cells::Cells;
 use cells::list;
+use choice::Chosen;
 use placing::Stored;
 use refusal::Refusal;
 use refusal::Verdict;
+use tile::Tile;
 use tile::Tiles;
 ghost use mathlib.Core.Path.{_≡_};
 ghost use mathlib.Core.List.{[], _∷_};
 ghost use Rattle.cells.specs.Words.{value, number};
 ghost use Rattle.refusal.specs.Refusal.{mapAnswer, refusalOf, verdictNumber};
 ghost use Rattle.board.specs.Board.{noBoard, boardOf, marks, freeCount, isFull, readBoard, shaped, newBoard, lBoard, tBoard, MakesBoard, freeCellsAnswer, allMarkedAnswer};
-ghost use Rattle.board.specs.Children.{lay, childrenOf, PlacesTiles, WritesChildren};
+ghost use Rattle.board.specs.Children.{chosenCount, chosenAnswer, fitFor, fitPieces, lay, childrenOf, PlacesTiles, WritesChildren};
 ghost use Rattle.board.specs.Inner.{earlierOf, storedAnswer};
 
 mod choice;
@@ -46,6 +48,19 @@ pub enum FreeCells {
 pub enum AllMarked {
     Is(bool),
     Refused(Refusal),
+}
+
+// The chosen cell and its neighbour count; full where no cell is free.
+pub enum ChosenCell {
+    Cell(usize, u8),
+    Full,
+    Refused(Refusal),
+}
+
+// The set of cells that a tile covers, in four words, or nothing where it does not fit.
+pub enum Fit {
+    Piece(u64, u64, u64, u64),
+    Nothing,
 }
 
 // The number of children that were written.
@@ -138,6 +153,53 @@ impl RectangularBoard {
             return AllMarked::Refused(Refusal::BadBoard);
         };
         AllMarked::Is(shape::free_count(self) == 0)
+    }
+
+    // The free cell with the highest neighbour count, the first by columns and then by rows.
+    pub fn chosen_cell(self) -> ChosenCell
+        ensures { λ r. ⌜ chosenAnswer r ≡ mapAnswer chosenCount (readBoard self) ⌝ }
+    {
+        let Verdict::Accepted = self.check() else {
+            return ChosenCell::Refused(Refusal::BadBoard);
+        };
+        let found = choice::chosen_cell(self);
+        match found {
+            Chosen::Cell(cell, count) => ChosenCell::Cell(cell, count),
+            Chosen::Full => ChosenCell::Full,
+        }
+    }
+
+    // The piece that a tile's path makes with point start on a cell. Nothing fits on a size that no
+    // board has or on a cell outside, and nothing is made of a path that no tile has or by a point that
+    // the path does not have. The marks are not tested: whatever they are, each cell is free or not.
+    pub fn tile_fits_at_position(self, path: &[u8], start: usize, cell: usize) -> Fit
+        ensures { λ r. ⌜ fitPieces r ≡ fitFor (boardOf self) (now (path .entry)) start cell ⌝ }
+    {
+        let width = self.width;
+        let height = self.height;
+        if path.len() < start {
+            return Fit::Nothing;
+        }
+        if !shape::size_ok(width, height) {
+            return Fit::Nothing;
+        }
+        if !shape::is_inside(width, height, cell) {
+            return Fit::Nothing;
+        }
+        let made = Tile::new(path);
+        let verdict = made.verdict;
+        let Verdict::Accepted = verdict else {
+            return Fit::Nothing;
+        };
+        walk::tile_fits_at_position(
+            self.marks(),
+            width,
+            height,
+            path,
+            start,
+            cell / 16,
+            cell % 16,
+        )
     }
 
     // The board with the cells of a piece, four words, laid.

@@ -1,10 +1,10 @@
 // The children of a board, written into lent words in order, equal ones once. Private helpers; they
 // ask that board and tiles have been tested.
+use crate::Fit;
 use crate::RectangularBoard;
 use crate::choice;
 use crate::choice::Chosen;
 use crate::walk;
-use crate::walk::Fit;
 use cells::Cells;
 use cells::list;
 use tile::Contains;
@@ -142,15 +142,12 @@ pub fn add_children(out: &mut [u64], board: RectangularBoard, tiles: Tiles) -> S
     requires { ⌜ (valid (boardOf board) ≡ true) × (readTiles tiles ≡ given (pathsIn tiles)) × (tiles .count ≤ 64) ⌝ }
     ensures { λ r. ⌜ Keeps (now (out .entry)) (children (boardOf board) (pathsIn tiles)) (now (out .exit)) r ⌝ }
 {
-    let marked = board.marks();
-    let laid = board.laid;
-    let counts = choice::neighbour_counts(laid, board.width, board.height);
-    let chosen = choice::choose(marked, &counts, board.width, board.height);
-    let Chosen::Cell(cell, count) = chosen else {
+    let found = choice::chosen_cell(board);
+    let Chosen::Cell(cell, count) = found else {
         return Stored::Number(0);
     };
     if is_pruned(count, tiles) {
         return Stored::Number(0);
     }
-    add_tiles(out, board, marked, tiles, cell)
+    add_tiles(out, board, board.marks(), tiles, cell)
 }

@@ -1,6 +1,7 @@
 // Steps over the board, and the fit: where a tile lies with one point of its path on a cell. Row
 // and column are signed while they are stepped, and compared with nought before use. Private
 // helpers; they ask that the size and the codes have been tested.
+use crate::Fit;
 use cells::Cells;
 use direction::Code;
 use direction::Offset;
@@ -14,19 +15,13 @@ ghost use Rattle.direction.specs.Position.{at, shift};
 ghost use Rattle.direction.specs.Direction.{step, opposite};
 ghost use Rattle.tile.specs.Path.{codesOk};
 ghost use Rattle.board.specs.Board.{inside};
-ghost use Rattle.board.specs.Children.{cover, moved, offset, pointAt};
-ghost use Rattle.board.specs.Inner.{freeIn, placeIf, back, onward, fitPieces};
+ghost use Rattle.board.specs.Children.{cover, moved, offset, pointAt, fitPieces};
+ghost use Rattle.board.specs.Inner.{freeIn, placeIf, back, onward};
 
 // A place of the board by its row and column, or none.
 pub enum Place {
     At(usize, usize),
     Nowhere,
-}
-
-// The set of cells that a tile covers, in four words, or nothing where it does not fit.
-pub enum Fit {
-    Piece(u64, u64, u64, u64),
-    Nothing,
 }
 
 // The place at a position, which may lie off the board.

@@ -72,7 +72,7 @@ module _ {B P : Type 0} (G : Setting B P) (L : Laws G) where
     abbrev Way : B → List B → Type 0
     Way s xs = Steps (λ s t. Mem t (childBoards G s)) s xs v
 
-    -- the pieces of the steps of a child sequence to a full board are a placing sequence
+    -- the pieces of steps over children to a full board are a placing sequence
     steps-sequence : (s : B) (xs : List B) → G .Ok s → So (G .full v) → Way s xs → PlacingSequence G s (piecesFrom (G .stepPiece) s xs)
     steps-sequence s [] ok h w = subst (λ (z : B). So (G .full z)) (sym w) h
     steps-sequence s (t ∷ xs) ok h w =
@@ -90,16 +90,17 @@ module _ {B P : Type 0} (G : Setting B P) (L : Laws G) where
         (steps-unique x xs ys (child-ok s x ok (a .0)) (a .1) (subst (λ (z : B). Way z ys) (sym h) (b .1))
         (tail-eq-of-cons-eq e ∙ ap (λ (z : B). piecesFrom (G .stepPiece) z ys) (sym h)))
 
+  -- and so are those of the child sequence
+  pub children-sequence : (s v : B) (xs : List B) → G .Ok s → So (G .full v) → ChildSequence (childBoards G) s v xs → PlacingSequence G s (piecesOf (G .stepPiece) xs)
+  children-sequence s v [] ok h w = absurd w
+  children-sequence s v (x ∷ xs) ok h w =
+      subst (λ (z : B). PlacingSequence G z (piecesFrom (G .stepPiece) x xs)) (w .0) (steps-sequence v x xs (subst (G .Ok) (sym (w .0)) ok) h (w .1))
+
   -- so a numbering of the child sequences to the full board is one of the placing sequences
   pub sequences-numbered : {n : ℕ} {f : ℕ → List B} (s v : B) → G .Ok s → G .Ok v → So (G .full v)
       → Numbering (ChildSequence (childBoards G) s v) n f → Numbering (PlacingSequence G s) n (λ m. piecesOf (G .stepPiece) (f m))
-  sequences-numbered s v ok okv h F = carry (piecesOf (G .stepPiece)) to inj onto F
+  sequences-numbered s v ok okv h F = carry (piecesOf (G .stepPiece)) (λ xs. children-sequence s v xs ok h) inj onto F
     where
-      to : (xs : List B) → ChildSequence (childBoards G) s v xs → PlacingSequence G s (piecesOf (G .stepPiece) xs)
-      to [] w = absurd w
-      to (x ∷ xs) w =
-          subst (λ (z : B). PlacingSequence G z (piecesFrom (G .stepPiece) x xs)) (w .0) (steps-sequence v x xs (subst (G .Ok) (sym (w .0)) ok) h (w .1))
-
       inj : (xs ys : List B) → ChildSequence (childBoards G) s v xs → ChildSequence (childBoards G) s v ys → piecesOf (G .stepPiece) xs ≡ piecesOf (G .stepPiece) ys → xs ≡ ys
       inj [] ys w u e = absurd w
       inj (x ∷ xs) [] w u e = absurd u

@@ -1,6 +1,7 @@
 -- Laws of refusals and answers: every refusal has a number above 0; an answer with a refusal's number is that refusal; what `mapAnswer` and `bindAnswer` answer.
 -- Assumes nothing.
 use mathlib.Core.Path.{_≡_, refl, sym, ap}
+use mathlib.Core.Logic.{_↔_}
 use Prim.Native.Nat.{ℕ, suc, _<_}
 use native.Mathlib.Omega.{arith}
 use lib.Dec.{lit<}
@@ -55,6 +56,12 @@ module _ {A B : Type 0} where
   unfolding mapAnswer
   map-given f (refused n) y e = absurd (refused-given n y e)
   map-given f (given x) y e = (x, refl, given-inj (f x) y e)
+
+  -- a refusal stays what it is
+  pub map-refused : (f : A → B) (a : Answer A) (n : ℕ) → (mapAnswer f a ≡ refused n) ↔ (a ≡ refused n)
+  unfolding mapAnswer
+  map-refused f (refused m) n = (λ e. ap refused (refused-inj m n e), λ e. ap (mapAnswer f) e)
+  map-refused f (given x) n = (λ e. absurd (refused-given n (f x) (sym e)), λ e. ap (mapAnswer f) e)
 
   -- a value that f answered
   pub bind-given : (a : Answer A) (f : A → Answer B) (y : B) → bindAnswer a f ≡ given y → (x : A) × (a ≡ given x) × (f x ≡ given y)

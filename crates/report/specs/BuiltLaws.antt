@@ -13,12 +13,12 @@ use Rattle.cells.specs.Firsts.{holds}
 use Rattle.cells.specs.MemberLaws.{map-ext}
 use Rattle.cells.specs.Words.{Sound}
 use Rattle.cells.specs.WordLaws.{number-lt}
-use Rattle.cells.specs.SetLaws.{size-le}
 use Rattle.tile.specs.declared.Tiles.{Tiles}
 use Rattle.refusal.specs.Refusal.{given, refusalOf, valueOr}
 use Rattle.tile.specs.Stored.{pathsIn}
 use Rattle.board.specs.declared.RectangularBoard.{RectangularBoard}
-use Rattle.board.specs.Board.{Board, boardOf, freeSet, freeCount}
+use Rattle.board.specs.Board.{boardOf, freeCount}
+use Rattle.board.specs.FreeLaws.{free-le}
 use Rattle.covers.specs.Cuttings.{Setting, Numbering}
 use Rattle.covers.specs.Counts.{Chain, atNode, nodesOf, pathCountOf, graphEdges, graphCount, fullNode, piecesOf, tiling, tilingOf, cuttingAt}
 use Rattle.covers.specs.CountLaws.{tiling-length}
@@ -44,11 +44,6 @@ any-default : {A : Type 0} (xs : List A) (i : ℕ) (a b : A) → i < length xs �
 any-default [] i a b h = absurd (omega arith)
 any-default (x ∷ xs) zero a b h = refl
 any-default (x ∷ xs) (suc i) a b h = any-default xs i a b (omega arith)
-
--- a board has at most 256 free cells
-pub free-le : (b : Board) → freeCount b ≤ 256
-unfolding freeCount
-free-le b = size-le (freeSet b)
 
 module _ (b : RectangularBoard) (fixed : Sound (b .fixed)) (laid : Sound (b .laid)) (ts : Tiles) where
   -- the setting of the board and the tiles, and its start

@@ -12,6 +12,7 @@ use Rattle.cells.specs.ArrayLaws.{length-listOf}
 use Rattle.cells.specs.MemberLaws.{mem-listOf}
 use Rattle.refusal.specs.Refusal.{Answer, refused, given}
 use Rattle.board.specs.Board.{freeCount}
+use Rattle.board.specs.FreeLaws.{free-le}
 use Rattle.board.specs.BoardLaws.{valid-width, valid-height}
 use Rattle.graph.specs.Tilings.{countFromGraph}
 use Rattle.tiler.specs.Counting.{Graph}
@@ -19,7 +20,6 @@ use Rattle.plot_file.specs.Ascii.{ascii}
 use Rattle.plot_file.specs.PlotFile.{Plot}
 use Rattle.report.specs.Report.{plotLayers, plotGraph, listed, nodeListOf, decimal, field, feed, refusedLine, boardLine, tilesLine, layersLine, graphLine, tilingLine, graphLines, plotLines}
 use Rattle.report.specs.DecimalLaws.{decimal-length}
-use Rattle.report.specs.BuiltLaws.{free-le}
 use Rattle.report.specs.CountLaws.{layers-refusals, graph-refusals}
 use Rattle.report.specs.PlotLaws.{AcceptedPlot, layers-small, nodes-few, edges-few, count-fits, nodes-below, nodes-short}
 

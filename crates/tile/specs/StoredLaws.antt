@@ -166,6 +166,14 @@ module _ (p : List ℕ) where
       go (inl (k, h, ok)) = let same : q ≡ p = cc in (same, h, ok)
       go (inr k) = let z : _≡_ {A = ℕ} 0 1 = cc in absurd (omega arith)
 
+  -- an accepted path is one
+  pub readPath-accepted : 0 ≡ refusalOf (readPath p) → (length p ≤ 32) × So (codesOk p)
+  readPath-accepted z = go readPath-cases
+    where
+      go : ((readPath p ≡ given p) × (length p ≤ 32) × So (codesOk p)) ⊎ (readPath p ≡ refused 5) → (length p ≤ 32) × So (codesOk p)
+      go (inl (k, h, ok)) = (h, ok)
+      go (inr k) = absurd (clash (readPath p) k z)
+
   pub readPath-refused : (n : ℕ) → readPath p ≡ refused n → n ≡ 5
   readPath-refused n e = go readPath-cases
     where

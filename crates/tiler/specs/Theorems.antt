@@ -20,7 +20,7 @@ use Rattle.refusal.specs.Refusal.{given, verdictNumber}
 use Rattle.tile.specs.Stored.{pathsIn}
 use Rattle.board.specs.declared.RectangularBoard.{RectangularBoard}
 use Rattle.board.specs.Board.{boardOf, boardAt, isFull}
-use Rattle.board.specs.Children.{children}
+use Rattle.board.specs.Children.{childrenAt}
 use Rattle.covers.specs.Cuttings.{Exactly, childBoards, Laws, EqualSteps}
 use Rattle.covers.specs.Counts.{ChildSequence, counts, entriesOf, graphCount, graphEdges, nodesOf, pathCountOf}
 use Rattle.covers.specs.Theorems.{nodes-are-reached, nodes-by-first-finding, graph-edges-are-children, graph-edges-once, graph-tilings, full-counts-none, none-reached-counts-none, count-is-child-sequences}
@@ -36,17 +36,13 @@ use Rattle.tiler.specs.AcceptedLaws.{accepted-laws, accepted-steps, acce
 use Rattle.tiler.specs.AnswerLaws.{small-counts, node-behind, given-graph, nodes-back, counts-back, edges-back, sound-words, only-start}
 use Rattle.tiler.specs.GivenLaws.{start-accepted, layers-count, graph-is, graph-small, graph-laws, graph-steps, graph-start, nodes-are, nodes-small, graph-sums, graph-room, graph-count, graph-stored, words-count}
 
--- the children of the board of a number: those of `place_tile`
-abbrev pub childrenAt : RectangularBoard → Tiles → ℕ → List ℕ
-childrenAt b ts n = children (boardAt (boardOf b) n) (pathsIn ts)
-
-same-children : (b : RectangularBoard) (ts : Tiles) → childBoards (settingOf b ts) ≡ childrenAt b ts
+same-children : (b : RectangularBoard) (ts : Tiles) → childBoards (settingOf b ts) ≡ childrenAt (boardOf b) (pathsIn ts)
 same-children b ts = fun-ext (children-are (boardOf b) (pathsIn ts))
 
 module _ (b : RectangularBoard) (fixed : Sound (b .fixed)) (laid : Sound (b .laid)) (ts : Tiles) where
   -- "child sequences that reach it": from the start to a board
   abbrev pub Reaches : ℕ → List ℕ → Type 0
-  Reaches t xs = ChildSequence (childrenAt b ts) (startOf b) t xs
+  Reaches t xs = ChildSequence (childrenAt (boardOf b) (pathsIn ts)) (startOf b) t xs
 
   -- ---- 1. The graph that is given
 
@@ -74,7 +70,7 @@ module _ (b : RectangularBoard) (fixed : Sound (b .fixed)) (laid : Sound (b .lai
         (nodes-are-reached (settingOf b ts) laws (startOf b) ok t))
 
     -- "Nodes are numbered by first finding: 0 the board, parents in number order, children in order".
-    pub nodes-in-order : g .nodes ≡ firsts eqb (startOf b ∷ flatMap (childrenAt b ts) (g .nodes))
+    pub nodes-in-order : g .nodes ≡ firsts eqb (startOf b ∷ flatMap (childrenAt (boardOf b) (pathsIn ts)) (g .nodes))
     unfolding setting
     nodes-in-order =
         subst (λ (ch : ℕ → List ℕ). g .nodes ≡ firsts eqb (startOf b ∷ flatMap ch (g .nodes))) (same-children b ts)
@@ -83,11 +79,11 @@ module _ (b : RectangularBoard) (fixed : Sound (b .fixed)) (laid : Sound (b .lai
 
     -- "Edges are (parent, child)": there is one from a node to each child of its board, and no other.
     pub edges-are-children : (p c : ℕ) → Mem (p, c) (g .edges)
-        ↔ ((p < length (g .nodes)) × (c < length (g .nodes)) × Mem (getD (g .nodes) c (startOf b)) (childrenAt b ts (getD (g .nodes) p (startOf b))))
+        ↔ ((p < length (g .nodes)) × (c < length (g .nodes)) × Mem (getD (g .nodes) c (startOf b)) (childrenAt (boardOf b) (pathsIn ts) (getD (g .nodes) p (startOf b))))
     unfolding graphOf
     edges-are-children p c =
         subst (λ (k : Graph). Mem (p, c) (k .edges)
-        ↔ ((p < length (k .nodes)) × (c < length (k .nodes)) × Mem (getD (k .nodes) c (startOf b)) (childrenAt b ts (getD (k .nodes) p (startOf b))))) is
+        ↔ ((p < length (k .nodes)) × (c < length (k .nodes)) × Mem (getD (k .nodes) c (startOf b)) (childrenAt (boardOf b) (pathsIn ts) (getD (k .nodes) p (startOf b))))) is
         (subst (λ (ch : ℕ → List ℕ). Mem (p, c) (graphEdges (settingOf b ts) (startOf b))
         ↔ ((p < length (nodesOf (settingOf b ts) (startOf b))) × (c < length (nodesOf (settingOf b ts) (startOf b)))
         × Mem (getD (nodesOf (settingOf b ts) (startOf b)) c (startOf b)) (ch (getD (nodesOf (settingOf b ts) (startOf b)) p (startOf b))))) (same-children b ts)

@@ -2,7 +2,7 @@
 -- Assumes nothing.
 use mathlib.Core.Path.{sym, ap, _∙_}
 use Rattle.board.specs.Board.{marks}
-use Rattle.board.specs.Inner.{fitPieces}
+use Rattle.board.specs.Children.{fitPieces}
 use Rattle.board.proofs.PlacingLaws.{fit-is, fit-none, fit-one}
 use borrow.Author.Needs.{needs}
 use Rattle.board.proofs.placing.add_fit.Statement.{statement}
