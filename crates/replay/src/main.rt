@@ -1,12 +1,12 @@
-// Reads commands from standard input, one a line, and writes what crates tile, board, graph, tiler and
-// report answer, one line each: the file stdout has the answers of the Rust for the commands of the file
-// stdin. The commands tiling, which the Rust has not, have those of a model of document 01, and in the
-// answers to the commands plot the reading of the file is by document 01.
+// Reads commands from standard input, one a line, and writes what crates tile, board, graph, tiler,
+// single_tiling and report answer, one line each: the file stdout has the answers of the Rust for the
+// commands of the file stdin. The commands tiling, which the Rust has not, have those of a model of
+// document 01, and in the answers to the commands plot the reading of the file is by document 01.
 //
 // A line has fields parted by one blank, the first of them the command. A path is digits 0 to 7,
 // `-` for the empty one; tiles are paths joined by commas, `.` for none. Marks are a hexadecimal
 // number with no zeros in front, cell (row, column) being bit 16 * row + column. Another command is
-// a function of commands.rt, counts.rt, tilings.rt or plots.rt and a line of `answer`.
+// a function of commands.rt, counts.rt, tilings.rt, single.rt or plots.rt and a line of `answer`.
 use text::field;
 use text::find;
 use text::same;
@@ -16,6 +16,7 @@ ghost use lib.ListN.{length};
 mod commands;
 mod counts;
 mod plots;
+mod single;
 mod text;
 mod tilings;
 mod write;
@@ -138,6 +139,8 @@ fn answer(line: &[u8]) {
         tilings::tilings(line);
     } else if same(command, b"tiling") {
         tilings::tiling(line);
+    } else if same(command, b"one") {
+        single::one(line);
     } else if same(command, b"plot") {
         plots::plot(line);
     } else {
