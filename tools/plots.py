@@ -341,16 +341,36 @@ def cut_cells(draws, plot):
     return found
 
 
-def counted_plot(draws, most):
+def cell_numbers(tiles):
+    """The different numbers of cells of some tiles."""
+    return {len(cells_of(path)) for path in tiles.split(",") if path != "."}
+
+
+def unequal_tiles(draws):
+    """Tiles of several numbers of cells: known lists, single tiles and random paths, joined."""
+    tiles = []
+    while len(cell_numbers(",".join(tiles) or ".")) < 2 or draws.one_in(3):
+        kind = draws.below(8)
+        if kind == 0:
+            more = ["-"]
+        elif kind < 4:
+            more = draws.one_of(ORBITS + ONE_SIZE + EQUAL_PIECES).split(",")
+        else:
+            more = [covering_path(draws, 2 + draws.below(4)) for _ in range(1 + draws.below(2))]
+        tiles = (tiles + more)[-MOST_TILES:]
+    return ",".join(tiles)
+
+
+def counted_plot(draws, most, tiles_by=equal_tiles):
     """A plot to count, with sides of at most so many cells."""
     width, height = (1 + max(draws.below(most), draws.below(most)) for _ in range(2))
-    return sized_plot(draws, width, height)
+    return sized_plot(draws, width, height, tiles_by)
 
 
-def long_plot(draws):
+def long_plot(draws, tiles_by=equal_tiles):
     """A plot to count, with one side of at most 3 cells and the other of 7 to 16."""
     sides = 1 + draws.below(3), 7 + draws.below(10)
-    return sized_plot(draws, *(sides if draws.one_in(2) else sides[::-1]))
+    return sized_plot(draws, *(sides if draws.one_in(2) else sides[::-1]), tiles_by)
 
 
 # L and T boards of at most 36 free cells, as commands.
@@ -358,10 +378,10 @@ SHAPES = ["lb 2 1", "lb 3 1", "lb 4 1", "lb 5 1", "lb 8 1", "lb 2 2", "lb 3 2", 
 SHAPES += ["tb 0 2", "tb 1 1", "tb 2 1", "tb 3 1", "tb 5 1", "tb 7 1", "tb 1 2", "tb 2 2", "tb 1 3"]
 
 
-def shaped_plot(draws, made):
+def shaped_plot(draws, made, tiles_by=equal_tiles):
     """A plot to count on one of the boards that answer SHAPES, with more marks at times."""
     width, height, fixed, _ = draws.one_of(made).split()
-    plot = Plot(int(width), int(height), int(fixed, 16), tiles=equal_tiles(draws))
+    plot = Plot(int(width), int(height), int(fixed, 16), tiles=tiles_by(draws))
     if draws.one_in(3):
         plot.fixed |= plot.free() & draws.cells(-3)
     if draws.one_in(3):
@@ -369,22 +389,48 @@ def shaped_plot(draws, made):
     return plot
 
 
-def plots_to_cut(draws, ask, number):
+def plots_to_cut(draws, ask, number, tiles_by=equal_tiles):
     """So many plots: of sides up to 6, half of them, a quarter long, a quarter L and T boards."""
     shapes = ask(SHAPES)
     found = []
     while len(found) < number:
-        found += [counted_plot(draws, 6), counted_plot(draws, 6)]
-        found += [long_plot(draws), shaped_plot(draws, shapes)]
+        found += [counted_plot(draws, 6, tiles_by), counted_plot(draws, 6, tiles_by)]
+        found += [long_plot(draws, tiles_by), shaped_plot(draws, shapes, tiles_by)]
     return found[:number]
 
 
-def sized_plot(draws, width, height):
-    """A plot to count, with tiles of one number of cells.
+MOST_SEQUENCES = 50_000  # of a plot with equal tiles
+MOST_FREE = 16  # cells of a plot with unequal tiles, unless one of them is single
+
+
+def plots_to_search(draws, ask, number):
+    """At most so many plots to find one tiling of, half of them drawn with unequal tiles.
+
+    Where there is no tiling the Rust walks through all child sequences, so they have to be few.
+    With a single tile every walk ends in a full board.
+    """
+    equal = plots_to_cut(draws, ask, number // 2)
+    weights = weights_of(ask, equal)
+    found = [p for p, w in zip(equal, weights) if w and w.sequences <= MOST_SEQUENCES]
+    unequal = plots_to_cut(draws, ask, number // 2, unequal_tiles)
+    return found + [p for p in unequal if p.has_single() or p.free().bit_count() <= MOST_FREE]
+
+
+def is_sum(plot):
+    """Whether the number of free cells is a sum of the tiles' numbers of cells."""
+    sizes = cell_numbers(plot.tiles)
+    sums = [True]
+    for number in range(1, plot.free().bit_count() + 1):
+        sums.append(any(size <= number and sums[number - size] for size in sizes))
+    return sums[-1]
+
+
+def sized_plot(draws, width, height, tiles_by=equal_tiles):
+    """A plot to count, with tiles of one number of cells or of several.
 
     In half of them the free cells are some that the tiles cut, so that many counts are not 0.
     """
-    plot = Plot(width, height, tiles=equal_tiles(draws))
+    plot = Plot(width, height, tiles=tiles_by(draws))
     inside = plot.inside()
     if draws.one_in(2):
         marked = inside & ~cut_cells(draws, plot)
@@ -427,8 +473,10 @@ USUAL_ROOMS = {"layers": ["512"], "graph": ["1024", "4096"]}
 
 
 def with_rooms(command):
-    """A command with its rooms written out, as the oracle asks for them."""
+    """A command with its rooms written out, as the oracle asks for them; it takes none for `one`."""
     name, *fields = command.split()
+    if name == "one":
+        return " ".join([name, *fields[:5]])
     return command if len(fields) > 5 else " ".join([command, *USUAL_ROOMS.get(name, [])])
 
 
