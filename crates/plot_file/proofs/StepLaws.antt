@@ -6,7 +6,7 @@ use mathlib.Core.List.{List, [], _++_}
 use Prim.Native.Nat.{ℕ, _+_, _*_, _≤_, _<_}
 use native.Mathlib.Omega.{arith}
 use lib.ListN.{length, getD, drop}
-use Rattle.cells.specs.Set.{fromBits}
+use Rattle.cells.specs.Set.{fromBits, setOf}
 use Rattle.tile.specs.declared.Tiles.{Tiles}
 use Rattle.tile.specs.declared.MadeTile.{MadeTile}
 use Rattle.refusal.specs.declared.Refusal.{Refusal}
@@ -21,9 +21,9 @@ use Rattle.tile.specs.StoredLaws.{pathIn-tileOf, clean-tileOf, readPath-is, rea
 use Rattle.tile.specs.Inner.{CleanTile}
 use Rattle.board.specs.declared.RectangularBoard.{RectangularBoard}
 use Rattle.board.specs.declared.MadeBoard.{MadeBoard}
-use Rattle.board.specs.Board.{Board, boardOf, noBoard, sizeOk, below, inside, setOf, shapeMark, shaped, newBoard, lBoard, tBoard, MakesBoard}
-use Rattle.plot_file.specs.declared.Mark.{Mark}
-use Rattle.plot_file.specs.declared.Mark.the-variants.{RB, LB, TB, TI, OR, EN}
+use Rattle.board.specs.Board.{Board, boardOf, noBoard, sizeOk, below, inside, shapeMark, shaped, newBoard, lBoard, tBoard, MakesBoard}
+use Rattle.plot_file.specs.declared.marks.Mark.{Mark}
+use Rattle.plot_file.specs.declared.marks.Mark.the-variants.{RB, LB, TB, TI, OR, EN}
 use Rattle.plot_file.specs.declared.MadePlot.{MadePlot}
 use Rattle.plot_file.specs.declared.marks.Marked.{Marked}
 use Rattle.plot_file.specs.declared.marks.Marked.the-variants as M
@@ -32,10 +32,10 @@ use Rattle.plot_file.specs.declared.records.Plot.{Plot as PlotSoFar}
 use Rattle.plot_file.specs.declared.records.Next.{Next}
 use Rattle.plot_file.specs.declared.records.Next.the-variants as N
 use Rattle.plot_file.specs.declared.records.Step.{Step as StepTaken}
-use Rattle.plot_file.specs.PlotFile.{Plot, noPlot, readMark, readBody, boardBody, addTiles, tileBody, Step, more, ended, ReadsPlot}
-use Rattle.plot_file.specs.Inner.{answerOf, markedAnswer, isBoard, boardFor, tilesFor, ReadsBody, plotOf, Kept, nextAnswer, Ahead, Reads, boardOnly, startAt, StepsTo}
+use Rattle.plot_file.specs.PlotFile.{Plot, noPlot, readMark, readBody, boardBody, addTiles, tileBody, laterRecord, Step, more, ended, ReadsPlot}
+use Rattle.plot_file.specs.Inner.{answerOf, markedAnswer, isBoard, boardFor, tilesFor, ReadsBody, plotOf, Kept, nextAnswer, Ahead, Reads, boardOnly, startAt, StepsTo, recordAt}
 use Rattle.plot_file.specs.RecordLaws.{readBody-is}
-use Rattle.plot_file.specs.ReadLaws.{readMark-behind, boardBody-at, tileBody-read, addTiles-given, addTiles-many}
+use Rattle.plot_file.specs.ReadLaws.{readMark-behind, boardBody-at, recordAt-later, tileBody-read, addTiles-given, addTiles-many}
 use Rattle.plot_file.proofs.TilesLaws.{count-is, none-clean, none-paths, for-paths}
 
 -- ---- answers
@@ -246,6 +246,10 @@ reads-tiles file at whole plot r ts s b e q t =
     reads-to file at (tileBody (tilesFor whole) plot (drop at file)) s (addTiles plot (pathsIn ts)) (r .end) t (b .low) (b .high)
     (tileBody-read (drop at file) plot (tilesFor whole) (pathIn (r .tile)) (drop (r .end) file) (body-given file at r b e)
     ∙ ap (λ (ps : List Path). mapAnswer (λ p. more p (drop (r .end) file)) (addTiles plot ps)) (sym (for-paths whole (pathIn (r .tile)) (body-path file at r b e .0) ts q)))
+
+-- a record that was read behind the first place
+pub reads-later : (file : List ℕ) (at : ℕ) (plot : Plot) (s : StepTaken) → 0 < at → Reads file (at + 1) (recordAt at plot (drop at file)) s → Reads file (at + 1) (laterRecord plot (drop at file)) s
+reads-later file at plot s h r = subst (λ (a : Answer Step). Reads file (at + 1) a s) (recordAt-later plot file at h) r
 
 -- a record that was read, by where it goes on
 module _ (file : List ℕ) (at : ℕ) (a : Answer Step) (s : StepTaken) (r : Reads file at a s) where

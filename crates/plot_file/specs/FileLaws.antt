@@ -10,16 +10,17 @@ use borrow.Author.Tests.{leb-true, le-leb}
 use lib.Dec.{leb}
 use lib.ListN.{length, take, drop, length-append}
 use lib.Seq.{take-append-seam, drop-append-seam, take-at, drop-at}
+use Rattle.cells.specs.Set.{setOf}
 use Rattle.cells.specs.MemberLaws.{mem-flatMap}
 use Rattle.refusal.specs.Refusal.{Answer, refused, given, mapAnswer, bindAnswer}
 use Rattle.refusal.specs.RefusalLaws.{refused-given, given-inj, map-given, bind-given}
 use Rattle.tile.specs.Path.{Path, codesOk}
 use Rattle.tile.specs.OrbitLaws.{orbit-length-path, orbit-codesOk}
 use Rattle.tile.specs.Stored.{Storable}
-use Rattle.board.specs.Board.{Board, sizeOk, setOf, shapeMark, shaped, valid, newBoard, lBoard, tBoard}
+use Rattle.board.specs.Board.{Board, sizeOk, shapeMark, shaped, valid, newBoard, lBoard, tBoard}
 use Rattle.board.specs.BoardLaws.{shaped-valid, setOf-lt}
-use Rattle.plot_file.specs.declared.Mark.{Mark}
-use Rattle.plot_file.specs.declared.Mark.the-variants.{RB, LB, TB, TI, OR, EN}
+use Rattle.plot_file.specs.declared.marks.Mark.{Mark}
+use Rattle.plot_file.specs.declared.marks.Mark.the-variants.{RB, LB, TB, TI, OR, EN}
 use Rattle.plot_file.specs.PlotFile.{Plot, letters, readMark, readPair, Step, more, ended, boardBody, firstRecord, addTiles, laterRecord, onward, records, plotIn}
 use Rattle.plot_file.specs.Records.{BoardRecord, rb, lb, tb, TileRecord, ti, or, boardBytes, tileBytes, fileOf, boardHeld, directions, tilesHeld, Holds}
 use Rattle.plot_file.specs.RecordLaws.{readMark-is, readMark-letters, length-letters, Left, laterRecord-left, laterRecord-tile, laterRecord-end, records-step}

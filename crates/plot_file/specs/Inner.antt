@@ -2,7 +2,7 @@
 use mathlib.Core.Path.{_≡_}
 use mathlib.Core.Bool.{Bool, true, false}
 use mathlib.Core.List.{List, [], _∷_}
-use Prim.Native.Nat.{ℕ, _+_, _≤_}
+use Prim.Native.Nat.{ℕ, zero, suc, _+_, _≤_}
 use lib.ListN.{length, drop}
 use Rattle.refusal.specs.declared.Verdict.{Verdict}
 use Rattle.refusal.specs.declared.Verdict.the-variants as Verdicts
@@ -11,8 +11,8 @@ use Rattle.tile.specs.Path.{Path, orbit}
 use Rattle.tile.specs.Stored.{pathIn, pathsIn}
 use Rattle.tile.specs.Inner.{CleanTile, Clean}
 use Rattle.board.specs.Board.{Board, boardOf, newBoard, lBoard, tBoard}
-use Rattle.plot_file.specs.declared.Mark.{Mark}
-use Rattle.plot_file.specs.declared.Mark.the-variants.{RB, LB, TB, TI, OR, EN}
+use Rattle.plot_file.specs.declared.marks.Mark.{Mark}
+use Rattle.plot_file.specs.declared.marks.Mark.the-variants.{RB, LB, TB, TI, OR, EN}
 use Rattle.plot_file.specs.declared.marks.Marked.{Marked}
 use Rattle.plot_file.specs.declared.marks.Marked.the-variants as M
 use Rattle.plot_file.specs.declared.bodies.Body.{Body}
@@ -20,7 +20,7 @@ use Rattle.plot_file.specs.declared.records.Plot.{Plot as PlotSoFar}
 use Rattle.plot_file.specs.declared.records.Next.{Next}
 use Rattle.plot_file.specs.declared.records.Next.the-variants as N
 use Rattle.plot_file.specs.declared.records.Step.{Step as StepTaken}
-use Rattle.plot_file.specs.PlotFile.{Plot, Step, more, ended}
+use Rattle.plot_file.specs.PlotFile.{Plot, Step, more, ended, firstRecord, laterRecord}
 
 -- ---- answers
 
@@ -91,6 +91,11 @@ abbrev pub Ahead : ℕ → ℕ → Next → Type 0
 Ahead at end (N.At i) = (at ≤ i) × (i ≤ end)
 Ahead at end N.End = Unit {0}
 Ahead at end (N.Refused r) = Unit {0}
+
+-- the record at a place of the file: the board's at the beginning, a later one elsewhere
+abbrev pub recordAt : ℕ → Plot → List ℕ → Answer Step
+recordAt zero plot bytes = firstRecord bytes
+recordAt (suc at) plot bytes = laterRecord plot bytes
 
 -- a record that is read, from a place on
 pub record Reads (file : List ℕ) (at : ℕ) (a : Answer Step) (s : StepTaken) : Type 0 where

@@ -9,7 +9,7 @@ use Rattle.refusal.specs.Refusal.{given}
 use Rattle.tile.specs.Path.{Path, codesOk, orbit}
 use Rattle.tile.specs.OrbitLaws.{orbit-self}
 use Rattle.board.specs.Board.{newBoard}
-use Rattle.plot_file.specs.declared.Mark.the-variants.{EN}
+use Rattle.plot_file.specs.declared.marks.Mark.the-variants.{EN}
 use Rattle.plot_file.specs.PlotFile.{Plot, letters, plotIn}
 use Rattle.plot_file.specs.Records.{BoardRecord, rb, lb, tb, TileRecord, ti, or, boardBytes, tileBytes, fileOf, boardHeld, tilesHeld, Holds}
 use Rattle.plot_file.specs.RecordLaws.{length-letters, length-tileBytes}
@@ -111,7 +111,7 @@ longest-held =
       all = refl;
     }
 
--- so there is no lower bound
+-- so no smaller bound holds
 pub longestFile-least : (n : ℕ) → ((file : List ℕ) (plot : Plot) → plotIn file ≡ given plot → length file ≤ n) → longestFile ≤ n
 unfolding longest
 longestFile-least n h =

@@ -10,8 +10,8 @@ use Rattle.refusal.specs.Refusal.{Answer, refused, given, mapAnswer, bindAnswer
 use Rattle.tile.specs.Path.{Path, orbit}
 use Rattle.tile.specs.Stored.{readPath, tilesOf}
 use Rattle.board.specs.Board.{Board, boardOf, noBoard, newBoard, lBoard, tBoard}
-use Rattle.plot_file.specs.declared.Mark.{Mark}
-use Rattle.plot_file.specs.declared.Mark.the-variants.{RB, LB, TB, TI, OR, EN}
+use Rattle.plot_file.specs.declared.marks.Mark.{Mark}
+use Rattle.plot_file.specs.declared.marks.Mark.the-variants.{RB, LB, TB, TI, OR, EN}
 use Rattle.plot_file.specs.declared.MadePlot.{MadePlot}
 use Rattle.plot_file.specs.Ascii.{ascii}
 

@@ -1,9 +1,9 @@
--- Laws of reading at a place of a file: what its mark, a board's body and a tile's body are, by the bytes that the code looks at; what the
--- first record and the later ones are, by their marks and bodies; and how the records go on. Rests on `PlotFile` and `RecordLaws`. Assumes nothing.
+-- Laws of reading at a place of a file: what its mark, a board's body and a tile's body are, by the bytes that the code looks at; what a
+-- record is, by its place; what the first record and the later ones are, by their marks and bodies; and how the records go on. Rests on `PlotFile` and `RecordLaws`. Assumes nothing.
 use mathlib.Core.Path.{_≡_, refl, sym, ap, _∙_}
 use mathlib.Core.Bool.{Bool, true, false, _&&_}
 use mathlib.Core.List.{List, [], _∷_, _++_}
-use Prim.Native.Nat.{ℕ, suc, _+_, _-_, _≤_, _<_}
+use Prim.Native.Nat.{ℕ, zero, suc, _+_, _-_, _≤_, _<_}
 use native.Mathlib.Omega.{arith}
 use borrow.Author.Tests.{eq-eqb, ne-eqb, le-leb, lt-leb}
 use lib.Dec.{eqb}
@@ -13,10 +13,10 @@ use Rattle.refusal.specs.Refusal.{Answer, refused, given, mapAnswer, bindAnswer
 use Rattle.tile.specs.Path.{Path}
 use Rattle.tile.specs.Stored.{readPath}
 use Rattle.board.specs.Board.{Board}
-use Rattle.plot_file.specs.declared.Mark.{Mark}
-use Rattle.plot_file.specs.declared.Mark.the-variants.{RB, LB, TB, TI, OR, EN}
+use Rattle.plot_file.specs.declared.marks.Mark.{Mark}
+use Rattle.plot_file.specs.declared.marks.Mark.the-variants.{RB, LB, TB, TI, OR, EN}
 use Rattle.plot_file.specs.PlotFile.{allMarks, Plot, letters, spells, markAmong, readMark, readPair, readBody, more, ended, boardBody, firstRecord, addTiles, tileBody, endBody, laterBody, laterRecord, onward, records, plotIn}
-use Rattle.plot_file.specs.Inner.{isBoard, boardFor, tilesFor, startAt}
+use Rattle.plot_file.specs.Inner.{isBoard, boardFor, tilesFor, startAt, recordAt}
 use Rattle.plot_file.specs.RecordLaws.{readMark-is, length-letters, records-step}
 
 -- ---- a mark among others
@@ -140,6 +140,16 @@ module _ (file : List ℕ) (at : ℕ) where
         let l : getD file at 0 ≤ length (drop (at + 1) file) = omega (arith, length-drop (at + 1) file) in
         let n : at + 1 + getD file at 0 - (at + 1) ≡ getD file at 0 = omega arith in
         rw (one-byte file at in-file, le-leb (getD file at 0) 32 h, le-leb (getD file at 0) (length (drop (at + 1) file)) l, n, drop-drop (getD file at 0) (at + 1) file)
+
+-- ---- records, by their places
+
+module _ (plot : Plot) (file : List ℕ) where
+  pub recordAt-first : (at : ℕ) → at ≡ 0 → recordAt at plot (drop at file) ≡ firstRecord file
+  recordAt-first at e = ap (λ (i : ℕ). recordAt i plot (drop i file)) e
+
+  pub recordAt-later : (at : ℕ) → 0 < at → recordAt at plot (drop at file) ≡ laterRecord plot (drop at file)
+  recordAt-later zero h = absurd (omega arith)
+  recordAt-later (suc at) h = refl
 
 -- ---- records, by their marks and bodies
 

@@ -11,13 +11,13 @@ use lib.Dec.{eqb, leb}
 use lib.ListN.{length, getD, take, drop, take-append-drop, length-append}
 use lib.Seq.{length-take-le, take-append-seam, drop-append-seam}
 use Rattle.refusal.specs.Refusal.{Answer, refused, given, mapAnswer, bindAnswer}
-use Rattle.refusal.specs.RefusalLaws.{refused-given, refused-inj, given-inj, map-given, bind-given}
+use Rattle.refusal.specs.RefusalLaws.{refused-given, refused-inj, given-inj, map-given, bind-given, Refuses, refuses-one, refuses-none, refuses-cond, refuses-bind, refuses-map}
 use Rattle.tile.specs.Path.{Path, codesOk, orbit}
 use Rattle.tile.specs.Stored.{readPath}
 use Rattle.tile.specs.StoredLaws.{readPath-is, readPath-given}
 use Rattle.board.specs.Board.{Board, sizeOk, shaped, newBoard, lBoard, tBoard}
-use Rattle.plot_file.specs.declared.Mark.{Mark}
-use Rattle.plot_file.specs.declared.Mark.the-variants.{RB, LB, TB, TI, OR, EN}
+use Rattle.plot_file.specs.declared.marks.Mark.{Mark}
+use Rattle.plot_file.specs.declared.marks.Mark.the-variants.{RB, LB, TB, TI, OR, EN}
 use Rattle.plot_file.specs.PlotFile.{allMarks, Plot, letters, spells, markAmong, readMark, readPair, readBody, Step, more, ended, boardBody, firstRecord, addTiles, tileBody, endBody, laterBody, laterRecord, onward, records, plotIn}
 use Rattle.plot_file.specs.Records.{TileRecord, ti, or, tileBytes, directions, tilesHeld}
 
@@ -213,116 +213,94 @@ records-step n plot bytes h = records-same n (suc n) plot bytes h (omega arith)
 
 -- ---- every refusal is one of 1 to 6
 
-abbrev Listed : {A : Type 0} → Answer A → Type 0
-Listed a = (n : ℕ) → a ≡ refused n → (0 < n) × (n ≤ 6)
+abbrev Listed : ℕ → Type 0
+Listed n = (0 < n) × (n ≤ 6)
 
-module _ {A : Type 0} where
-  listed-given : (x : A) → Listed (given x)
-  listed-given x n e = absurd (refused-given n x (sym e))
-
-  listed-refused : (m : ℕ) → 0 < m → m ≤ 6 → Listed {A = A} (refused m)
-  listed-refused m h k n e = let s = refused-inj m n e in (omega arith, omega arith)
-
-  listed-cond : (t : Bool) (a b : Answer A) → Listed a → Listed b → Listed (cond t a b)
-  listed-cond true a b h k = h
-  listed-cond false a b h k = k
-
-module _ {A B : Type 0} where
-  listed-map : (f : A → B) (a : Answer A) → Listed a → Listed (mapAnswer f a)
-  unfolding mapAnswer
-  listed-map f (refused m) h n e = h n (ap refused (refused-inj m n e))
-  listed-map f (given x) h n e = listed-given (f x) n e
-
-  listed-bind : (a : Answer A) (f : A → Answer B) → Listed a → ((x : A) → Listed (f x)) → Listed (bindAnswer a f)
-  unfolding bindAnswer
-  listed-bind (refused m) f h k n e = h n (ap refused (refused-inj m n e))
-  listed-bind (given x) f h k n e = k x n e
-
-listed-onward : (f : Plot → List ℕ → Answer Plot) (a : Answer Step) → ((next : Plot) (rest : List ℕ) → Listed (f next rest)) → Listed a → Listed (onward f a)
+refuses-onward : (f : Plot → List ℕ → Answer Plot) (a : Answer Step) → ((next : Plot) (rest : List ℕ) → Refuses Listed (f next rest)) → Refuses Listed a → Refuses Listed (onward f a)
 unfolding onward
-listed-onward f (refused m) h k n e = k n (ap refused (refused-inj m n e))
-listed-onward f (given (more next rest)) h k n e = h next rest n e
-listed-onward f (given (ended next)) h k n e = listed-given next n e
+refuses-onward f (refused m) h k n e = k n (ap refused (refused-inj m n e))
+refuses-onward f (given (more next rest)) h k n e = h next rest n e
+refuses-onward f (given (ended next)) h k n e = refuses-none Listed next n e
 
-one : {A : Type 0} → Listed {A = A} (refused 1)
-one = listed-refused 1 (omega arith) (omega arith)
+refuses-1 : {A : Type 0} → Refuses {A = A} Listed (refused 1)
+refuses-1 = refuses-one Listed 1 (omega arith, omega arith)
 
-three : {A : Type 0} → Listed {A = A} (refused 3)
-three = listed-refused 3 (omega arith) (omega arith)
+refuses-3 : {A : Type 0} → Refuses {A = A} Listed (refused 3)
+refuses-3 = refuses-one Listed 3 (omega arith, omega arith)
 
-five : {A : Type 0} → Listed {A = A} (refused 5)
-five = listed-refused 5 (omega arith) (omega arith)
+refuses-5 : {A : Type 0} → Refuses {A = A} Listed (refused 5)
+refuses-5 = refuses-one Listed 5 (omega arith, omega arith)
 
-markAmong-listed : (marks : List Mark) (a b : ℕ) → Listed (markAmong marks a b)
+markAmong-listed : (marks : List Mark) (a b : ℕ) → Refuses Listed (markAmong marks a b)
 unfolding markAmong
-markAmong-listed [] a b = listed-refused 2 (omega arith) (omega arith)
-markAmong-listed (mark ∷ marks) a b = listed-cond (spells mark a b) (given mark) (markAmong marks a b) (listed-given mark) (markAmong-listed marks a b)
+markAmong-listed [] a b = refuses-one Listed 2 (omega arith, omega arith)
+markAmong-listed (mark ∷ marks) a b = refuses-cond Listed (spells mark a b) (given mark) (markAmong marks a b) (refuses-none Listed mark) (markAmong-listed marks a b)
 
-readMark-listed : (bytes : List ℕ) → Listed (readMark bytes)
+readMark-listed : (bytes : List ℕ) → Refuses Listed (readMark bytes)
 unfolding readMark
-readMark-listed [] = one
-readMark-listed (a ∷ []) = one
+readMark-listed [] = refuses-1
+readMark-listed (a ∷ []) = refuses-1
 readMark-listed (a ∷ b ∷ rest) =
-    listed-map (λ mark. (mark, rest)) (markAmong allMarks a b) (markAmong-listed allMarks a b)
+    refuses-map Listed (λ mark. (mark, rest)) (markAmong allMarks a b) (markAmong-listed allMarks a b)
 
-readPair-listed : (make : ℕ → ℕ → Answer Board) (bytes : List ℕ) → ((a b : ℕ) → Listed (make a b)) → Listed (readPair make bytes)
+readPair-listed : (make : ℕ → ℕ → Answer Board) (bytes : List ℕ) → ((a b : ℕ) → Refuses Listed (make a b)) → Refuses Listed (readPair make bytes)
 unfolding readPair
-readPair-listed make [] h = one
-readPair-listed make (a ∷ []) h = one
-readPair-listed make (a ∷ b ∷ rest) h = listed-map (λ board. (board, rest)) (make a b) (h a b)
+readPair-listed make [] h = refuses-1
+readPair-listed make (a ∷ []) h = refuses-1
+readPair-listed make (a ∷ b ∷ rest) h = refuses-map Listed (λ board. (board, rest)) (make a b) (h a b)
 
-shaped-listed : (w h rows low high : ℕ) → Listed (shaped w h rows low high)
+shaped-listed : (w h rows low high : ℕ) → Refuses Listed (shaped w h rows low high)
 unfolding shaped
-shaped-listed w h rows low high = listed-cond (sizeOk w h) _ (refused 4) (listed-given _) (listed-refused 4 (omega arith) (omega arith))
+shaped-listed w h rows low high = refuses-cond Listed (sizeOk w h) _ (refused 4) (refuses-none Listed _) (refuses-one Listed 4 (omega arith, omega arith))
 
-boardBody-listed : (mark : Mark) (bytes : List ℕ) → Listed (boardBody mark bytes)
+boardBody-listed : (mark : Mark) (bytes : List ℕ) → Refuses Listed (boardBody mark bytes)
 unfolding boardBody newBoard lBoard tBoard
 boardBody-listed RB bytes = readPair-listed newBoard bytes (λ w h. shaped-listed w h 0 0 0)
 boardBody-listed LB bytes = readPair-listed lBoard bytes (λ n scale. shaped-listed (n * scale) (2 * scale) scale 0 scale)
 boardBody-listed TB bytes = readPair-listed tBoard bytes (λ n scale. shaped-listed ((2 * n + 1) * scale) (2 * scale) scale (n * scale) ((n + 1) * scale))
-boardBody-listed TI bytes = three
-boardBody-listed OR bytes = three
-boardBody-listed EN bytes = three
+boardBody-listed TI bytes = refuses-3
+boardBody-listed OR bytes = refuses-3
+boardBody-listed EN bytes = refuses-3
 
-readBody-listed : (bytes : List ℕ) → Listed (readBody bytes)
+readBody-listed : (bytes : List ℕ) → Refuses Listed (readBody bytes)
 unfolding readBody readPath
-readBody-listed [] = one
+readBody-listed [] = refuses-1
 readBody-listed (k ∷ rest) =
-    listed-cond (leb k 32) _ (refused 5)
-    (listed-cond (leb k (length rest)) _ (refused 1)
-    (listed-map (λ path. (path, drop k rest)) (readPath (take k rest)) (listed-cond (leb (length (take k rest)) 32 && codesOk (take k rest)) (given (take k rest)) (refused 5) (listed-given (take k rest)) five)) one)
-    five
+    refuses-cond Listed (leb k 32) _ (refused 5)
+    (refuses-cond Listed (leb k (length rest)) _ (refused 1)
+    (refuses-map Listed (λ path. (path, drop k rest)) (readPath (take k rest)) (refuses-cond Listed (leb (length (take k rest)) 32 && codesOk (take k rest)) (given (take k rest)) (refused 5) (refuses-none Listed (take k rest)) refuses-5)) refuses-1)
+    refuses-5
 
-addTiles-listed : (plot : Plot) (paths : List Path) → Listed (addTiles plot paths)
+addTiles-listed : (plot : Plot) (paths : List Path) → Refuses Listed (addTiles plot paths)
 unfolding addTiles
-addTiles-listed plot paths = listed-cond (leb (length (plot .tiles ++ paths)) 64) _ (refused 6) (listed-given _) (listed-refused 6 (omega arith) (omega arith))
+addTiles-listed plot paths = refuses-cond Listed (leb (length (plot .tiles ++ paths)) 64) _ (refused 6) (refuses-none Listed _) (refuses-one Listed 6 (omega arith, omega arith))
 
-tileBody-listed : (tiles : Path → List Path) (plot : Plot) (bytes : List ℕ) → Listed (tileBody tiles plot bytes)
+tileBody-listed : (tiles : Path → List Path) (plot : Plot) (bytes : List ℕ) → Refuses Listed (tileBody tiles plot bytes)
 unfolding tileBody
 tileBody-listed tiles plot bytes =
-    listed-bind (readBody bytes) (λ r. mapAnswer (λ p. more p (r .1)) (addTiles plot (tiles (r .0)))) (readBody-listed bytes)
-    (λ r. listed-map (λ p. more p (r .1)) (addTiles plot (tiles (r .0))) (addTiles-listed plot (tiles (r .0))))
+    refuses-bind Listed (readBody bytes) (λ r. mapAnswer (λ p. more p (r .1)) (addTiles plot (tiles (r .0)))) (readBody-listed bytes)
+    (λ r. refuses-map Listed (λ p. more p (r .1)) (addTiles plot (tiles (r .0))) (addTiles-listed plot (tiles (r .0))))
 
-laterBody-listed : (mark : Mark) (plot : Plot) (bytes : List ℕ) → Listed (laterBody mark plot bytes)
+laterBody-listed : (mark : Mark) (plot : Plot) (bytes : List ℕ) → Refuses Listed (laterBody mark plot bytes)
 unfolding laterBody endBody
-laterBody-listed RB plot bytes = three
-laterBody-listed LB plot bytes = three
-laterBody-listed TB plot bytes = three
+laterBody-listed RB plot bytes = refuses-3
+laterBody-listed LB plot bytes = refuses-3
+laterBody-listed TB plot bytes = refuses-3
 laterBody-listed TI plot bytes = tileBody-listed (λ path. path ∷ []) plot bytes
 laterBody-listed OR plot bytes = tileBody-listed orbit plot bytes
-laterBody-listed EN plot [] = listed-given (ended plot)
-laterBody-listed EN plot (byte ∷ bytes) = three
+laterBody-listed EN plot [] = refuses-none Listed (ended plot)
+laterBody-listed EN plot (byte ∷ bytes) = refuses-3
 
-records-listed : (n : ℕ) (plot : Plot) (bytes : List ℕ) → Listed (records n plot bytes)
+records-listed : (n : ℕ) (plot : Plot) (bytes : List ℕ) → Refuses Listed (records n plot bytes)
 unfolding records laterRecord
-records-listed zero plot bytes = one
+records-listed zero plot bytes = refuses-1
 records-listed (suc n) plot bytes =
-    listed-onward (records n) (laterRecord plot bytes) (λ next rest. records-listed n next rest)
-    (listed-bind (readMark bytes) (λ m. laterBody (m .0) plot (m .1)) (readMark-listed bytes) (λ m. laterBody-listed (m .0) plot (m .1)))
+    refuses-onward (records n) (laterRecord plot bytes) (λ next rest. records-listed n next rest)
+    (refuses-bind Listed (readMark bytes) (λ m. laterBody (m .0) plot (m .1)) (readMark-listed bytes) (λ m. laterBody-listed (m .0) plot (m .1)))
 
 pub plotIn-refusal : (file : List ℕ) (n : ℕ) → plotIn file ≡ refused n → (0 < n) × (n ≤ 6)
 unfolding plotIn firstRecord
 plotIn-refusal file =
-    listed-onward (records (length file)) (firstRecord file) (λ next rest. records-listed (length file) next rest)
-    (listed-bind (readMark file) (λ m. mapAnswer (λ r. more (record { board = r .0; tiles = [] }) (r .1)) (boardBody (m .0) (m .1))) (readMark-listed file)
-    (λ m. listed-map (λ r. more (record { board = r .0; tiles = [] }) (r .1)) (boardBody (m .0) (m .1)) (boardBody-listed (m .0) (m .1))))
+    refuses-onward (records (length file)) (firstRecord file) (λ next rest. records-listed (length file) next rest)
+    (refuses-bind Listed (readMark file) (λ m. mapAnswer (λ r. more (record { board = r .0; tiles = [] }) (r .1)) (boardBody (m .0) (m .1))) (readMark-listed file)
+    (λ m. refuses-map Listed (λ r. more (record { board = r .0; tiles = [] }) (r .1)) (boardBody (m .0) (m .1)) (boardBody-listed (m .0) (m .1))))

@@ -36,7 +36,7 @@ unfolding ascii
 tileBytes (ti path) = ascii "TI" ++ length path ∷ path
 tileBytes (or path) = ascii "OR" ++ length path ∷ path
 
--- "One board record stands first, then any number of TI and OR, none included, then EN"
+-- "One board record (RB, LB, TB) stands first, then any number of TI and OR, none included, then EN"
 unfoldable pub fileOf : BoardRecord → List TileRecord → List ℕ
 unfolding boardBytes tileBytes ascii flatMap
 fileOf board tiles = boardBytes board ++ flatMap tileBytes tiles ++ ascii "EN"

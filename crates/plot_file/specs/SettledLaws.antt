@@ -16,8 +16,8 @@ use Rattle.tile.specs.Path.{Path, orbit}
 use Rattle.tile.specs.Stored.{readPath}
 use Rattle.tile.specs.StoredLaws.{readPath-is}
 use Rattle.board.specs.Board.{Board, newBoard, lBoard, tBoard}
-use Rattle.plot_file.specs.declared.Mark.{Mark}
-use Rattle.plot_file.specs.declared.Mark.the-variants.{RB, LB, TB, TI, OR, EN}
+use Rattle.plot_file.specs.declared.marks.Mark.{Mark}
+use Rattle.plot_file.specs.declared.marks.Mark.the-variants.{RB, LB, TB, TI, OR, EN}
 use Rattle.plot_file.specs.PlotFile.{allMarks, Plot, letters, markAmong, readMark, readPair, readBody, Step, more, ended, boardBody, firstRecord, addTiles, tileBody, endBody, laterBody, laterRecord, onward, records, plotIn}
 use Rattle.plot_file.specs.Records.{rb, TileRecord, ti, boardBytes, tileBytes, boardHeld, tilesHeld}
 use Rattle.plot_file.specs.RecordLaws.{readBody-is, readBody-path, laterRecord-left, laterRecord-mark, records-same, records-step}

@@ -30,7 +30,7 @@ accepted-iff = File.accepted-iff
 pub file-once : (b c : BoardRecord) (ts us : List TileRecord) → fileOf b ts ≡ fileOf c us → (b ≡ c) × (ts ≡ us)
 file-once = File.file-once
 
--- An accepted file has at most 2,246 bytes, 4 + 64 × 35 + 2, and no lower bound holds.
+-- An accepted file has at most 2,246 bytes, 4 + 64 × 35 + 2, and no smaller bound holds.
 pub accepted-length : (file : List ℕ) (plot : Plot) → plotIn file ≡ given plot → length file ≤ 2246
 accepted-length = Length.accepted-length
 

@@ -1,6 +1,6 @@
 // The bodies of records: two bytes that make a board, and the path of a tile. Private helpers; they
 // ask that a place is in the file or at its end.
-use crate::Mark;
+use crate::marks::Mark;
 use board::MadeBoard;
 use board::RectangularBoard;
 use refusal::Refusal;

@@ -3,13 +3,15 @@
 //
 // The core reads a slice from a place on, a record at a time: marks.rt the mark, bodies.rt the body
 // behind it, records.rt a whole record. A place is a number that goes in and comes back by value.
+// Over the core stands a struct that holds the slice and the place, by which every record is read
+// (reader.rt).
 use board::RectangularBoard;
 use records::Next;
 use records::Plot;
 use refusal::Refusal;
 use refusal::Verdict;
 use tile::Tiles;
-ghost use Prim.Native.Nat.{_≤_};
+ghost use Prim.Native.Nat.{_≤_, _<_};
 ghost use lib.ListN.{length, drop};
 ghost use Rattle.refusal.specs.Refusal.{refused, given, refusalNumber};
 ghost use Rattle.plot_file.specs.PlotFile.{records, plotIn, ReadsPlot};
@@ -17,17 +19,8 @@ ghost use Rattle.plot_file.specs.Inner.{plotOf, Kept};
 
 mod bodies;
 mod marks;
+mod reader;
 mod records;
-
-// The marks of the records.
-pub enum Mark {
-    RB,
-    LB,
-    TB,
-    TI,
-    OR,
-    EN,
-}
 
 // A board and tiles, or a refusal with the 0 by 0 board and no tiles.
 pub struct MadePlot {
@@ -43,7 +36,7 @@ pub struct MadePlot {
 pub fn read_plot(file: &[u8]) -> MadePlot
     ensures { λ r. ⌜ ReadsPlot (plotIn (now (file .entry))) r ⌝ }
 {
-    let first = records::first_record(file);
+    let first = reader::record_at(file, 0, records::no_plot());
     let next = first.next;
     match next {
         Next::At(at) => read_records(file, at, first.plot),
@@ -52,15 +45,15 @@ pub fn read_plot(file: &[u8]) -> MadePlot
     }
 }
 
-// The records from a place on, to the end of the file.
+// The records from a place behind the board's on, to the end of the file.
 fn read_records(file: &[u8], at: usize, plot: Plot) -> MadePlot
-    requires { ⌜ (at ≤ length (now file)) × Kept plot ⌝ }
+    requires { ⌜ (0 < at) × (at ≤ length (now file)) × Kept plot ⌝ }
     ensures { λ r. ⌜ ReadsPlot (records (length (now (file .entry))) (plotOf plot) (drop at (now (file .entry)))) r ⌝ }
 {
     let mut from = at;
     let mut so_far = plot;
     loop {
-        let step = records::later_record(file, from, so_far);
+        let step = reader::record_at(file, from, so_far);
         let next = step.next;
         match next {
             Next::At(place) => {

@@ -1,6 +1,5 @@
 // The mark that a record begins with. Private helpers; they ask that a place is in the file or at
 // its end.
-use crate::Mark;
 use refusal::Refusal;
 ghost use mathlib.Core.Path.{_≡_};
 ghost use mathlib.Core.Bool.{_&&_};
@@ -9,6 +8,16 @@ ghost use lib.Dec.{eqb};
 ghost use lib.ListN.{length, drop};
 ghost use Rattle.plot_file.specs.PlotFile.{allMarks, markAmong, readMark};
 ghost use Rattle.plot_file.specs.Inner.{markAnswer, markedAnswer};
+
+// The marks of the records.
+pub enum Mark {
+    RB,
+    LB,
+    TB,
+    TI,
+    OR,
+    EN,
+}
 
 // A mark, whose record goes on two bytes behind its own place, or a refusal.
 pub enum Marked {

@@ -1,12 +1,14 @@
-// One record: what it leaves of the file and of the plot. Private helpers; they ask that a place is
-// in the file or at its end, and that the tiles so far are stored with zeros behind them.
+// One record: what it leaves of the file and of the plot. `record` is what the reader of reader.rt
+// asks. Private helpers; they ask that a place is in the file or at its end, and that the tiles so
+// far are stored with zeros behind them.
 //
 // The plot so far, board and tiles, goes through every record behind the first, so that a further kind
 // of record, whether it changes the board or the tiles, is a further arm of `later_body`.
-use crate::Mark;
 use crate::bodies;
 use crate::marks;
+use crate::marks::Mark;
 use crate::marks::Marked;
+use crate::reader;
 use board::MadeBoard;
 use board::RectangularBoard;
 use refusal::Refusal;
@@ -24,7 +26,7 @@ ghost use Rattle.tile.specs.Stored.{pathIn, pathsIn, tilesOf};
 ghost use Rattle.tile.specs.Inner.{CleanTile, Clean};
 ghost use Rattle.board.specs.Board.{boardOf};
 ghost use Rattle.plot_file.specs.PlotFile.{noPlot, boardBody, firstRecord, addTiles, tileBody, endBody, laterBody, laterRecord};
-ghost use Rattle.plot_file.specs.Inner.{answerOf, tilesFor, plotOf, Kept, Reads, boardOnly, startAt, StepsTo};
+ghost use Rattle.plot_file.specs.Inner.{answerOf, tilesFor, plotOf, Kept, Reads, boardOnly, startAt, StepsTo, recordAt};
 
 // What has been read.
 pub struct Plot {
@@ -67,9 +69,20 @@ fn refuse(refusal: Refusal) -> Step
     }
 }
 
+// The record at a place: a board's at the beginning of the file, another one elsewhere.
+pub fn record(file: &[u8], at: usize, plot: Plot) -> Step
+    requires { ⌜ (at ≤ length (now file)) × Kept plot ⌝ }
+    ensures { λ r. ⌜ Reads (now (file .entry)) (at + 1) (recordAt at (plotOf plot) (drop at (now (file .entry)))) r ⌝ }
+{
+    if at == 0 {
+        return first_record(file);
+    }
+    later_record(file, at, plot)
+}
+
 // The first record: a board's.
-pub fn first_record(file: &[u8]) -> Step
-    ensures { λ r. ⌜ Reads (now (file .entry)) 0 (firstRecord (now (file .entry))) r ⌝ }
+fn first_record(file: &[u8]) -> Step
+    ensures { λ r. ⌜ Reads (now (file .entry)) 1 (firstRecord (now (file .entry))) r ⌝ }
 {
     let marked = marks::read_mark(file, 0);
     match marked {
@@ -113,7 +126,7 @@ fn started(made: MadeBoard, at: usize) -> Step
 }
 
 // A record behind the board's.
-pub fn later_record(file: &[u8], at: usize, plot: Plot) -> Step
+fn later_record(file: &[u8], at: usize, plot: Plot) -> Step
     requires { ⌜ (at ≤ length (now file)) × Kept plot ⌝ }
     ensures { λ r. ⌜ Reads (now (file .entry)) (at + 1) (laterRecord (plotOf plot) (drop at (now (file .entry)))) r ⌝ }
 {
@@ -144,13 +157,13 @@ fn end_record(file: &[u8], at: usize, plot: Plot) -> Step
     requires { ⌜ (at ≤ length (now file)) × Kept plot ⌝ }
     ensures { λ r. ⌜ Reads (now (file .entry)) at (endBody (plotOf plot) (drop at (now (file .entry)))) r ⌝ }
 {
-    if at < file.len() {
-        return refuse(Refusal::Misplaced);
+    if reader::finished_at(file, at) {
+        return Step {
+            next: Next::End,
+            plot,
+        };
     }
-    Step {
-        next: Next::End,
-        plot,
-    }
+    refuse(Refusal::Misplaced)
 }
 
 // A tile's record, which stands for the tile or for its whole orbit.

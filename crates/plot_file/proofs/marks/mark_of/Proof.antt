@@ -4,7 +4,7 @@ use mathlib.Core.Path.{_≡_, sym, _∙_}
 use Prim.Native.Nat.{ℕ}
 use lib.ListN.{drop}
 use Rattle.refusal.specs.Refusal.{Answer}
-use Rattle.plot_file.specs.declared.Mark.{Mark}
+use Rattle.plot_file.specs.declared.marks.Mark.{Mark}
 use Rattle.plot_file.specs.Ascii.{ascii}
 use Rattle.plot_file.specs.PlotFile.{allMarks, letters, spells, markAmong}
 use Rattle.plot_file.specs.Inner.{}
