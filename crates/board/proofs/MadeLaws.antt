@@ -1,17 +1,17 @@
 -- What `new`, `l_board` and `t_board` hand back. Rests on `Board` and `BoardLaws`. Assumes nothing.
 use mathlib.Core.Path.{_≡_, refl, sym, ap, ap₂, _∙_}
 use mathlib.Core.Bool.{true, false}
-use Prim.Native.Nat.{ℕ, _+_, _-_, _*_, _≤_, _<_}
+use Prim.Native.Nat.{ℕ, _+_, _*_, _≤_, _<_}
 use native.Mathlib.Nat.{mul-zero, mul-le-mul, le-mul-of-pos-right}
 use native.Mathlib.Omega.{arith}
 use Rattle.cells.specs.declared.Cells.{Cells}
-use Rattle.cells.specs.Set.{unionOf}
+use Rattle.cells.specs.Set.{setOf, unionOf}
 use Rattle.cells.specs.Words.{number}
 use Rattle.refusal.specs.declared.Verdict.the-variants as Verdicts
 use Rattle.refusal.specs.Refusal.{Answer, refused, refusalOf, valueOr, verdictNumber}
 use Rattle.board.specs.declared.RectangularBoard.{RectangularBoard}
 use Rattle.board.specs.declared.MadeBoard.{MadeBoard}
-use Rattle.board.specs.Board.{Board, boardOf, noBoard, sizeOk, setOf, shapeMark, shaped, lBoard, tBoard, MakesBoard}
+use Rattle.board.specs.Board.{Board, boardOf, noBoard, sizeOk, shapeMark, shaped, lBoard, tBoard, MakesBoard}
 use Rattle.board.specs.Children.{lay}
 use Rattle.board.specs.BoardLaws.{sizeOk-wide, sizeOk-high}
 

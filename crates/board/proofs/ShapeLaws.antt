@@ -2,16 +2,16 @@
 -- Rests on `BoardLaws`. Assumes nothing.
 use mathlib.Core.Path.{_≡_, refl, sym, ap, _∙_}
 use mathlib.Core.Bool.{Bool, true, false, cond, or-true, or-false}
-use Prim.Native.Nat.{ℕ, _+_, _-_, _*_, _/_, _%_, _^_, _≤_, _<_}
+use Prim.Native.Nat.{ℕ, _+_, _*_, _/_, _%_, _^_, _≤_, _<_}
 use native.Mathlib.Nat.{zero-mul, add-zero}
 use native.Mathlib.Numerals.{add-one}
 use native.Mathlib.Omega.{arith}
 use borrow.Author.Tests.{lt-ltb, le-ltb, le-leb, ne-eqb}
 use lib.Dec.{eqb, ltb, leb}
-use Rattle.cells.specs.Set.{hasCell, fromBits, withCell, sizeBelow, size}
+use Rattle.cells.specs.Set.{hasCell, fromBits, setOf, withCell, sizeBelow, size}
 use Rattle.cells.specs.Arrays.{allBelow}
 use Rattle.cells.specs.BitLaws.{bit-high, bit-fromBits, fromBits-lt}
-use Rattle.board.specs.Board.{Board, positionOf, inside, below, setOf, isMarked, freeAt, isFree, freeSet, freeCount, sizeOk, markOk, valid, shapeMark}
+use Rattle.board.specs.Board.{Board, positionOf, inside, below, isMarked, freeAt, isFree, freeSet, freeCount, sizeOk, markOk, valid, shapeMark}
 use Rattle.board.specs.BoardLaws.{cellOf-positionOf, digit}
 
 -- ---- sizes

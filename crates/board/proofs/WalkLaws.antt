@@ -1,5 +1,5 @@
 -- What the steps and walks of `walk` come to: the place at a position, the place one step on, the walks back and on, and the fit by the two walks.
--- Rests on `FitLaws` and `PieceLaws`. Assumes nothing.
+-- Rests on `FitLaws`. Assumes nothing.
 use mathlib.Core.Path.{_≡_, refl, sym, ap, ap₂, _∙_, subst}
 use mathlib.Core.Bool.{Bool, true, false, So, not, cond, and-false, and-eq-true-iff}
 use mathlib.Core.List.{List, [], _∷_, _++_, flatMap, append-nil}

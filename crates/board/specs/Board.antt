@@ -5,7 +5,7 @@ use mathlib.Core.Bool.{Bool, false, not, cond, _&&_, _||_}
 use Prim.Native.Nat.{ℕ, _+_, _-_, _*_, _/_, _%_}
 use lib.Dec.{eqb, ltb, leb}
 use lib.IntN.{ℤ, pos, negsuc, natAbs}
-use Rattle.cells.specs.Set.{hasCell, fromBits, unionOf, size}
+use Rattle.cells.specs.Set.{hasCell, setOf, unionOf, size}
 use Rattle.cells.specs.Words.{number}
 use Rattle.cells.specs.Arrays.{allBelow}
 use Rattle.refusal.specs.Refusal.{Answer, refused, given, refusalOf, valueOr, verdictNumber, refusalNumber}
@@ -45,11 +45,6 @@ below n (negsuc k) = false
 unfoldable pub inside : ℕ → ℕ → Position → Bool
 unfolding below
 inside w h p = below h (p .row) && below w (p .col)
-
--- the set of the cells of which a test holds
-unfoldable pub setOf : (ℕ → Bool) → ℕ
-unfolding fromBits
-setOf test = fromBits 256 (λ cell. cond (test cell) 1 0)
 
 -- ---- marks
 

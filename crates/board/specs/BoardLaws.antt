@@ -4,14 +4,14 @@
 use mathlib.Core.Path.{_≡_, refl, sym, ap, ap₂, _∙_}
 use mathlib.Core.Logic.{_↔_}
 use mathlib.Core.Bool.{Bool, true, false, So, not, cond, _&&_, _||_, false≢true, and-eq-true-iff}
-use Prim.Native.Nat.{ℕ, _+_, _-_, _*_, _/_, _%_, _^_, _≤_, _<_, max}
+use Prim.Native.Nat.{ℕ, _+_, _*_, _/_, _%_, _^_, _≤_, _<_, max}
 use native.Mathlib.Decide.{ℕ-discrete, decLt}
 use native.Mathlib.Omega.{arith}
 use borrow.Author.Tests.{eqb-true, eqb-false, eq-eqb, leb-true, lt-leb, ne-eqb, not-true, ltb-true, lt-ltb}
 use lib.Dec.{eqb, ltb, leb}
 use lib.IntN.{ℤ, pos, negsuc}
 use lib.Pow.{pow-pos}
-use Rattle.cells.specs.Set.{bit, hasCell, Disjoint, size}
+use Rattle.cells.specs.Set.{bit, hasCell, setOf, Disjoint, size}
 use Rattle.cells.specs.BitLaws.{bit-le, bit-ext, bit-high, zero-bit, fromBits-lt, bit-fromBits}
 use Rattle.cells.specs.SetLaws.{hasCell-iff, hasCell-false, bit-unionOf, unionOf-lt, size-zero, size-none}
 use Rattle.cells.specs.FirstsLaws.{so-eq}
@@ -24,7 +24,7 @@ use Rattle.refusal.specs.Refusal.{refused, given, refusalOf, verdictNumber}
 use Rattle.refusal.specs.RefusalLaws.{refusalNumber-pos}
 use Rattle.direction.specs.Position.{Position, at}
 use Rattle.board.specs.declared.RectangularBoard.{RectangularBoard}
-use Rattle.board.specs.Board.{Board, boardOf, cellOf, positionOf, below, inside, setOf, marks, isMarked, freeAt, isFree, freeSet, freeCount, isFull, sizeOk, markOk, valid, readBoard, shapeMark, shaped}
+use Rattle.board.specs.Board.{Board, boardOf, cellOf, positionOf, below, inside, marks, isMarked, freeAt, isFree, freeSet, freeCount, isFull, sizeOk, markOk, valid, readBoard, shapeMark, shaped}
 
 -- ---- positions of the rectangle and their cells
 

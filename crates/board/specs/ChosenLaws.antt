@@ -236,15 +236,6 @@ module _ (b : Board) (wide : b .width ≤ 16) where
       eq-eqb (countOf b cell) 4 (omega (arith, count-le (b .width) (b .height) (b .laid) cell)))
       (λ t. any-true test (columns (b .height) (b .width)) cell (seen cell (best .free)) (and-eq-true-iff (isFree b cell) (eqb (countOf b cell) 4) .1 (best .free, t)))
 
-  pub any-none : chosen b ≡ none → hasFour b ≡ false
-  any-none e =
-      so-eq (hasFour b) false
-      (λ t. let r = any-four-some b t in absurd (chosen-none e (r .0) (r .1))) (λ t. absurd (false≢true t))
-
   pub pruned-chosen : (paths : List Path) (cell : ℕ) → chosen b ≡ some cell → pruned b paths ≡ (eqb (countOf b cell) 4 && not (containsSingle paths))
   unfolding pruned
   pruned-chosen paths cell e = ap (λ (t : Bool). t && not (containsSingle paths)) (any-four cell e)
-
-  pub pruned-full : (paths : List Path) → chosen b ≡ none → pruned b paths ≡ false
-  unfolding pruned
-  pruned-full paths e = ap (λ (t : Bool). t && not (containsSingle paths)) (any-none e)

@@ -8,13 +8,13 @@ use Prim.Native.Nat.{ℕ, _+_, _-_, _^_, _≤_, _<_}
 use native.Mathlib.Decide.{ℕ-discrete, decLt}
 use native.Mathlib.Omega.{arith}
 use borrow.Author.Tests.{not-true}
-use Rattle.cells.specs.Set.{bit, hasCell, Disjoint, size}
+use Rattle.cells.specs.Set.{bit, hasCell, setOf, Disjoint, size}
 use Rattle.cells.specs.BitLaws.{bit-le, bit-ext, bit-high, zero-bit, bit-add, add-lt, fromBits-lt}
 use Rattle.cells.specs.SetLaws.{hasCell-iff, hasCell-false, size-le, size-add}
 use Rattle.direction.specs.Position.{Position, origin, shift}
 use Rattle.tile.specs.EqualLaws.{cells-origin}
 use Rattle.tile.specs.Path.{Path, cellCount}
-use Rattle.board.specs.Board.{Board, bare, cellOf, positionOf, inside, setOf, marks, isMarked, freeAt, isFree, freeSet, freeCount, isFull, valid}
+use Rattle.board.specs.Board.{Board, bare, cellOf, positionOf, inside, marks, isMarked, freeAt, isFree, freeSet, freeCount, isFull, valid}
 use Rattle.board.specs.Children.{moved, withCells, IsPiece, lay}
 use Rattle.board.specs.BoardLaws.{cellOf-lt, positionOf-cellOf, cellOf-positionOf, freeAt-inside, bit-free, marks-lt, isMarked-marks, digit, hasCell-freeSet, full-none, valid-inside, valid-width, valid-height}
 use Rattle.board.specs.ChosenLaws.{free-inside}

@@ -4,10 +4,10 @@ use cells::Cells;
 ghost use mathlib.Core.Path.{_≡_};
 ghost use mathlib.Core.Bool.{cond};
 ghost use Prim.Native.Nat.{_≤_};
-ghost use Rattle.cells.specs.Set.{withCell};
+ghost use Rattle.cells.specs.Set.{setOf, withCell};
 ghost use Rattle.cells.specs.Words.{number};
 ghost use Rattle.cells.specs.Arrays.{allBelow};
-ghost use Rattle.board.specs.Board.{boardOf, positionOf, inside, setOf, isFree, freeCount, sizeOk, markOk, valid, shapeMark};
+ghost use Rattle.board.specs.Board.{boardOf, positionOf, inside, isFree, freeCount, sizeOk, markOk, valid, shapeMark};
 
 // Whether width and height are each 1 to 16, or both 0.
 pub fn size_ok(width: usize, height: usize) -> bool

@@ -20,6 +20,11 @@ unfoldable pub fromBits : ℕ → (ℕ → ℕ) → ℕ
 fromBits zero f = 0
 fromBits (suc k) f = fromBits k f + f k * 2 ^ k
 
+-- the set of the cells of which a test holds
+unfoldable pub setOf : (ℕ → Bool) → ℕ
+unfolding fromBits
+setOf test = fromBits 256 (λ cell. cond (test cell) 1 0)
+
 -- the set n with the cell c; a number past 255 is no cell and adds nothing
 unfoldable pub withCell : ℕ → ℕ → ℕ
 unfolding bit

@@ -258,9 +258,6 @@ pub size-withCell-new : (n c : ℕ) → c < 256 → bit n c ≡ 0 → size (with
 unfolding size
 size-withCell-new n c h e = sizeBelow-withCell-new 256 n c h h e
 
-pub size-withCell-old : (n c : ℕ) → bit n c ≡ 1 → size (withCell n c) ≡ size n
-size-withCell-old n c e = ap size (withCell-old n c e)
-
 -- a set with no cell is 0
 sizeBelow-none : (n k c : ℕ) → c < k → sizeBelow k n ≡ 0 → bit n c ≡ 0
 unfolding sizeBelow

@@ -137,6 +137,10 @@ unfoldable pub atNode : (ℕ → ℕ) → Option ℕ → ℕ
 atNode f none = 0
 atNode f (some v) = f v
 
+-- the node list with the number m of a graph with the full node o: "from the full node go backward" (from node 0 with none, a list that is never given)
+abbrev pub nodeListTo : List (ℕ × ℕ) → (ℕ → ℕ) → Option ℕ → ℕ → List ℕ
+nodeListTo es count o m = tiling es count (atNode (λ v. v) o) m
+
 -- the pieces of the steps of a list of boards, `step` giving the piece of a step
 module _ {B P : Type 0} (step : B → B → P) where
   abbrev pub piecesFrom : B → List B → List P
@@ -182,7 +186,7 @@ module _ {B P : Type 0} (G : Setting B P) (s : B) where
 
   -- the boards of the node list with the number m to the full node, and "the set of pieces that its steps mark"
   abbrev pub tilingOf : ℕ → List B
-  tilingOf m = map (λ v. getD nodesOf v s) (tiling graphEdges pathCountOf (atNode (λ v. v) (fullNode (G .full) nodesOf)) m)
+  tilingOf m = map (λ v. getD nodesOf v s) (nodeListTo graphEdges pathCountOf (fullNode (G .full) nodesOf) m)
 
   abbrev pub cuttingAt : ℕ → P → Bool
   cuttingAt m = holds (G .samePiece) (piecesOf (G .stepPiece) (tilingOf m))

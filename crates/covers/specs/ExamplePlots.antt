@@ -1,7 +1,7 @@
 -- Small plots for examples: a choice by rank, the tiles of a list that fit, and a test that prunes, as a setting of `CellSets`. Its laws, and a
 -- cutting given by a list, follow from tests that compute. Rests on `CellSetLaws` and `SequenceLaws`. Assumes nothing.
 use mathlib.Core.Path.{_≡_, refl, sym, ap, _∙_, subst}
-use mathlib.Core.Logic.{_⊎_, inl, _↔_, ⊎-elim}
+use mathlib.Core.Logic.{inl, _↔_, ⊎-elim}
 use mathlib.Core.Bool.{Bool, true, false, So, cond, _&&_, and-eq-true-iff, false≢true}
 use mathlib.Core.List.{List, [], _∷_, List·Memᴰ as Mem, List·Memᴰ·head as here, List·Memᴰ·tail as there, List·Memᴰ·cases-cons as cases-cons, List·Memᴰ·not-nil as not-nil}
 use Prim.Native.Nat.{ℕ, _+_, _-_, _^_, _≤_, _<_}

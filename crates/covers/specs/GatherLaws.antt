@@ -1,7 +1,7 @@
 -- Laws of lists of entries: weights; equal boards joined, which keeps the boards, each once, and the weights; one child added to a list that is
 -- joined already. Rests on `Counts`, `SumLaws` and cells' `MemberLaws`. Assumes nothing.
 use mathlib.Core.Path.{_≡_, refl, sym, ap, subst, _∙_}
-use mathlib.Core.Logic.{_⊎_, _↔_, ⊎-elim}
+use mathlib.Core.Logic.{_↔_, ⊎-elim}
 use mathlib.Core.Bool.{Bool, true, false, cond, _||_}
 use mathlib.Core.List.{List, [], _∷_, _++_, map, map-append, map-map, map-id, List·Memᴰ as Mem, List·Memᴰ·cases-cons as cases-cons, List·Memᴰ·not-nil as not-nil, Memᴰ·cast as cast, Memᴰ·map as mem-map, Memᴰ·of-map as of-map}
 use Prim.Native.Nat.{ℕ, _+_, _≤_, _<_}

@@ -1,7 +1,7 @@
 -- Laws of layers: the children of a layer, in order; a layer has each board once, with a path count that is the sum of its parents' and not 0;
 -- the layers joined have the layers' boards, the start first. Rests on `GatherLaws`. Assumes nothing.
 use mathlib.Core.Path.{_≡_, refl, sym, ap, ap₂, subst, _∙_}
-use mathlib.Core.Logic.{_⊎_, _↔_, ⊎-elim}
+use mathlib.Core.Logic.{_↔_, ⊎-elim}
 use mathlib.Core.Bool.{Bool, true, false, cond, false≢true}
 use mathlib.Core.List.{List, [], _∷_, _++_, map, map-append, flatMap, List·Memᴰ as Mem, List·Memᴰ·head as here, List·Memᴰ·eq-of-singleton as eq-of-singleton, List·Memᴰ·not-nil as not-nil, List·Memᴰ·append-cases as append-cases, Memᴰ·cast as cast, Memᴰ·append-left as append-left, Memᴰ·append-right as append-right, Memᴰ·of-map as of-map}
 use Prim.Native.Nat.{ℕ, zero, suc, _+_, _≤_, _<_}

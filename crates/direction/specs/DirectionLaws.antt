@@ -78,22 +78,11 @@ step-reflect A.Horizontal =
 
 -- ---- the symmetries of a square
 
-pub opposite-opposite : (c : ℕ) → opposite (opposite c) ≡ c
-unfolding opposite
-opposite-opposite =
-    by-code (λ c. opposite (opposite c) ≡ c) refl refl refl refl refl refl refl refl (λ c h. rw (opposite-past c h, opposite-past c h))
-
 pub rotate-four : (c : ℕ) → rotate (rotate (rotate (rotate c))) ≡ c
 unfolding rotate
 rotate-four =
     by-code (λ c. rotate (rotate (rotate (rotate c))) ≡ c) refl refl refl refl refl refl refl refl
     (λ c h. rw (rotate-past c h, rotate-past c h, rotate-past c h, rotate-past c h))
-
-pub rotate-two : (c : ℕ) → rotate (rotate c) ≡ opposite c
-unfolding rotate opposite
-rotate-two =
-    by-code (λ c. rotate (rotate c) ≡ opposite c) refl refl refl refl refl refl refl refl
-    (λ c h. rw (rotate-past c h, rotate-past c h, opposite-past c h))
 
 pub reflect-reflect : (c : ℕ) → reflect A.Horizontal (reflect A.Horizontal c) ≡ c
 unfolding reflect

@@ -1,5 +1,5 @@
--- Definitions: how many boards, nodes or edges lent words hold. What stands in quotation marks is 01's, from its sections on the layer count and the
--- graph; "quotients drop their remainder". Assumes nothing.
+-- Definitions: how many boards, nodes or edges lent words hold, and the rooms of the program `plot`. What stands in quotation marks is 01's, from its
+-- sections on the layer count, the graph and the known plots; "quotients drop their remainder". Assumes nothing.
 use Prim.Native.Nat.{ℕ, _/_, min}
 
 -- "a room for boards, nodes or edges above 16,777,216 counts as that"
@@ -23,3 +23,14 @@ nodeRoom nodeWords countWords = roomOf (min (nodeWords / 4) countWords)
 unfoldable pub edgeRoom : ℕ → ℕ
 unfolding roomOf
 edgeRoom edgeWords = roomOf (edgeWords / 2)
+
+-- ---- the rooms that the program `plot` lends: "512 boards a layer, 1,024 nodes, 4,096 edges"
+
+abbrev pub plotBoards : ℕ
+plotBoards = 512
+
+abbrev pub plotNodes : ℕ
+plotNodes = 1024
+
+abbrev pub plotEdges : ℕ
+plotEdges = 4096

@@ -7,12 +7,12 @@ use mathlib.Core.Option.{Option, none, some}
 use Prim.Native.Nat.{ℕ, zero, suc}
 use lib.Dec.{eqb, ltb, leb}
 use lib.ListN.{length, getD, take}
-use Rattle.cells.specs.Set.{hasCell, fromBits}
+use Rattle.cells.specs.Set.{hasCell, setOf}
 use Rattle.cells.specs.Firsts.{any, holds}
 use Rattle.cells.specs.Arrays.{listOf}
 use Rattle.cells.specs.Lists.{setAt}
 use Rattle.refusal.specs.Refusal.{Answer, refused, given, mapAnswer, refusalNumber, valueOr}
-use Rattle.covers.specs.Counts.{Chain, sumOf, parentsOf, tiling, atNode, piecesOf}
+use Rattle.covers.specs.Counts.{Chain, sumOf, parentsOf, tiling, atNode, nodeListTo, piecesOf}
 use Rattle.graph.specs.declared.Complete.{Complete}
 use Rattle.graph.specs.declared.Complete.the-variants as N
 use Rattle.graph.specs.declared.GraphResult.{GraphResult}
@@ -72,10 +72,10 @@ badGraph r nodeWords counts edges =
 
 -- ---- the tiling
 
--- "the node list from 0 on" with the number m: "from the full node go backward" (from node 0 with none, a list that is never given)
+-- "the node list from 0 on" with the number m, of the edges and the counts in lent words and the full node of a result
 unfoldable pub nodeList : GraphResult → List ℕ → List ℕ → ℕ → List ℕ
 unfolding tiling edgesIn atNode
-nodeList r counts edges m = tiling (edgesIn edges (r .edges)) (countIn counts) (atNode (λ v. v) (completeNode (r .complete))) m
+nodeList r counts edges m = nodeListTo (edgesIn edges (r .edges)) (countIn counts) (completeNode (r .complete)) m
 
 -- the node list with the number m, for an output of so many words: refusal 11; "12, no full node" (the graph count is then 0) "or m not below its
 -- count; 8, output shorter than the list"
@@ -106,10 +106,14 @@ GivesChain r edges out′ t =
 
 -- the piece of a step: "the cells marked in the later node and free in the earlier"; "A cell with no mark is free"
 unfoldable pub stepPiece : ℕ → ℕ → ℕ
-unfolding fromBits hasCell
-stepPiece earlier later = fromBits 256 (λ c. cond (hasCell later c && not (hasCell earlier c)) 1 0)
+unfolding setOf hasCell
+stepPiece earlier later = setOf (λ c. hasCell later c && not (hasCell earlier c))
 
--- "the set of pieces that its steps mark": the nodes of a list are read from the node words
+-- "the set of pieces that its steps mark": of the boards of a list,
+abbrev pub markedBy : List ℕ → ℕ → Bool
+markedBy boards = holds eqb (piecesOf stepPiece boards)
+
+-- and of a node list, the boards read from the node words
 unfoldable pub markedPieces : List ℕ → List ℕ → ℕ → Bool
 unfolding holds setAt stepPiece
-markedPieces nodes list = holds eqb (piecesOf stepPiece (map (setAt nodes) list))
+markedPieces nodes list = markedBy (map (setAt nodes) list)

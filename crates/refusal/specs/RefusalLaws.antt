@@ -1,7 +1,8 @@
--- Laws of refusals and answers: every refusal has a number above 0; an answer with a refusal's number is that refusal; what `mapAnswer` and `bindAnswer` answer.
--- Assumes nothing.
-use mathlib.Core.Path.{_≡_, refl, sym, ap}
+-- Laws of refusals and answers: every refusal has a number above 0; an answer with a refusal's number is that refusal; what `mapAnswer` and `bindAnswer` answer;
+-- which numbers an answer is refused by (`Refuses`). Assumes nothing.
+use mathlib.Core.Path.{_≡_, refl, sym, ap, subst}
 use mathlib.Core.Logic.{_↔_}
+use mathlib.Core.Bool.{Bool, true, false, cond}
 use Prim.Native.Nat.{ℕ, suc, _<_}
 use native.Mathlib.Omega.{arith}
 use lib.Dec.{lit<}
@@ -74,3 +75,30 @@ pub map-map : {A B C : Type 0} (g : B → C) (f : A → B) (a : Answer A) → ma
 unfolding mapAnswer
 map-map g f (refused n) = refl
 map-map g f (given x) = refl
+
+-- ---- which refusals an answer has
+
+-- where an answer is refused, its number is one of some numbers
+abbrev pub Refuses : {A : Type 0} → (ℕ → Type 0) → Answer A → Type 0
+Refuses In a = (n : ℕ) → a ≡ refused n → In n
+
+module _ {A : Type 0} (In : ℕ → Type 0) where
+  pub refuses-one : (k : ℕ) → In k → Refuses {A = A} In (refused k)
+  refuses-one k i n e = subst In (refused-inj k n e) i
+
+  pub refuses-none : (x : A) → Refuses In (given x)
+  refuses-none x n e = absurd (refused-given n x (sym e))
+
+  pub refuses-cond : (t : Bool) (a b : Answer A) → Refuses In a → Refuses In b → Refuses In (cond t a b)
+  refuses-cond true a b p q = p
+  refuses-cond false a b p q = q
+
+  pub refuses-bind : {B : Type 0} (a : Answer B) (f : B → Answer A) → Refuses In a → ((x : B) → Refuses In (f x)) → Refuses In (bindAnswer a f)
+  unfolding bindAnswer
+  refuses-bind (refused k) f p q = refuses-one k (p k refl)
+  refuses-bind (given x) f p q = q x
+
+  pub refuses-map : {B : Type 0} (f : B → A) (a : Answer B) → Refuses In a → Refuses In (mapAnswer f a)
+  unfolding mapAnswer
+  refuses-map f (refused k) p = refuses-one k (p k refl)
+  refuses-map f (given x) p = refuses-none (f x)

@@ -104,7 +104,8 @@ fn replay(input: &[u8]) -> usize
     at
 }
 
-// Answers one line, by its command.
+// Answers one line, by its command. The commands stand in three functions, of which each hands on what it does not
+// know: what the prover takes for a function grows faster than its branches.
 fn answer(line: &[u8]) {
     let command = field(line, 0);
     if same(command, b"direction") {
@@ -119,7 +120,14 @@ fn answer(line: &[u8]) {
         commands::l_tile(line);
     } else if same(command, b"t") {
         commands::t_tile(line);
-    } else if same(command, b"single") {
+    } else {
+        answer_board(line, command);
+    }
+    write::bytes(b"\n");
+}
+
+fn answer_board(line: &[u8], command: &[u8]) {
+    if same(command, b"single") {
         commands::single(line);
     } else if same(command, b"new") {
         commands::new_board(line);
@@ -131,7 +139,13 @@ fn answer(line: &[u8]) {
         commands::full(line);
     } else if same(command, b"children") {
         commands::children(line);
-    } else if same(command, b"layers") {
+    } else {
+        answer_plot(line, command);
+    }
+}
+
+fn answer_plot(line: &[u8], command: &[u8]) {
+    if same(command, b"layers") {
         counts::layers(line);
     } else if same(command, b"graph") {
         counts::graph(line);
@@ -146,5 +160,4 @@ fn answer(line: &[u8]) {
     } else {
         write::bytes(b"unknown command");
     }
-    write::bytes(b"\n");
 }

@@ -1,4 +1,5 @@
--- Laws of the lengths of lines: how many bytes each line of the text has at most, and the whole text of a plot. Rests on `DecimalLaws` and `PlotLaws`. Assumes nothing.
+-- Laws of the lengths of lines: how many bytes each line of the text has at most, and the whole text of a plot. Rests on `DecimalLaws`, `BuiltLaws`, `PlotLaws` and
+-- tiler's `NumberLaws`. Assumes nothing.
 use mathlib.Core.Path.{_≡_, refl, sym, subst}
 use mathlib.Core.List.{List, [], _∷_, _++_, flatMap, List·Memᴰ as Mem, List·Memᴰ·head as here, List·Memᴰ·tail as there}
 use Prim.Native.Nat.{ℕ, suc, _+_, _*_, _^_, _≤_, _<_}
@@ -15,13 +16,15 @@ use Rattle.board.specs.Board.{freeCount}
 use Rattle.board.specs.FreeLaws.{free-le}
 use Rattle.board.specs.BoardLaws.{valid-width, valid-height}
 use Rattle.graph.specs.Tilings.{countFromGraph}
-use Rattle.tiler.specs.Counting.{Graph}
+use Rattle.tiler.specs.Counting.{Graph, nodeListOf}
+use Rattle.tiler.specs.NumberLaws.{graph-count-small, list-below}
 use Rattle.plot_file.specs.Ascii.{ascii}
 use Rattle.plot_file.specs.PlotFile.{Plot}
-use Rattle.report.specs.Report.{plotLayers, plotGraph, listed, nodeListOf, decimal, field, feed, refusedLine, boardLine, tilesLine, layersLine, graphLine, tilingLine, graphLines, plotLines}
+use Rattle.report.specs.Report.{plotLayers, plotGraph, listed, decimal, field, feed, refusedLine, boardLine, tilesLine, layersLine, graphLine, tilingLine, graphLines, plotLines}
 use Rattle.report.specs.DecimalLaws.{decimal-length}
 use Rattle.report.specs.CountLaws.{layers-refusals, graph-refusals}
-use Rattle.report.specs.PlotLaws.{AcceptedPlot, layers-small, nodes-few, edges-few, count-fits, nodes-below, nodes-short}
+use Rattle.report.specs.BuiltLaws.{list-short}
+use Rattle.report.specs.PlotLaws.{AcceptedPlot, layers-fit, of-graph, nodes-few, edges-few}
 
 -- ---- numbers and fields
 
@@ -65,7 +68,7 @@ layers-length plot ok = go (plotLayers plot) refl
     go : (a : Answer ℕ) → plotLayers plot ≡ a → length (layersLine a) ≤ 28
     go (refused n) e = let few = layers-refusals plot n e .1 in omega (arith, refusal-length "layers refused " n (omega arith))
     go (given n) e =
-        let small = layers-small plot ok n e in
+        let small = layers-fit plot ok n e in
         omega (arith, length-append (field "layers " n) feed, field-length "layers " 19 n (lt-of-lt-of-le small (lit≤ tt)))
 
 flatMap-length : {A B : Type 0} (f : A → List B) (k : ℕ) (xs : List A) → ((x : A) → Mem x xs → length (f x) ≤ k) → length (flatMap f xs) ≤ length xs * k
@@ -82,7 +85,7 @@ module _ (plot : Plot) (ok : AcceptedPlot plot) (g : Graph) (e : plotGraph plot 
       simp length-append
       (omega (
         arith,
-        field-length "graph " 19 (countFromGraph (g .complete) (g .counts)) (lt-of-lt-of-le (count-fits plot ok g e) (lit≤ tt)),
+        field-length "graph " 19 (countFromGraph (g .complete) (g .counts)) (lt-of-lt-of-le (of-graph plot ok g e (λ b f l ts x y z made. graph-count-small b f l ts x y z g made)) (lit≤ tt)),
         field-length " nodes " 3 (length (g .nodes)) (omega arith),
         field-length " edges " 3 (length (g .edges)) (omega arith),
       ))
@@ -93,9 +96,9 @@ module _ (plot : Plot) (ok : AcceptedPlot plot) (g : Graph) (e : plotGraph plot 
   list-length m below =
       omega (
         arith,
-        nodes-short plot ok g e m below,
+        of-graph plot ok g e (λ b f l ts x y z made. list-short b f l ts x y z g made m below),
         flatMap-length (field " ") 5 (nodeListOf g m)
-            (λ v i. field-length " " 3 v (lt-of-lt-of-le (nodes-below plot ok g e m below v i) (le-trans (nodes-few plot ok g e) (lit≤ tt)))),
+            (λ v i. field-length " " 3 v (lt-of-lt-of-le (of-graph plot ok g e (λ b f l ts x y z made. list-below b f l ts x y z g made m below v i)) (le-trans (nodes-few plot ok g e) (lit≤ tt)))),
       )
 
   pub tiling-length : (m : ℕ) → m < listed g → length (tilingLine g m) ≤ 1296

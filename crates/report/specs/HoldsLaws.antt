@@ -3,21 +3,20 @@
 use mathlib.Core.Path.{_≡_, refl, sym, ap, ap₂, _∙_}
 use mathlib.Core.Bool.{Bool, true, false, So, cond}
 use mathlib.Core.List.{List}
-use Prim.Native.Nat.{ℕ}
+use Prim.Native.Nat.{ℕ, _*_}
 use lib.ListN.{length}
 use Rattle.cells.specs.ArrayLaws.{length-listOf}
 use Rattle.tile.specs.declared.Tiles.{Tiles}
-use Rattle.refusal.specs.Refusal.{refused, given, mapAnswer, bindAnswer, valueOr}
+use Rattle.refusal.specs.Refusal.{Answer, refused, given, mapAnswer, bindAnswer, valueOr}
 use Rattle.refusal.specs.RefusalLaws.{refused-given, given-inj}
-use Rattle.tile.specs.Path.{equalCounts}
+use Rattle.tile.specs.Path.{Path, equalCounts}
 use Rattle.tile.specs.Stored.{pathAt, pathsIn}
 use Rattle.tile.specs.EqualLaws.{readTiles-sound, readEqualTiles-equal, readEqualTiles-unequal}
 use Rattle.board.specs.declared.RectangularBoard.{RectangularBoard}
-use Rattle.board.specs.Board.{Board, boardOf, marks, freeCount, valid, readBoard}
-use Rattle.graph.specs.Rooms.{layerRoom, nodeRoom, edgeRoom}
+use Rattle.board.specs.Board.{Board, boardOf, freeCount, valid, readBoard}
+use Rattle.graph.specs.Rooms.{layerRoom, nodeRoom, edgeRoom, plotBoards, plotNodes, plotEdges}
 use Rattle.tiler.specs.declared.Count.{Count}
-use Rattle.tiler.specs.Boards.{setting}
-use Rattle.tiler.specs.Counting.{readPlot, layersAnswer, countTilings, countAnswer, CountsTilings, graphOf, weighGraph, generateGraph}
+use Rattle.tiler.specs.Counting.{readPlot, layersOf, countTilings, countAnswer, CountsTilings, Graph, graphFor, generateGraph}
 use Rattle.plot_file.specs.PlotFile.{Plot}
 use Rattle.report.specs.Report.{withEqualTiles, plotLayers, plotGraph}
 use Rattle.report.specs.Inner.{HoldsPlot}
@@ -59,33 +58,37 @@ module _ (plot : Plot) (board : RectangularBoard) (tiles : Tiles) (h : HoldsPlot
   plot-unequal e = rw (h .boardIs, readEqualTiles-unequal tiles (plot .tiles) (h .tilesAre) e)
 
   -- the layer count of the calls is the plot's,
-  pub held-layers : countTilings board tiles 512 ≡ plotLayers plot
+  pub held-layers : countTilings board tiles plotBoards ≡ plotLayers plot
   unfolding countTilings plotLayers withEqualTiles bindAnswer
   held-layers = go (equalCounts (plot .tiles)) refl
     where
+      answer : Board × List Path → Answer ℕ
+      answer p = layersOf (p .0) (p .1) plotBoards
+
       go : (t : Bool) → equalCounts (plot .tiles) ≡ t
-          → bindAnswer (readPlot board tiles) (λ p. layersAnswer (setting (p .0) (p .1)) (marks (p .0)) 512)
-          ≡ cond (equalCounts (plot .tiles)) (layersAnswer (setting (plot .board) (plot .tiles)) (marks (plot .board)) 512) (refused 7)
-      go true e = rw (plot-equal e, e)
-      go false e = rw (plot-unequal e, e)
+          → bindAnswer (readPlot board tiles) answer ≡ cond (equalCounts (plot .tiles)) (answer (plot .board, plot .tiles)) (refused 7)
+      go true e = ap (λ a. bindAnswer a answer) (plot-equal e) ∙ sym (ap (λ t. cond t (answer (plot .board, plot .tiles)) (refused 7)) e)
+      go false e = ap (λ a. bindAnswer a answer) (plot-unequal e) ∙ sym (ap (λ t. cond t (answer (plot .board, plot .tiles)) (refused 7)) e)
 
   -- and so is the graph
-  pub held-graph : generateGraph board tiles 4096 1024 8192 ≡ plotGraph plot
+  pub held-graph : generateGraph board tiles (4 * plotNodes) plotNodes (2 * plotEdges) ≡ plotGraph plot
   unfolding generateGraph plotGraph withEqualTiles bindAnswer nodeRoom edgeRoom
   held-graph = go (equalCounts (plot .tiles)) refl
     where
+      answer : Board × List Path → Answer Graph
+      answer p = graphFor (p .0) (p .1) plotNodes plotEdges
+
       go : (t : Bool) → equalCounts (plot .tiles) ≡ t
-          → bindAnswer (readPlot board tiles) (λ p. weighGraph 1024 4096 (graphOf (setting (p .0) (p .1)) (marks (p .0))))
-          ≡ cond (equalCounts (plot .tiles)) (weighGraph 1024 4096 (graphOf (setting (plot .board) (plot .tiles)) (marks (plot .board)))) (refused 7)
-      go true e = rw (plot-equal e, e)
-      go false e = rw (plot-unequal e, e)
+          → bindAnswer (readPlot board tiles) answer ≡ cond (equalCounts (plot .tiles)) (answer (plot .board, plot .tiles)) (refused 7)
+      go true e = ap (λ a. bindAnswer a answer) (plot-equal e) ∙ sym (ap (λ t. cond t (answer (plot .board, plot .tiles)) (refused 7)) e)
+      go false e = ap (λ a. bindAnswer a answer) (plot-unequal e) ∙ sym (ap (λ t. cond t (answer (plot .board, plot .tiles)) (refused 7)) e)
 
   -- as the contract of `count_tilings` says it, with layers of 512 boards
   pub held-counted : (boardsA countsA boardsB countsB boardsA′ countsA′ boardsB′ countsB′ : List ℕ) (r : Count)
       → CountsTilings board tiles boardsA countsA boardsB countsB boardsA′ countsA′ boardsB′ countsB′ r
-      → length boardsA ≡ 2048 → length countsA ≡ 512 → length boardsB ≡ 2048 → length countsB ≡ 512 → countAnswer r ≡ plotLayers plot
+      → length boardsA ≡ 4 * plotBoards → length countsA ≡ plotBoards → length boardsB ≡ 4 * plotBoards → length countsB ≡ plotBoards → countAnswer r ≡ plotLayers plot
   unfolding layerRoom
   held-counted boardsA countsA boardsB countsB boardsA′ countsA′ boardsB′ countsB′ r c a b d e =
       c .answer
-      ∙ ap (countTilings board tiles) (ap₂ (λ (x y : ℕ). layerRoom x y (length boardsB) (length countsB)) a b ∙ ap₂ (λ (x y : ℕ). layerRoom 2048 512 x y) d e)
+      ∙ ap (countTilings board tiles) (ap₂ (λ (x y : ℕ). layerRoom x y (length boardsB) (length countsB)) a b ∙ ap₂ (λ (x y : ℕ). layerRoom (4 * plotBoards) plotBoards x y) d e)
       ∙ held-layers

@@ -11,9 +11,8 @@ use Rattle.board.specs.declared.RectangularBoard.{RectangularBoard}
 use Rattle.board.specs.Board.{readBoard}
 use Rattle.graph.specs.declared.GraphResult.{GraphResult}
 use Rattle.graph.specs.Tilings.{completeNode, countFromGraph, badGraph, nodeList}
-use Rattle.tiler.specs.Counting.{Graph}
+use Rattle.tiler.specs.Counting.{Graph, nodeListOf}
 use Rattle.plot_file.specs.PlotFile.{Plot}
-use Rattle.report.specs.Report.{nodeListOf}
 
 -- ---- text in lent bytes
 

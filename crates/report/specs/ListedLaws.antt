@@ -19,8 +19,8 @@ use Rattle.graph.specs.declared.Tiling.the-variants as T
 use Rattle.graph.specs.Tilings.{countFromGraph, nodeList, tilingAnswer, GivesTiling}
 use Rattle.graph.specs.GraphLaws.{length-numbersFor}
 use Rattle.graph.specs.TilingLaws.{told-tiling, list-read}
-use Rattle.tiler.specs.Counting.{Graph}
-use Rattle.report.specs.Report.{nodeListOf, listed, tilingLine}
+use Rattle.tiler.specs.Counting.{Graph, nodeListOf}
+use Rattle.report.specs.Report.{listed, tilingLine}
 use Rattle.report.specs.Inner.{Puts, Built}
 use Rattle.report.specs.TextLaws.{puts-append, puts-as}
 

@@ -2,7 +2,7 @@
 -- those of the plot and of the graph. Rests on `HoldsLaws` and `BuiltLaws`. Assumes nothing.
 use mathlib.Core.Path.{_≡_, sym, ap, ap₂, _∙_}
 use mathlib.Core.List.{List, _++_}
-use Prim.Native.Nat.{ℕ}
+use Prim.Native.Nat.{ℕ, _*_}
 use lib.ListN.{length}
 use Rattle.cells.specs.Words.{Sound}
 use Rattle.tile.specs.declared.Tiles.{Tiles}
@@ -13,6 +13,7 @@ use Rattle.refusal.specs.RefusalLaws.{refused-of}
 use Rattle.board.specs.declared.RectangularBoard.{RectangularBoard}
 use Rattle.board.specs.Board.{Board, freeCount, readBoard}
 use Rattle.graph.specs.declared.GraphResult.{GraphResult}
+use Rattle.graph.specs.Rooms.{plotNodes, plotEdges}
 use Rattle.graph.specs.Tilings.{completeNode, countFromGraph}
 use Rattle.tiler.specs.declared.MadeGraph.{MadeGraph}
 use Rattle.tiler.specs.Counting.{Graph, generateGraph, GeneratesGraph}
@@ -48,11 +49,11 @@ graph-line built count e = let c = e ∙ built .count in cc
 -- ---- the graph
 
 module _ (plot : Plot) (board : RectangularBoard) (tiles : Tiles) (h : HoldsPlot plot board tiles) (nodes counts edges : List ℕ)
-    (n : length nodes ≡ 4096) (c : length counts ≡ 1024) (d : length edges ≡ 8192) {nodes′ counts′ edges′ : List ℕ} {made : MadeGraph}
+    (n : length nodes ≡ 4 * plotNodes) (c : length counts ≡ plotNodes) (d : length edges ≡ 2 * plotEdges) {nodes′ counts′ edges′ : List ℕ} {made : MadeGraph}
     (generated : GeneratesGraph board tiles nodes counts edges nodes′ counts′ edges′ made) where
   answer-is : generateGraph board tiles (length nodes) (length counts) (length edges) ≡ plotGraph plot
   answer-is =
-      ap₂ (λ (x y : ℕ). generateGraph board tiles x y (length edges)) n c ∙ ap (generateGraph board tiles 4096 1024) d ∙ held-graph plot board tiles h
+      ap₂ (λ (x y : ℕ). generateGraph board tiles x y (length edges)) n c ∙ ap (generateGraph board tiles (4 * plotNodes) plotNodes) d ∙ held-graph plot board tiles h
 
   pub made-refused : (x : Refusal) → made .verdict ≡ Verdicts.Refused x → plotGraph plot ≡ refused (refusalNumber x)
   made-refused x e =

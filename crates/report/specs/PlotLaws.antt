@@ -1,11 +1,10 @@
 -- Laws of the counts of a plot: there are structs of the code that hold the plot of an accepted file, so that what tiler knows of calls holds of the plot's
--- counts too. Its layer count fits 64 bits; its graph has at most 1,024 nodes and 4,096 edges, its count fits 64 bits, and its lists are chains of at
--- most 257 of its nodes; both counts are the number of cuttings. Rests on `HoldsLaws`, `BuiltLaws`, `CountLaws` and tiler's `NumberLaws`. Assumes nothing.
+-- counts too (`of-graph`). Its layer count fits 64 bits; its graph has at most 1,024 nodes and 4,096 edges; both counts are the number of cuttings. Rests on
+-- `HoldsLaws`, `CountLaws` and tiler's `GivenLaws`, `NumberLaws` and `Theorems`. Assumes nothing.
 use mathlib.Core.Path.{_≡_, sym, ap, ap₂, _∙_, subst}
 use mathlib.Core.Bool.{So}
-use mathlib.Core.List.{List, List·Memᴰ as Mem}
-use mathlib.Core.Option.{some}
-use Prim.Native.Nat.{ℕ, _/_, _%_, _^_, _≤_, _<_}
+use mathlib.Core.List.{List}
+use Prim.Native.Nat.{ℕ, _*_, _/_, _%_, _^_, _≤_, _<_}
 use native.Mathlib.Omega.{arith}
 use lib.Dec.{lit<}
 use lib.ListN.{length}
@@ -21,22 +20,18 @@ use Rattle.board.specs.declared.RectangularBoard.{RectangularBoard}
 use Rattle.board.specs.Board.{Board, boardOf, valid}
 use Rattle.board.specs.BoardLaws.{readBoard-given}
 use Rattle.covers.specs.Cuttings.{Exactly, Numbering}
-use Rattle.covers.specs.Counts.{Chain}
-use Rattle.graph.specs.Rooms.{nodeRoom, edgeRoom}
+use Rattle.graph.specs.Rooms.{nodeRoom, edgeRoom, plotBoards, plotNodes, plotEdges}
 use Rattle.graph.specs.Tilings.{countFromGraph}
-use Rattle.tiler.specs.Boards.{settingOf, startOf}
-use Rattle.tiler.specs.Counting.{countLimit, countTilings, Graph, generateGraph}
+use Rattle.tiler.specs.SmallLaws.{layers-small}
+use Rattle.tiler.specs.Counting.{countLimit, countTilings, Graph, cuttingOf, generateGraph}
 use Rattle.tiler.specs.Cuttings.{IsCutting, HasFreeCell, AllEdgeJoined}
-use Rattle.tiler.specs.AnswerLaws.{from-read}
-use Rattle.tiler.specs.GivenLaws.{layers-count}
-use Rattle.tiler.specs.NumberLaws.{count-cuttings}
+use Rattle.tiler.specs.GivenLaws.{graph-room}
+use Rattle.tiler.specs.NumberLaws.{count-cuttings, lists-number-cuttings}
 use Rattle.tiler.specs.Theorems.{counts-agree}
 use Rattle.plot_file.specs.PlotFile.{Plot}
-use Rattle.report.specs.Report.{plotLayers, plotGraph, nodeListOf, cuttingOf}
+use Rattle.report.specs.Report.{plotLayers, plotGraph}
 use Rattle.report.specs.Inner.{HoldsPlot}
 use Rattle.report.specs.HoldsLaws.{held-board, held-tiles, held-layers, held-graph}
-use Rattle.report.specs.BuiltLaws.{graph-nodes, graph-edges, graph-count-small, list-chain, list-below, list-short, lists-number-cuttings}
-use Rattle.report.specs.CountLaws.{given-small}
 
 -- what is known of the plot of an accepted file: its board is accepted and has no laid marks, its fixed marks are a set of 256 cells, and its tiles, at most
 -- 64, can be stored
@@ -111,48 +106,37 @@ module _ (plot : Plot) (ok : AcceptedPlot plot) where
   joined-struct = subst AllEdgeJoined (sym (held-tiles plot b ts holds-struct))
 
   module _ (n : ℕ) (e : plotLayers plot ≡ given n) where
-    told : countTilings b ts 512 ≡ given n
+    told : countTilings b ts plotBoards ≡ given n
     told = held-layers plot b ts holds-struct ∙ e
 
-    pub layers-small : n < countLimit
-    unfolding countTilings
-    layers-small =
-        subst (λ (k : ℕ). k < countLimit) (sym (layers-count b fixed laid ts 512 n told .1))
-        (given-small (settingOf b ts) (startOf b) 512 n (from-read b ts _ n told .1))
+    pub layers-fit : n < countLimit
+    layers-fit = layers-small b fixed laid ts plotBoards n told
 
     pub layers-cuttings : HasFreeCell (plot .board) → AllEdgeJoined (plot .tiles) → Exactly n (IsCutting (plot .board) (plot .tiles))
-    layers-cuttings free joined = of-plot (λ d paths. Exactly n (IsCutting d paths)) (count-cuttings b fixed laid ts (free-struct free) (joined-struct joined) 512 n told)
+    layers-cuttings free joined =
+        of-plot (λ d paths. Exactly n (IsCutting d paths)) (count-cuttings b fixed laid ts (free-struct free) (joined-struct joined) plotBoards n told)
 
   module _ (g : Graph) (e : plotGraph plot ≡ given g) where
-    made : generateGraph b ts 4096 1024 8192 ≡ given g
+    made : generateGraph b ts (4 * plotNodes) plotNodes (2 * plotEdges) ≡ given g
     made = held-graph plot b ts holds-struct ∙ e
 
-    pub nodes-few : length (g .nodes) ≤ 1024
+    -- what tiler knows of every graph that is given is known of the plot's
+    pub of-graph : {A : Type 0} → ((d : RectangularBoard) → Sound (d .fixed) → Sound (d .laid) → (us : Tiles) (x y z : ℕ) → generateGraph d us x y z ≡ given g → A) → A
+    of-graph law = law b fixed laid ts (4 * plotNodes) plotNodes (2 * plotEdges) made
+
+    pub nodes-few : length (g .nodes) ≤ plotNodes
     unfolding nodeRoom
-    nodes-few = graph-nodes b fixed laid ts 4096 1024 8192 g made
+    nodes-few = graph-room b fixed laid ts (4 * plotNodes) plotNodes (2 * plotEdges) g made .nodesFit
 
-    pub edges-few : length (g .edges) ≤ 4096
+    pub edges-few : length (g .edges) ≤ plotEdges
     unfolding edgeRoom
-    edges-few = graph-edges b fixed laid ts 4096 1024 8192 g made
+    edges-few = graph-room b fixed laid ts (4 * plotNodes) plotNodes (2 * plotEdges) g made .edgesFit
 
-    pub count-fits : countFromGraph (g .complete) (g .counts) < countLimit
-    count-fits = graph-count-small b fixed laid ts 4096 1024 8192 g made
+    pub counts-same : (n : ℕ) → plotLayers plot ≡ given n → countFromGraph (g .complete) (g .counts) ≡ n
+    counts-same n q = counts-agree b fixed laid ts plotBoards n (told n q) (4 * plotNodes) plotNodes (2 * plotEdges) g made
 
     pub lists-cuttings : HasFreeCell (plot .board) → AllEdgeJoined (plot .tiles)
         → Numbering (IsCutting (plot .board) (plot .tiles)) (countFromGraph (g .complete) (g .counts)) (cuttingOf g)
     lists-cuttings free joined =
         of-plot (λ d paths. Numbering (IsCutting d paths) (countFromGraph (g .complete) (g .counts)) (cuttingOf g))
-        (lists-number-cuttings b fixed laid ts 4096 1024 8192 g made (free-struct free) (joined-struct joined))
-
-    pub counts-same : (n : ℕ) → plotLayers plot ≡ given n → countFromGraph (g .complete) (g .counts) ≡ n
-    counts-same n q = counts-agree b fixed laid ts 512 n (told n q) 4096 1024 8192 g made
-
-    module _ (m : ℕ) (below : m < countFromGraph (g .complete) (g .counts)) where
-      pub nodes-chain : (v : ℕ) × (g .complete ≡ some v) × Chain (λ p c. Mem (p, c) (g .edges)) 0 v (nodeListOf g m)
-      nodes-chain = list-chain b fixed laid ts 4096 1024 8192 g made m below
-
-      pub nodes-below : (v : ℕ) → Mem v (nodeListOf g m) → v < length (g .nodes)
-      nodes-below = list-below b fixed laid ts 4096 1024 8192 g made m below
-
-      pub nodes-short : length (nodeListOf g m) ≤ 257
-      nodes-short = list-short b fixed laid ts 4096 1024 8192 g made m below
+        (lists-number-cuttings b fixed laid ts (4 * plotNodes) plotNodes (2 * plotEdges) g made (free-struct free) (joined-struct joined))

@@ -1,21 +1,19 @@
 -- Definitions: the text that the program `plot` prints for a file. What stands in quotation marks is 01's, from its sections Known plots, The layer count and The
--- graph. Counts, graph and tilings are those of `tiler`, `graph` and `covers`; what a file holds is `plotIn` of `plot_file`. Assumes nothing.
+-- graph. Counts, graph and tilings are those of `tiler` and `graph`; what a file holds is `plotIn` of `plot_file`. Assumes nothing.
 use mathlib.Core.Path.{_≡_}
-use mathlib.Core.Bool.{Bool, cond}
-use mathlib.Core.List.{List, [], _∷_, _++_, map, flatMap}
+use mathlib.Core.Bool.{cond}
+use mathlib.Core.List.{List, [], _∷_, _++_, flatMap}
 use Prim.Native.Nat.{ℕ, zero, suc, _+_, _/_, _%_, min}
 use Prim.Native.String.{String}
-use lib.Dec.{eqb, ltb}
-use lib.ListN.{length, getD, take, drop}
-use Rattle.cells.specs.Firsts.{holds}
+use lib.Dec.{ltb}
+use lib.ListN.{length, take, drop}
 use Rattle.cells.specs.Arrays.{listOf}
 use Rattle.refusal.specs.Refusal.{Answer, refused, given}
 use Rattle.tile.specs.Path.{equalCounts}
-use Rattle.board.specs.Board.{marks, freeCount}
-use Rattle.covers.specs.Counts.{atNode, tiling, piecesOf}
-use Rattle.graph.specs.Tilings.{countIn, countFromGraph, stepPiece}
-use Rattle.tiler.specs.Boards.{setting}
-use Rattle.tiler.specs.Counting.{layersAnswer, Graph, graphOf, weighGraph}
+use Rattle.board.specs.Board.{freeCount}
+use Rattle.graph.specs.Rooms.{plotBoards, plotNodes, plotEdges}
+use Rattle.graph.specs.Tilings.{countFromGraph}
+use Rattle.tiler.specs.Counting.{layersOf, Graph, graphFor, nodeListOf}
 use Rattle.plot_file.specs.Ascii.{ascii}
 use Rattle.plot_file.specs.PlotFile.{Plot, plotIn}
 
@@ -28,27 +26,18 @@ withEqualTiles plot answer = cond (equalCounts (plot .tiles)) answer (refused 7)
 
 -- the program "lends 512 boards a layer,"
 unfoldable pub plotLayers : Plot → Answer ℕ
-unfolding withEqualTiles layersAnswer setting marks
-plotLayers plot = withEqualTiles plot (layersAnswer (setting (plot .board) (plot .tiles)) (marks (plot .board)) 512)
+unfolding withEqualTiles layersOf
+plotLayers plot = withEqualTiles plot (layersOf (plot .board) (plot .tiles) plotBoards)
 
 -- "1,024 nodes, 4,096 edges,"
 unfoldable pub plotGraph : Plot → Answer Graph
-unfolding withEqualTiles weighGraph graphOf setting marks
-plotGraph plot = withEqualTiles plot (weighGraph 1024 4096 (graphOf (setting (plot .board) (plot .tiles)) (marks (plot .board))))
+unfolding withEqualTiles graphFor
+plotGraph plot = withEqualTiles plot (graphFor (plot .board) (plot .tiles) plotNodes plotEdges)
 
--- "and lists the first 16 tilings, or all if there are fewer": how many are listed, and the node list of one
+-- "and lists the first 16 tilings, or all if there are fewer": how many are listed
 unfoldable pub listed : Graph → ℕ
 unfolding countFromGraph
 listed g = min 16 (countFromGraph (g .complete) (g .counts))
-
-unfoldable pub nodeListOf : Graph → ℕ → List ℕ
-unfolding tiling atNode
-nodeListOf g m = tiling (g .edges) (countIn (g .counts)) (atNode (λ v. v) (g .complete)) m
-
--- the cutting that the list gives: "the set of pieces that its steps mark", the nodes being the graph's boards. No line prints it; the theorems speak of it
-unfoldable pub cuttingOf : Graph → ℕ → ℕ → Bool
-unfolding holds stepPiece nodeListOf
-cuttingOf g m = holds eqb (piecesOf stepPiece (map (λ v. getD (g .nodes) v 0) (nodeListOf g m)))
 
 -- ---- the parts of a line
 

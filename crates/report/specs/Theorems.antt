@@ -1,6 +1,6 @@
 -- The theorems about the text that the program `plot` prints: how long it is at most, how many bytes of a file settle it, that its counts are the number of
 -- cuttings, that its two counts agree, and what its tiling lines list. The text is `report` of `Report`; its examples are in `Examples`. Each is said here
--- in words and proved in `CountLaws`, `FitLaws` or `PlotLaws`. What stands in quotation marks is 01's. Assumes nothing.
+-- in words and proved in `CountLaws`, `BuiltLaws`, `FitLaws`, `PlotLaws` or tiler's `NumberLaws`. What stands in quotation marks is 01's. Assumes nothing.
 use mathlib.Core.Path.{_≡_, refl, ap, ap₂, _∙_}
 use mathlib.Core.List.{List, [], _∷_, _++_, List·Memᴰ as Mem}
 use mathlib.Core.Option.{some}
@@ -12,12 +12,14 @@ use Rattle.refusal.specs.Refusal.{Answer, refused, given}
 use Rattle.covers.specs.Cuttings.{Exactly, Numbering}
 use Rattle.covers.specs.Counts.{Chain}
 use Rattle.graph.specs.Tilings.{countFromGraph}
-use Rattle.tiler.specs.Counting.{Graph}
+use Rattle.tiler.specs.Counting.{Graph, nodeListOf, cuttingOf}
 use Rattle.tiler.specs.Cuttings.{IsCutting, HasFreeCell, AllEdgeJoined}
+use Rattle.tiler.specs.NumberLaws.{list-chain, list-below}
 use Rattle.plot_file.specs.PlotFile.{Plot, plotIn}
 use Rattle.plot_file.specs.Theorems.{refusal-listed, accepted-plot, accepted-fixed, four-thousand-settle}
-use Rattle.report.specs.Report.{plotLayers, plotGraph, listed, nodeListOf, cuttingOf, linesFor, report, WritesReport}
+use Rattle.report.specs.Report.{plotLayers, plotGraph, listed, linesFor, report, WritesReport}
 use Rattle.report.specs.CountLaws as Count
+use Rattle.report.specs.BuiltLaws.{list-short}
 use Rattle.report.specs.PlotLaws as P
 use Rattle.report.specs.PlotLaws.{AcceptedPlot}
 use Rattle.report.specs.FitLaws.{refused-length, plot-length}
@@ -110,15 +112,15 @@ module _ (file : List ℕ) (plot : Plot) (is : plotIn file ≡ given plot) where
     module _ (m : ℕ) (line : m < listed g) where
       -- A line's list begins at node 0, goes from each node to the next over an edge, and ends at the full node,
       pub list-is-chain : (v : ℕ) × (g .complete ≡ some v) × Chain (λ p c. Mem (p, c) (g .edges)) 0 v (nodeListOf g m)
-      list-is-chain = P.nodes-chain plot ok g made m (below-count g m line)
+      list-is-chain = P.of-graph plot ok g made (λ b f l ts x y z is. list-chain b f l ts x y z g is m (below-count g m line))
 
       -- has at least one node and at most 257,
       pub list-has-node : 1 ≤ length (nodeListOf g m)
       list-has-node = let c = list-is-chain in chain-some (λ p c. Mem (p, c) (g .edges)) 0 (c .0) (nodeListOf g m) (c .2)
 
       pub list-has-few-nodes : length (nodeListOf g m) ≤ 257
-      list-has-few-nodes = P.nodes-short plot ok g made m (below-count g m line)
+      list-has-few-nodes = P.of-graph plot ok g made (λ b f l ts x y z is. list-short b f l ts x y z g is m (below-count g m line))
 
       -- and its nodes are the graph's.
       pub list-in-graph : (v : ℕ) → Mem v (nodeListOf g m) → v < length (g .nodes)
-      list-in-graph = P.nodes-below plot ok g made m (below-count g m line)
+      list-in-graph = P.of-graph plot ok g made (λ b f l ts x y z is. list-below b f l ts x y z g is m (below-count g m line))

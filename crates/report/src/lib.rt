@@ -8,7 +8,6 @@ use graph::Tiling;
 use plot_file::MadePlot;
 use refusal::Verdict;
 use tile::Tiles;
-use tiler::Count;
 ghost use mathlib.Core.Path.{_≡_};
 ghost use mathlib.Core.List.{flatMap};
 ghost use Prim.Native.Nat.{_≤_, _<_};

@@ -13,7 +13,7 @@ use Rattle.covers.specs.Cuttings.{childBoards}
 use Rattle.covers.specs.Counts.{ChildSequence, piecesOf}
 use Rattle.covers.specs.ChildLaws.{sequence-children, children-sequence}
 use Rattle.covers.specs.SequenceLaws.{free-not-full, sequence-cutting, cutting-sequence}
-use Rattle.graph.specs.Tilings.{stepPiece}
+use Rattle.graph.specs.Tilings.{stepPiece, markedBy}
 use Rattle.tiler.specs.Boards.{setting}
 use Rattle.tiler.specs.Cuttings.{IsCutting, HasFreeCell, AllEdgeJoined}
 use Rattle.tiler.specs.SettingLaws.{children-are, setting-laws, start-at, start-ok}
@@ -26,11 +26,11 @@ module _ (b : Board) (good : So (valid b)) (paths : List Path) (fixedLt : b .fix
   same-children = fun-ext (children-are b paths)
 
   -- the pieces that a tiling's steps mark
-  pub tiling-cutting : (xs : List ℕ) → Tiling b paths xs → IsCutting b paths (holds eqb (piecesOf stepPiece xs))
+  pub tiling-cutting : (xs : List ℕ) → Tiling b paths xs → IsCutting b paths (markedBy xs)
   unfolding setting
   tiling-cutting xs t =
       let ok = start-ok b paths good fixedLt laidLt in
-      cutting-start b paths good fixedLt laidLt (holds eqb (piecesOf stepPiece xs)) .0
+      cutting-start b paths good fixedLt laidLt (markedBy xs) .0
       (sequence-cutting (setting b paths) (setting-laws b paths good) (marks b) (piecesOf stepPiece xs) ok
       (children-sequence (setting b paths) (setting-laws b paths good) (marks b) (t .last) xs ok (t .full)
       (subst (λ (ch : ℕ → List ℕ). ChildSequence ch (marks b) (t .last) xs) (sym same-children) (t .sequence))))
@@ -45,7 +45,7 @@ module _ (b : Board) (good : So (valid b)) (paths : List Path) (fixedLt : b .fix
 
   -- each cutting is that of a tiling
   pub cutting-tiling : HasFreeCell b → AllEdgeJoined paths → ((path : Path) → Mem path paths → So (codesOk path)) → (X : ℕ → Bool) → IsCutting b paths X
-      → (xs : List ℕ) × Tiling b paths xs × (holds eqb (piecesOf stepPiece xs) ≡ X)
+      → (xs : List ℕ) × Tiling b paths xs × (markedBy xs ≡ X)
   unfolding setting
   cutting-tiling free joined codes X cutting =
       let ok = start-ok b paths good fixedLt laidLt in

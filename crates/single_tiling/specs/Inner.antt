@@ -64,7 +64,7 @@ unfoldable pub fitIndex : Board → List Path → ℕ → ℕ → List ℕ
 unfolding fitFor
 fitIndex b paths cell i = fitFor b (getD paths (i / 33) []) (i % 33) cell
 
--- the cell on which pieces are put: none where the board is pruned
+-- the cell on which pieces are put: none where the board is pruned or full
 unfoldable pub placeOf : Option ℕ → Place
 placeOf none = P.Nowhere
 placeOf (some cell) = P.Cell cell

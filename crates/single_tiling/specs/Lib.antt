@@ -1,5 +1,5 @@
 -- The specification of `single_tiling`. `SingleTiling` holds the definitions that the public contract cites, `Inner` those of private functions;
--- `Theorems` says what the answer means; `Examples` computes small plots. The others hold laws.
+-- `Theorems` says what the answer means. The others hold laws. Plots that are computed stand in the crate `known_plots`.
 pub mod SingleTiling
 pub mod Inner
 pub mod FirstLaws
@@ -10,4 +10,3 @@ pub mod SumLaws
 pub mod CountLaws
 pub mod CuttingLaws
 pub mod Theorems
-pub mod Examples

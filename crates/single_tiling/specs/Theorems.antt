@@ -9,9 +9,7 @@ use mathlib.Core.Bool.{Bool, So}
 use mathlib.Core.List.{List}
 use mathlib.Core.Option.{Option, none, some}
 use Prim.Native.Nat.{ℕ, _+_, _/_, _^_, _≤_, _<_}
-use lib.Dec.{eqb}
 use lib.ListN.{length, replicate}
-use Rattle.cells.specs.Firsts.{holds}
 use Rattle.cells.specs.Lists.{setsIn, wordsFor}
 use Rattle.cells.specs.Words.{Sound}
 use Rattle.cells.specs.WordLaws.{number-lt}
@@ -23,8 +21,7 @@ use Rattle.tile.specs.Stored.{pathsIn}
 use Rattle.tile.specs.EqualLaws.{readTiles-storable}
 use Rattle.board.specs.declared.RectangularBoard.{RectangularBoard}
 use Rattle.board.specs.Board.{Board, boardOf, freeCount, isFull, valid}
-use Rattle.covers.specs.Counts.{piecesOf}
-use Rattle.graph.specs.Tilings.{stepPiece}
+use Rattle.graph.specs.Tilings.{markedBy}
 use Rattle.tiler.specs.Counting.{countTilings}
 use Rattle.tiler.specs.Cuttings.{IsCutting, HasFreeCell, AllEdgeJoined}
 use Rattle.single_tiling.specs.declared.SingleTiling.{SingleTiling}
@@ -32,10 +29,6 @@ use Rattle.single_tiling.specs.SingleTiling.{Tiling, readSearch, numberF
 use Rattle.single_tiling.specs.TilingLaws.{tiling-length, tiling-small, full-no-tiling, search-read, finds-none, finds-some, finds-nothing, words-refused, answer-given, words-given, words-back, words-zero, no-cells-full}
 use Rattle.single_tiling.specs.CountLaws.{no-tiling-count, count-no-tiling}
 use Rattle.single_tiling.specs.CuttingLaws.{tiling-cutting, cutting-tiling}
-
--- the pieces that the steps of a list of boards mark, as a set
-abbrev pub markedBy : List ℕ → ℕ → Bool
-markedBy xs = holds eqb (piecesOf stepPiece xs)
 
 -- ---- 0. A refusal
 

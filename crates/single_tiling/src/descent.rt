@@ -25,7 +25,7 @@ pub enum Found {
     Nothing,
 }
 
-// The cell on which pieces are put.
+// The cell on which pieces are put; nowhere where the board is pruned or full.
 enum Place {
     Cell(usize),
     Nowhere,
@@ -167,12 +167,13 @@ pub fn descend(
     while i < end {
         let fit = new_fit(here, count, lens, codes, cell, i);
         i += 1;
-        if let Fit::Piece(w0, w1, w2, w3) = fit {
-            let child = here.mark_tile_at_position(w0, w1, w2, w3);
-            let found = descend(child, count, lens, codes, single, out, depth + 1);
-            if let Found::Boards(n) = found {
-                return Found::Boards(n);
-            }
+        let Fit::Piece(w0, w1, w2, w3) = fit else {
+            continue;
+        };
+        let child = here.mark_tile_at_position(w0, w1, w2, w3);
+        let found = descend(child, count, lens, codes, single, out, depth + 1);
+        if let Found::Boards(n) = found {
+            return Found::Boards(n);
         }
     }
     Found::Nothing

@@ -368,7 +368,8 @@ sound-path : (lens codes : List ℕ) (i : ℕ) (p : Path) → getD lens i 0 ≡ 
 unfolding soundAt
 sound-path lens codes i p e q h ok = let k : getD lens i 0 ≤ 32 = omega arith in rw (le-leb (getD lens i 0) 32 k, q, ok)
 
-storable-short : (ps : List Path) → Storable ps → Short ps
+-- what can be stored is short
+pub storable-short : (ps : List Path) → Storable ps → Short ps
 storable-short ps h i = go (decLt i (length ps))
   where
     go : Dec (i < length ps) → length (getD ps i []) ≤ 32

@@ -2,8 +2,9 @@
 // the Rust), and a collection of tiles has at most 64 of them.
 //
 // The structs hold any numbers; a call that is handed one tests it and refuses, 6 (over 64 tiles)
-// before 5 (a path over 32 or a code over 7), so that nothing is asked of a caller. What each call
-// answers is a definition of specs/: Path.antt for the paths, Stored.antt for how they are stored.
+// before 5 (a path over 32 or a code over 7), so that nothing is asked of a caller. Only `with_tile`
+// and `get` take a tile as it stands. What each call answers is a definition of specs/: Path.antt
+// for the paths, Stored.antt for how they are stored.
 use codes::Motion;
 use direction::Axis;
 use refusal::Refusal;

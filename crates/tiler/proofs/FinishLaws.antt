@@ -1,5 +1,5 @@
 -- What a graph in lent words comes to: the search for the full board's node; the words cleared after a refusal; and the refusals and the result of a
--- graph that has grown. Rests on `BuildLaws`, `PassingLaws`, `PlotLaws`, `AcceptedLaws`, graph's `GraphLaws` and covers' laws. Assumes nothing.
+-- graph that has grown. Rests on `BuildLaws`, `PassingLaws`, `AcceptedLaws`, graph's `GraphLaws` and covers' laws. Assumes nothing.
 use mathlib.Core.Path.{_≡_, refl, sym, ap, _∙_, subst}
 use mathlib.Core.Bool.{Bool, true, false}
 use mathlib.Core.List.{List, [], _∷_}
@@ -36,7 +36,7 @@ use Rattle.tiler.specs.declared.building.Growth.the-variants as G
 use Rattle.tiler.specs.Boards.{From, setting, settingOf, startOf}
 use Rattle.graph.specs.Rooms.{nodeRoom, edgeRoom}
 use Rattle.graph.specs.Tilings.{completeNode}
-use Rattle.tiler.specs.Counting.{Graph, Makes, readPlot, graphOf, weighGraph, countLimit, tooLarge, generateGraph}
+use Rattle.tiler.specs.Counting.{Graph, Makes, readPlot, graphOf, judgeGraph, countLimit, tooLarge, generateGraph}
 use Rattle.tiler.specs.Inner.{Accepted, stepOf, HoldsGraph, PassesEdges, firstCount, Finishes}
 use Rattle.tiler.specs.AcceptedLaws.{accepted-laws, accepted-steps, accepted-start}
 use Rattle.graph.specs.RoomLaws.{node-room, edge-room}
@@ -106,26 +106,26 @@ makes-as : (a a′ : Answer Graph) (n n₁ c c₁ e e₁ : ℕ) (ns cs es : List
     → Makes a′ n₁ c₁ e₁ ns cs es r → Makes a n c e ns cs es r
 makes-as a a′ n n₁ c c₁ e e₁ ns cs es r p q s t m = rw (p, ← q, ← s, ← t) m
 
--- ---- what is weighed
+-- ---- what is judged
 
 module _ (room space : ℕ) (g : Graph) where
-  weigh-nodes : room < length (g .nodes) → weighGraph room space g ≡ refused 8
-  unfolding weighGraph
-  weigh-nodes h = rw (lt-leb (length (g .nodes)) room h)
+  judgeGraph-nodes : room < length (g .nodes) → judgeGraph room space g ≡ refused 8
+  unfolding judgeGraph
+  judgeGraph-nodes h = rw (lt-leb (length (g .nodes)) room h)
 
   module _ (h : length (g .nodes) ≤ room) where
-    weigh-edges : space < length (g .edges) → weighGraph room space g ≡ refused 10
-    unfolding weighGraph
-    weigh-edges l = rw (le-leb (length (g .nodes)) room h, lt-leb (length (g .edges)) space l)
+    judgeGraph-edges : space < length (g .edges) → judgeGraph room space g ≡ refused 10
+    unfolding judgeGraph
+    judgeGraph-edges l = rw (le-leb (length (g .nodes)) room h, lt-leb (length (g .edges)) space l)
 
     module _ (l : length (g .edges) ≤ space) where
-      weigh-large : tooLarge (g .counts) ≡ true → weighGraph room space g ≡ refused 9
-      unfolding weighGraph
-      weigh-large t = rw (le-leb (length (g .nodes)) room h, le-leb (length (g .edges)) space l, t)
+      judgeGraph-large : tooLarge (g .counts) ≡ true → judgeGraph room space g ≡ refused 9
+      unfolding judgeGraph
+      judgeGraph-large t = rw (le-leb (length (g .nodes)) room h, le-leb (length (g .edges)) space l, t)
 
-      weigh-given : tooLarge (g .counts) ≡ false → weighGraph room space g ≡ given g
-      unfolding weighGraph
-      weigh-given t = rw (le-leb (length (g .nodes)) room h, le-leb (length (g .edges)) space l, t)
+      judgeGraph-given : tooLarge (g .counts) ≡ false → judgeGraph room space g ≡ given g
+      unfolding judgeGraph
+      judgeGraph-given t = rw (le-leb (length (g .nodes)) room h, le-leb (length (g .edges)) space l, t)
 
 -- ---- the graph of a board and tiles
 
@@ -224,9 +224,9 @@ module _ (b : RectangularBoard) (ts : Tiles) (accepted : Accepted b ts) (fixed :
       (ns es : List ℕ) (growth : Growth) (holds : HoldsGraph room space ns es growth (nodes, edges))
       (longNodes : length ns ≡ wn) (longEdges : length es ≡ we) where
     abbrev answer : Answer Graph
-    answer = weighGraph (nodeRoom wn wc) (edgeRoom we) (graphOf S start)
+    answer = judgeGraph (nodeRoom wn wc) (edgeRoom we) (graphOf S start)
 
-    rooms : answer ≡ weighGraph room space (graphOf S start)
+    rooms : answer ≡ judgeGraph room space (graphOf S start)
     rooms = rw (← atRoom, ← atSpace)
 
     pub made-no-room : (ns′ cs′ es′ : List ℕ) (r : MadeGraph) → growth ≡ G.NoRoom → Makes (refused 8) (length ns) wc (length es) ns′ cs′ es′ r
@@ -234,7 +234,7 @@ module _ (b : RectangularBoard) (ts : Tiles) (accepted : Accepted b ts) (fixed :
     unfolding graphOf
     made-no-room ns′ cs′ es′ r q =
         makes-as answer (refused 8) wn (length ns) wc wc we (length es) ns′ cs′ es′ r
-        (rooms ∙ weigh-nodes room space (graphOf S start) (no-room-held room space (nodes, edges) (sym q ∙ holds .state))) longNodes refl longEdges
+        (rooms ∙ judgeGraph-nodes room space (graphOf S start) (no-room-held room space (nodes, edges) (sym q ∙ holds .state))) longNodes refl longEdges
 
     module _ (n e : ℕ) (size : growth ≡ G.Size n e) where
       -- what the calls ask
@@ -263,7 +263,7 @@ module _ (b : RectangularBoard) (ts : Tiles) (accepted : Accepted b ts) (fixed :
           let fits = sized room space ns es growth n e holds size in
           let q = fits .2 in
           makes-as answer (refused 10) wn (length ns) wc wc we (length es) ns′ cs′ es′ r
-          (rooms ∙ weigh-edges room space (graphOf S start) (fits .0) (omega arith)) longNodes refl longEdges
+          (rooms ∙ judgeGraph-edges room space (graphOf S start) (fits .0) (omega arith)) longNodes refl longEdges
 
       module _ (few : e ≤ space) (cs : List ℕ) (t : Bool) (longCounts : length cs ≡ wc)
           (pass : PassesEdges (firstCount wc) (listOf (edgeAt es) e) cs t) where
@@ -273,7 +273,7 @@ module _ (b : RectangularBoard) (ts : Tiles) (accepted : Accepted b ts) (fixed :
         made-large ns′ cs′ es′ r f =
             makes-as answer (refused 9) wn (length ns) wc (length cs) we (length es) ns′ cs′ es′ r
             (rooms
-            ∙ weigh-large room space (graphOf S start) (sized room space ns es growth n e holds size .0)
+            ∙ judgeGraph-large room space (graphOf S start) (sized room space ns es growth n e holds size .0)
             (all-edges room space ns es growth n e holds size few .1)
             (counts-large room space ns es growth n e holds size few wc cs t (node-room room wn wc (le-of-eq atRoom) .1) pass f))
             longNodes longCounts longEdges
@@ -285,7 +285,7 @@ module _ (b : RectangularBoard) (ts : Tiles) (accepted : Accepted b ts) (fixed :
             let fits = sized room space ns es growth n e holds size in
             makes-as answer (given (graphOf S start)) wn (length ns) wc (length cs) we (length es) ns′ cs es′ r
             (rooms
-            ∙ weigh-given room space (graphOf S start) (fits .0) (all-edges room space ns es growth n e holds size few .1)
+            ∙ judgeGraph-given room space (graphOf S start) (fits .0) (all-edges room space ns es growth n e holds size few .1)
             (words-fit (counts (entriesOf S start)) cs are smallCounts))
             longNodes longCounts longEdges
             (record {
@@ -311,17 +311,17 @@ module _ (b : RectangularBoard) (ts : Tiles) (accepted : Accepted b ts) (fixed :
 
 module _ (b : RectangularBoard) (ts : Tiles) (wn wc we : ℕ) (ns cs es : List ℕ) (r : MadeGraph) where
   generates : (a : Answer (Board × List Path)) → readPlot b ts ≡ a
-      → Makes (bindAnswer a (λ p. weighGraph (nodeRoom wn wc) (edgeRoom we) (graphOf (setting (p .0) (p .1)) (marks (p .0))))) wn wc we ns cs es r
+      → Makes (bindAnswer a (λ p. judgeGraph (nodeRoom wn wc) (edgeRoom we) (graphOf (setting (p .0) (p .1)) (marks (p .0))))) wn wc we ns cs es r
       → Makes (generateGraph b ts wn wc we) wn wc we ns cs es r
   unfolding generateGraph
   generates a e =
       subst
       (λ (x : Answer (Board × List Path)).
-      Makes (bindAnswer x (λ p. weighGraph (nodeRoom wn wc) (edgeRoom we) (graphOf (setting (p .0) (p .1)) (marks (p .0))))) wn wc we ns cs es r)
+      Makes (bindAnswer x (λ p. judgeGraph (nodeRoom wn wc) (edgeRoom we) (graphOf (setting (p .0) (p .1)) (marks (p .0))))) wn wc we ns cs es r)
       (sym e)
 
   pub generates-made : readPlot b ts ≡ given (boardOf b, pathsIn ts)
-      → Makes (weighGraph (nodeRoom wn wc) (edgeRoom we) (graphOf (settingOf b ts) (startOf b))) wn wc we ns cs es r
+      → Makes (judgeGraph (nodeRoom wn wc) (edgeRoom we) (graphOf (settingOf b ts) (startOf b))) wn wc we ns cs es r
       → Makes (generateGraph b ts wn wc we) wn wc we ns cs es r
   unfolding bindAnswer
   generates-made e m = generates (given (boardOf b, pathsIn ts)) e m

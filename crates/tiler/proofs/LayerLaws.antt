@@ -32,7 +32,7 @@ use Rattle.graph.specs.GraphLaws.{found-held}
 use Rattle.tiler.specs.declared.layers.Layer.{Layer}
 use Rattle.tiler.specs.declared.layers.Layer.the-variants as L
 use Rattle.tiler.specs.Boards.{setting}
-use Rattle.tiler.specs.Counting.{countLimit, tooLarge, weigh}
+use Rattle.tiler.specs.Counting.{countLimit, tooLarge, judgeLayer}
 use Rattle.tiler.specs.Inner.{entriesIn, layerState, HoldsLayer, addEach, nextOf, AddsCount}
 use Rattle.tiler.specs.AddingLaws.{tooLarge-snoc, tooLarge-set, addPaths-new, counts-old, length-old, length-new, length-addPaths, addEach-none, addEach-more, next-none, next-more}
 
@@ -96,17 +96,17 @@ entries-are bs cs es f g = sym (listOf-eta (0, 0) es (λ i. (setAt bs i, getD cs
         sym (List·getD-map (λ (e : Entry ℕ). e .1) es i (0, 0)) ∙ ap (λ (l : List ℕ). getD l i 0) (sym g) ∙ getD-listOf (λ i. getD cs i 0) (length es) i 0 h
 
 module _ (room : ℕ) (bs cs : List ℕ) (es : List (Entry ℕ)) where
-  pub held-no-room : HoldsLayer room bs cs L.NoRoom es → weigh room es ≡ refused 8
-  unfolding weigh
+  pub held-no-room : HoldsLayer room bs cs L.NoRoom es → judgeLayer room es ≡ refused 8
+  unfolding judgeLayer
   held-no-room h = rw (lt-leb (length es) room (state-no-room room es (h .state)))
 
   module _ (m : ℕ) where
-    pub held-large : HoldsLayer room bs cs (L.Boards m true) es → weigh room es ≡ refused 9
-    unfolding weigh
+    pub held-large : HoldsLayer room bs cs (L.Boards m true) es → judgeLayer room es ≡ refused 9
+    unfolding judgeLayer
     held-large h = let s = state-boards room es m true (h .state) in rw (le-leb (length es) room (s .0), ← s .2)
 
-    pub held-fits : HoldsLayer room bs cs (L.Boards m false) es → weigh room es ≡ given es
-    unfolding weigh
+    pub held-fits : HoldsLayer room bs cs (L.Boards m false) es → judgeLayer room es ≡ given es
+    unfolding judgeLayer
     held-fits h = let s = state-boards room es m false (h .state) in rw (le-leb (length es) room (s .0), ← s .2)
 
     pub held-entries : HoldsLayer room bs cs (L.Boards m false) es → (m ≡ length es) × (length es ≤ room) × (entriesIn bs cs m ≡ es)

@@ -22,7 +22,7 @@ use Rattle.covers.specs.Counts.{Entry, boards, counts}
 use Rattle.tiler.specs.declared.layers.Layer.{Layer}
 use Rattle.tiler.specs.declared.layers.Layer.the-variants as L
 use Rattle.tiler.specs.Boards.{From, setting, settingOf}
-use Rattle.tiler.specs.Counting.{weigh}
+use Rattle.tiler.specs.Counting.{judgeLayer}
 use Rattle.tiler.specs.Inner.{Accepted, stepOf, entriesIn, HoldsLayer, nextOf, countFrom, Ready}
 use Rattle.tiler.specs.RunLaws.{count-last, count-short, count-on, ready-next}
 use Rattle.tiler.specs.AcceptedLaws.{stepOf-pos, setting-full, accepted-laws, accepted-steps}
@@ -98,14 +98,14 @@ module _ (b : RectangularBoard) (ts : Tiles) (bs cs : List ℕ) (n left : ℕ) (
             ∙ short-layer z l k h
 
     module _ (fits : size ≤ left) (bs′ cs′ : List ℕ) (g : Layer) (H : HoldsLayer room bs′ cs′ g (nextOf S es)) where
-      next : (k : ℕ) → left ≤ k → countFrom S room k es ≡ bindAnswer (weigh room (nextOf S es)) (countFrom S room (k - 1))
+      next : (k : ℕ) → left ≤ k → countFrom S room k es ≡ bindAnswer (judgeLayer room (nextOf S es)) (countFrom S room (k - 1))
       next k h =
           let some : 0 < left = omega (arith, size-pos) in
           let q : k ≡ suc (k - 1) = omega arith in
           ap (λ (i : ℕ). countFrom S room i es) q
           ∙ count-on S (accepted-laws b ts A) (setting-full (boardOf b) (pathsIn ts)) room (k - 1) left es R some
 
-      refuses : (m : ℕ) → weigh room (nextOf S es) ≡ refused m → Right (refused m)
+      refuses : (m : ℕ) → judgeLayer room (nextOf S es) ≡ refused m → Right (refused m)
       unfolding bindAnswer
       refuses m w k h =
           ap (λ (x : Answer (List (Entry ℕ))). bindAnswer x (countFrom S room (k - 1))) (sym w) ∙ sym (next k h)

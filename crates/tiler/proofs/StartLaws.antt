@@ -1,4 +1,4 @@
--- Laws that the proofs of `layers::start`, `layers::weighed`, `layers::counted`, `count_tilings` and `generate_graph` cite: layer 0 in lent words, the
+-- Laws that the proofs of `layers::start`, `layers::count_accepted`, `layers::counted`, `count_tilings` and `generate_graph` cite: layer 0 in lent words, the
 -- answer of each way out, the words that are cleared, and a contract with what follows from it. Rests on `RunLaws`, `AcceptedLaws` and cells' `ListLaws`. Assumes nothing.
 use mathlib.Core.Path.{_≡_, sym, ap, ap₂, _∙_, subst}
 use mathlib.Core.List.{List, [], _∷_}
@@ -43,7 +43,7 @@ first-entries b bs cs bs′ m is put longB longC =
     (ap (λ (ws : List ℕ). setAt ws 0) (put ∙ ap (withSet bs 0) is) ∙ setAt-same bs 0 (startOf b) (one-lent (length bs) longB) (marks-lt (boardOf b)))
     (getD-set-same cs 0 1 0 longC)
 
--- ---- the ways out of `weighed`
+-- ---- the ways out of `count_accepted`
 
 pub start-no-room : (S : Setting ℕ ℕ) (s room R : ℕ) → room ≡ R → room ≡ 0 → refused 8 ≡ layersAnswer S s R
 start-no-room S s room R e z = sym (ap (layersAnswer S s) (sym e ∙ z) ∙ layers-no-room S s)

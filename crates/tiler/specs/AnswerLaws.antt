@@ -33,7 +33,7 @@ use Rattle.graph.specs.Rooms.{nodeRoom, edgeRoom}
 use Rattle.graph.specs.RoomLaws.{node-room, edge-room}
 use Rattle.graph.specs.Tilings.{countIn}
 use Rattle.graph.specs.TilingLaws.{SoundGraph}
-use Rattle.tiler.specs.Counting.{countLimit, tooLarge, readPlot, weighTo, layersAnswer, Graph, graphOf, weighGraph, generateGraph, Makes}
+use Rattle.tiler.specs.Counting.{countLimit, tooLarge, readPlot, judgeLayers, layersAnswer, Graph, graphOf, judgeGraph, generateGraph, Makes}
 use Rattle.tiler.specs.Inner.{Accepted}
 use Rattle.tiler.specs.AcceptedLaws.{read-accepted}
 
@@ -48,9 +48,9 @@ from-read {A} b ts f x e = go (readPlot b ts) refl e
     go (given p) q h = let r = read-accepted b ts p q in (r .1, ap f (sym (r .0)) ∙ h)
 
 -- a graph that is given has room, and its counts fit
-pub weighed-graph : (room space : ℕ) (g k : Graph) → weighGraph room space g ≡ given k → (g ≡ k) × (length (g .nodes) ≤ room) × (length (g .edges) ≤ space) × (tooLarge (g .counts) ≡ false)
-unfolding weighGraph
-weighed-graph room space g k e = go (leb (length (g .nodes)) room) refl (leb (length (g .edges)) space) refl (tooLarge (g .counts)) refl e
+pub judged-graph : (room space : ℕ) (g k : Graph) → judgeGraph room space g ≡ given k → (g ≡ k) × (length (g .nodes) ≤ room) × (length (g .edges) ≤ space) × (tooLarge (g .counts) ≡ false)
+unfolding judgeGraph
+judged-graph room space g k e = go (leb (length (g .nodes)) room) refl (leb (length (g .edges)) space) refl (tooLarge (g .counts)) refl e
   where
     go : (s : Bool) → leb (length (g .nodes)) room ≡ s → (t : Bool) → leb (length (g .edges)) space ≡ t → (u : Bool) → tooLarge (g .counts) ≡ u
         → cond s (cond t (cond u (refused 9) (given g)) (refused 10)) (refused 8) ≡ given k
@@ -63,7 +63,7 @@ weighed-graph room space g k e = go (leb (length (g .nodes)) room) refl (leb (le
 -- the layer count that is given is the definition's
 pub counted-layers : (b : RectangularBoard) (ts : Tiles) (room n : ℕ) → layersAnswer (settingOf b ts) (startOf b) room ≡ given n → layerCount (settingOf b ts) (startOf b) ≡ n
 unfolding layersAnswer mapAnswer
-counted-layers b ts room n e = go (weighTo (layerOf (settingOf b ts) (startOf b)) room (settingOf b ts .freeCount (startOf b))) e
+counted-layers b ts room n e = go (judgeLayers (layerOf (settingOf b ts) (startOf b)) room (settingOf b ts .freeCount (startOf b))) e
   where
     go : {A : Type 0} (a : Answer A) → mapAnswer (λ es. layerCount (settingOf b ts) (startOf b)) a ≡ given n → layerCount (settingOf b ts) (startOf b) ≡ n
     go (refused k) h = absurd (refused-given k n h)
@@ -111,8 +111,8 @@ module _ (b : RectangularBoard) (ts : Tiles) where
       go true (refused k) q h = subst (λ (x : ℕ). 0 < x) (ap refusalOf h) (tiles-refusal k q)
       go true (given paths) q h = absurd (refused-given n (boardOf b, paths) (sym h))
 
-graph-refusal : (room space : ℕ) (g : Graph) → refusalOf (weighGraph room space g) ≡ 0 → (k : Graph) × (weighGraph room space g ≡ given k)
-unfolding weighGraph refusalOf
+graph-refusal : (room space : ℕ) (g : Graph) → refusalOf (judgeGraph room space g) ≡ 0 → (k : Graph) × (judgeGraph room space g ≡ given k)
+unfolding judgeGraph refusalOf
 graph-refusal room space g e = go (leb (length (g .nodes)) room) (leb (length (g .edges)) space) (tooLarge (g .counts)) e
   where
     go : (s t u : Bool) → refusalOf (cond s (cond t (cond u (refused 9) (given g)) (refused 10)) (refused 8)) ≡ 0
@@ -129,8 +129,8 @@ unfolding generateGraph bindAnswer refusalOf
 given-graph b ts nodeWords countWords edgeWords e = go (readPlot b ts) refl e
   where
     go : (a : Answer (Board × List Path)) → readPlot b ts ≡ a
-        → refusalOf (bindAnswer a (λ p. weighGraph (nodeRoom nodeWords countWords) (edgeRoom edgeWords) (graphOf (setting (p .0) (p .1)) (marks (p .0))))) ≡ 0
-        → (g : Graph) × (bindAnswer a (λ p. weighGraph (nodeRoom nodeWords countWords) (edgeRoom edgeWords) (graphOf (setting (p .0) (p .1)) (marks (p .0)))) ≡ given g)
+        → refusalOf (bindAnswer a (λ p. judgeGraph (nodeRoom nodeWords countWords) (edgeRoom edgeWords) (graphOf (setting (p .0) (p .1)) (marks (p .0))))) ≡ 0
+        → (g : Graph) × (bindAnswer a (λ p. judgeGraph (nodeRoom nodeWords countWords) (edgeRoom edgeWords) (graphOf (setting (p .0) (p .1)) (marks (p .0)))) ≡ given g)
     go (refused n) q h = absurd (omega (arith, plot-refusal b ts n q))
     go (given p) q h = graph-refusal (nodeRoom nodeWords countWords) (edgeRoom edgeWords) (graphOf (setting (p .0) (p .1)) (marks (p .0))) h
 

@@ -25,7 +25,7 @@ use Rattle.tiler.specs.Counting.{countLimit, countAnswer, CountsTilings,
 use Rattle.tiler.specs.Cuttings.{IsCutting, HasFreeCell, AllEdgeJoined, CountsCuttings, NumbersCuttings}
 use Rattle.tiler.specs.AnswerLaws.{given-graph}
 use Rattle.tiler.specs.GivenLaws.{plot-accepted}
-use Rattle.tiler.specs.NumberLaws.{count-cuttings, count-small, words-cuttings, list-length}
+use Rattle.tiler.specs.NumberLaws.{count-cuttings, count-small, words-cuttings, words-length}
 use Rattle.tiler.specs.Theorems.{calls-agree, own-graph-is-sound}
 
 -- ---- 1. Of one call
@@ -96,7 +96,7 @@ module _ (b : RectangularBoard) (fixed : Sound (b .fixed)) (laid : Sound (b .lai
   -- as is any output of more words than there are free cells.
   pub long-enough : (m : ℕ) → m < n → length (listFor m) ≤ freeCount (boardOf b) + 1
   long-enough m h =
-      list-length b fixed laid ts nodes counts edges nodes′ counts′ edges′ made generated (graph .0) (graph .1) free m (subst (λ (k : ℕ). m < k) (sym both-counts) h)
+      words-length b fixed laid ts nodes counts edges nodes′ counts′ edges′ made generated (graph .0) (graph .1) m (subst (λ (k : ℕ). m < k) (sym both-counts) h)
 
   -- the node list that the call leaves: as many words of the output as it answers; and, in 01's words, "the set of pieces that its steps mark"
   abbrev pub listIn : List ℕ → Tiling → List ℕ

@@ -20,10 +20,10 @@ use Rattle.graph.specs.Rooms.{nodeRoom, edgeRoom}
 use Rattle.graph.specs.Tilings.{completeNode, countIn, countFromGraph}
 use Rattle.tiler.specs.declared.MadeGraph.{MadeGraph}
 use Rattle.tiler.specs.Boards.{setting, settingOf, startOf}
-use Rattle.tiler.specs.Counting.{tooLarge, countTilings, Graph, graphOf, weighGraph, generateGraph, Makes, GeneratesGraph}
+use Rattle.tiler.specs.Counting.{tooLarge, countTilings, Graph, graphOf, judgeGraph, generateGraph, Makes, GeneratesGraph}
 use Rattle.tiler.specs.Inner.{Accepted, stepOf}
 use Rattle.tiler.specs.AcceptedLaws.{accepted-laws, accepted-steps, accepted-start}
-use Rattle.tiler.specs.AnswerLaws.{from-read, counted-layers, weighed-graph, as-many, small-at, HasRoom, counts-back}
+use Rattle.tiler.specs.AnswerLaws.{from-read, counted-layers, judged-graph, as-many, small-at, HasRoom, counts-back}
 
 module _ (b : RectangularBoard) (fixed : Sound (b .fixed)) (laid : Sound (b .laid)) (ts : Tiles) where
   -- board and tiles that are not refused, as a setting
@@ -42,22 +42,22 @@ module _ (b : RectangularBoard) (fixed : Sound (b .fixed)) (laid : Sound (b .lai
       )
 
   module _ (nodeWords countWords edgeWords : ℕ) (g : Graph) (made : generateGraph b ts nodeWords countWords edgeWords ≡ given g) where
-    read : Accepted b ts × (weighGraph (nodeRoom nodeWords countWords) (edgeRoom edgeWords) (graphOf (settingOf b ts) (startOf b)) ≡ given g)
+    read : Accepted b ts × (judgeGraph (nodeRoom nodeWords countWords) (edgeRoom edgeWords) (graphOf (settingOf b ts) (startOf b)) ≡ given g)
     unfolding generateGraph
     read = from-read b ts _ g made
 
-    weighed : (graphOf (settingOf b ts) (startOf b) ≡ g) × (length (graphOf (settingOf b ts) (startOf b) .nodes) ≤ nodeRoom nodeWords countWords)
+    judged : (graphOf (settingOf b ts) (startOf b) ≡ g) × (length (graphOf (settingOf b ts) (startOf b) .nodes) ≤ nodeRoom nodeWords countWords)
         × (length (graphOf (settingOf b ts) (startOf b) .edges) ≤ edgeRoom edgeWords) × (tooLarge (graphOf (settingOf b ts) (startOf b) .counts) ≡ false)
-    weighed = weighed-graph (nodeRoom nodeWords countWords) (edgeRoom edgeWords) (graphOf (settingOf b ts) (startOf b)) g (read .1)
+    judged = judged-graph (nodeRoom nodeWords countWords) (edgeRoom edgeWords) (graphOf (settingOf b ts) (startOf b)) g (read .1)
 
     pub plot-accepted : Accepted b ts
     plot-accepted = read .0
 
     pub graph-is : graphOf (settingOf b ts) (startOf b) ≡ g
-    graph-is = weighed .0
+    graph-is = judged .0
 
     pub graph-small : tooLarge (graphOf (settingOf b ts) (startOf b) .counts) ≡ false
-    graph-small = weighed .3
+    graph-small = judged .3
 
     pub graph-laws : Laws (settingOf b ts)
     graph-laws = accepted-laws b ts plot-accepted
@@ -87,8 +87,8 @@ module _ (b : RectangularBoard) (fixed : Sound (b .fixed)) (laid : Sound (b .lai
     graph-room =
         subst (λ (k : Graph). HasRoom k nodeWords countWords edgeWords) graph-is record {
           someNodes = some-node (settingOf b ts) graph-laws (startOf b) graph-start;
-          nodesFit = weighed .1;
-          edgesFit = weighed .2;
+          nodesFit = judged .1;
+          edgesFit = judged .2;
           asMany = as-many (entriesOf (settingOf b ts) (startOf b));
         }
 

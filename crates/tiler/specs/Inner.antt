@@ -26,8 +26,8 @@ use Rattle.tiler.specs.declared.layers.Layer.the-variants as L
 use Rattle.tiler.specs.declared.building.Growth.{Growth}
 use Rattle.tiler.specs.declared.building.Growth.the-variants as G
 use Rattle.tiler.specs.declared.MadeGraph.{MadeGraph}
-use Rattle.graph.specs.Tilings.{completeNode}
-use Rattle.tiler.specs.Counting.{countLimit, tooLarge, weigh}
+use Rattle.graph.specs.Tilings.{completeNode, countIn}
+use Rattle.tiler.specs.Counting.{countLimit, tooLarge, judgeLayer}
 
 -- ---- board and tiles that are not refused
 
@@ -49,7 +49,7 @@ judgedAnswer (J.Refused r) = refused (refusalNumber r)
 -- the first n boards of the words with their counts
 unfoldable pub entriesIn : List ℕ → List ℕ → ℕ → List (Entry ℕ)
 unfolding setAt listOf
-entriesIn bs cs n = listOf (λ i. (setAt bs i, getD cs i 0)) n
+entriesIn bs cs n = listOf (λ i. (setAt bs i, countIn cs i)) n
 
 -- how many boards a layer has, and whether a count is too large; no room where its boards pass it
 unfoldable pub layerState : ℕ → List (Entry ℕ) → Layer
@@ -65,7 +65,7 @@ boardsIn L.NoRoom = 0
 pub record HoldsLayer (room : ℕ) (bs cs : List ℕ) (layer : Layer) (es : List (Entry ℕ)) : Type 0 where
   pub state : layer ≡ layerState room es
   pub boards : length es ≤ room → listOf (setAt bs) (length es) ≡ boards es
-  pub counts : length es ≤ room → tooLarge (counts es) ≡ false → listOf (λ i. getD cs i 0) (length es) ≡ counts es
+  pub counts : length es ≤ room → tooLarge (counts es) ≡ false → listOf (countIn cs) (length es) ≡ counts es
 
 -- k paths more for each board of a list, in order
 unfoldable pub addEach : List ℕ → ℕ → List (Entry ℕ) → List (Entry ℕ)
@@ -80,9 +80,9 @@ nextOf S es = gather (S .sameBoard) (shares (childBoards S) es)
 
 -- what is answered from a layer on, of k more layers
 unfoldable pub countFrom : Setting ℕ ℕ → ℕ → ℕ → List (Entry ℕ) → Answer ℕ
-unfolding fullCount weigh nextOf mapAnswer bindAnswer
+unfolding fullCount judgeLayer nextOf mapAnswer bindAnswer
 countFrom S room zero es = given (fullCount (S .full) es)
-countFrom S room (suc k) es = mapAnswer (λ n. fullCount (S .full) es + n) (bindAnswer (weigh room (nextOf S es)) (countFrom S room k))
+countFrom S room (suc k) es = mapAnswer (λ n. fullCount (S .full) es + n) (bindAnswer (judgeLayer room (nextOf S es)) (countFrom S room k))
 
 -- a layer each of whose boards is accepted and has so many free cells
 pub record Ready (S : Setting ℕ ℕ) (left : ℕ) (es : List (Entry ℕ)) : Type 0 where
@@ -126,13 +126,13 @@ firstCount n = listOf (λ v. cond (eqb v 0) 1 0) n
 
 -- what a pass leaves: the counts, or one of its sums was too large
 pub record PassesEdges (cs : List ℕ) (es : List (ℕ × ℕ)) (cs′ : List ℕ) (r : Bool) : Type 0 where
-  pub done : r ≡ true → (v : ℕ) → getD cs′ v 0 ≡ passTo (λ v. getD cs v 0) es (length es) v
-  pub large : r ≡ false → (j : ℕ) × (v : ℕ) × (j ≤ length es) × (countLimit ≤ passTo (λ v. getD cs v 0) es j v)
+  pub done : r ≡ true → (v : ℕ) → countIn cs′ v ≡ passTo (countIn cs) es (length es) v
+  pub large : r ≡ false → (j : ℕ) × (v : ℕ) × (j ≤ length es) × (countLimit ≤ passTo (countIn cs) es j v)
 
 -- what one addition to a count leaves, and whether it is refused since the sum would be too large
 pub record AddsCount (cs : List ℕ) (i k : ℕ) (cs′ : List ℕ) (r : Bool) : Type 0 where
-  pub large : r ≡ leb countLimit (getD cs i 0 + k)
-  pub same : (v : ℕ) → getD cs′ v 0 ≡ cond r (getD cs v 0) (cond (eqb v i) (getD cs i 0 + k) (getD cs v 0))
+  pub large : r ≡ leb countLimit (countIn cs i + k)
+  pub same : (v : ℕ) → countIn cs′ v ≡ cond r (countIn cs v) (cond (eqb v i) (countIn cs i + k) (countIn cs v))
 
 -- ---- the result of a graph whose n nodes and e edges stand in the words
 

@@ -1,6 +1,6 @@
 -- The specification of `tiler`. `Boards`, `Counting` and `Cuttings` hold the definitions that contracts of public functions and the theorems cite, `Inner`
--- those of private functions; `Theorems` and `CuttingTheorems` say what the answers mean; `KnownPlots` has 01's starred plots; `Examples` and
--- `CuttingExamples` compute small plots. The others hold laws.
+-- those of private functions; `Theorems` and `CuttingTheorems` say what the answers mean. The others hold laws. Plots that are computed stand in the
+-- crate `known_plots`.
 pub mod Boards
 pub mod Counting
 pub mod Cuttings
@@ -12,9 +12,7 @@ pub mod AddingLaws
 pub mod RunLaws
 pub mod AnswerLaws
 pub mod GivenLaws
+pub mod SmallLaws
 pub mod Theorems
 pub mod NumberLaws
 pub mod CuttingTheorems
-pub mod KnownPlots
-pub mod Examples
-pub mod CuttingExamples

@@ -1,16 +1,16 @@
--- The tilings by number of our own graph, read off its words: they are those of the definition, and under demand 3's conditions they number the
--- cuttings. Rests on `GivenLaws`, `CuttingLaws`, `Theorems` and covers' `Theorems`. Assumes nothing.
+-- The tilings by number of a graph that is given: each node list is a chain of edges from node 0 to the full node, of at most one node more than there
+-- are free cells; they are those of the definition, and under demand 3's conditions they number the cuttings. The same of the words and the result that
+-- `generate_graph` leaves. Rests on `GivenLaws`, `CuttingLaws`, `Theorems` and covers' `Theorems`. Assumes nothing.
 use mathlib.Core.Path.{_≡_, refl, sym, ap, ap₂, _∙_, subst, fun-ext}
-use mathlib.Core.Bool.{false, So}
-use mathlib.Core.List.{List, map, List·Memᴰ as Mem}
+use mathlib.Core.Bool.{Bool, true, false, So}
+use mathlib.Core.List.{List, [], _∷_, map, List·Memᴰ as Mem}
 use mathlib.Core.Option.{Option, none, some}
-use Prim.Native.Nat.{ℕ, _+_, _≤_, _<_, min, _/_}
+use Prim.Native.Nat.{ℕ, zero, suc, _+_, _≤_, _<_, min, _/_}
 use native.Mathlib.Omega.{arith}
-use lib.Dec.{eqb, lit<}
+use lib.Dec.{lit<}
 use lib.ListN.{length, getD, length-map}
 use Rattle.cells.specs.Words.{Sound}
 use Rattle.cells.specs.WordLaws.{number-lt}
-use Rattle.cells.specs.Firsts.{holds}
 use Rattle.cells.specs.ArrayLaws.{length-listOf, getD-listOf}
 use Rattle.cells.specs.Lists.{setAt, setsIn}
 use Rattle.cells.specs.MemberLaws.{map-ext}
@@ -22,24 +22,28 @@ use Rattle.tile.specs.EqualLaws.{readTiles-storable, readEqualTiles-given}
 use Rattle.board.specs.declared.RectangularBoard.{RectangularBoard}
 use Rattle.board.specs.Board.{Board, boardOf, isFree, freeCount}
 use Rattle.covers.specs.Cuttings.{Numbering, Exactly, Setting}
-use Rattle.covers.specs.Counts.{atNode, fullNode, nodesOf, pathCountOf, graphEdges, graphCount, piecesOf, tiling, tilingOf, cuttingAt}
-use Rattle.covers.specs.Theorems.{numbering-carried, graph-sum-rule, tilings-are-cuttings}
+use Rattle.covers.specs.Counts.{Chain, tiling, fullNode, atNode, nodeListTo, nodesOf, pathCountOf, graphEdges, graphCount, tilingOf, cuttingAt}
+use Rattle.covers.specs.Theorems.{numbering-carried, tilings-are-cuttings, full-counts-none}
 use Rattle.covers.specs.NumberingLaws.{renumber}
 use Rattle.covers.specs.SequenceLaws.{free-not-full}
 use Rattle.covers.specs.CountLaws.{tiling-length}
-use Rattle.covers.specs.WalkLaws.{tiling-below}
-use Rattle.graph.specs.Graph.{edgesIn}
-use Rattle.graph.specs.Tilings.{completeNode, countIn, countFromGraph, nodeList, stepPiece, markedPieces}
+use Rattle.covers.specs.WalkLaws.{tiling-below, tiling-chain}
+use Rattle.graph.specs.Tilings.{completeNode, countIn, countFromGraph, nodeList, markedBy, markedPieces}
 use Rattle.tiler.specs.declared.MadeGraph.{MadeGraph}
 use Rattle.tiler.specs.Boards.{setting, settingOf, startOf}
-use Rattle.tiler.specs.Counting.{countLimit, countTilings, Graph, graphOf, generateGraph, GeneratesGraph}
+use Rattle.tiler.specs.Counting.{countLimit, countTilings, Graph, graphOf, nodeListOf, cuttingOf, generateGraph, GeneratesGraph}
 use Rattle.tiler.specs.Cuttings.{IsCutting, HasFreeCell, AllEdgeJoined}
 use Rattle.tiler.specs.Inner.{Accepted, stepOf}
 use Rattle.tiler.specs.AcceptedLaws.{accepted-laws, accepted-steps, accepted-at, accepted-free}
 use Rattle.tiler.specs.CuttingLaws.{sound-pruning, cutting-start}
-use Rattle.tiler.specs.AnswerLaws.{node-behind}
-use Rattle.tiler.specs.GivenLaws.{start-accepted, layers-count, plot-accepted, graph-is, graph-laws, graph-steps, graph-start, nodes-are, graph-stored, words-count}
-use Rattle.tiler.specs.Theorems.{path-counts-fit, words-are-the-graph}
+use Rattle.tiler.specs.GivenLaws.{start-accepted, layers-count, plot-accepted, graph-is, graph-laws, graph-steps, graph-start, nodes-are, graph-sums, graph-count, graph-stored, words-count}
+use Rattle.tiler.specs.Theorems.{path-counts-fit, full-node-is-full, words-are-the-graph}
+
+-- an element of a list, whatever stands behind the list
+any-default : {A : Type 0} (xs : List A) (i : ℕ) (a b : A) → i < length xs → getD xs i a ≡ getD xs i b
+any-default [] i a b h = absurd (omega arith)
+any-default (x ∷ xs) zero a b h = refl
+any-default (x ∷ xs) (suc i) a b h = any-default xs i a b (omega arith)
 
 module _ (b : RectangularBoard) (fixed : Sound (b .fixed)) (laid : Sound (b .laid)) (ts : Tiles) where
   -- the setting of the board and the tiles, and its start
@@ -75,97 +79,148 @@ module _ (b : RectangularBoard) (fixed : Sound (b .fixed)) (laid : Sound (b .lai
       let r = layers-count b fixed laid ts room n told in
       subst (λ (k : ℕ). Exactly k (IsCutting (boardOf b) (pathsIn ts))) (sym (r .1)) (cuttingAt S start, cuttings-numbered (r .0) free joined)
 
-  -- ---- the words and the result that `generate_graph` leaves
+  -- ---- a graph that is given
+
+  module _ (nodeWords countWords edgeWords : ℕ) (g : Graph) (made : generateGraph b ts nodeWords countWords edgeWords ≡ given g) where
+    -- its count fits a word
+    pub graph-count-small : countFromGraph (g .complete) (g .counts) < countLimit
+    unfolding countFromGraph atNode
+    graph-count-small = go (g .complete)
+      where
+        go : (o : Option ℕ) → atNode (countIn (g .counts)) o < countLimit
+        go none = lit< tt
+        go (some v) = path-counts-fit b fixed laid ts nodeWords countWords edgeWords g made v
+
+    -- the list with a number below the count
+    module _ (m : ℕ) (below : m < countFromGraph (g .complete) (g .counts)) where
+      full-node : (v : ℕ) × (g .complete ≡ some v) × (v < length (g .nodes)) × (m < countIn (g .counts) v)
+      unfolding countFromGraph atNode
+      full-node = go (g .complete) refl below
+        where
+          go : (o : Option ℕ) → g .complete ≡ o → m < atNode (countIn (g .counts)) o
+              → (v : ℕ) × (g .complete ≡ some v) × (v < length (g .nodes)) × (m < countIn (g .counts) v)
+          go none q l = absurd (omega arith)
+          go (some v) q l = (v, q, full-node-is-full b fixed laid ts nodeWords countWords edgeWords g made v q .1, l)
+
+      list-to : (v : ℕ) → g .complete ≡ some v → tiling (g .edges) (countIn (g .counts)) v m ≡ nodeListOf g m
+      unfolding nodeListOf atNode
+      list-to v q = ap (λ (o : Option ℕ). nodeListTo (g .edges) (countIn (g .counts)) o m) (sym q)
+
+      -- is a chain of edges from node 0 to the full node,
+      pub list-chain : (v : ℕ) × (g .complete ≡ some v) × Chain (λ p c. Mem (p, c) (g .edges)) 0 v (nodeListOf g m)
+      list-chain =
+          let f = full-node in (
+            f .0,
+            f .1,
+            subst (Chain (λ p c. Mem (p, c) (g .edges)) 0 (f .0)) (list-to (f .0) (f .1))
+                (tiling-chain (length (g .nodes)) (g .edges) (countIn (g .counts)) (graph-sums b fixed laid ts nodeWords countWords edgeWords g made) (f .0) m (f .2) (f .3)),
+          )
+
+      -- each of its nodes is one of the graph,
+      pub list-below : (v : ℕ) → Mem v (nodeListOf g m) → v < length (g .nodes)
+      list-below v i =
+          let f = full-node in
+          tiling-below (length (g .nodes)) (g .edges) (countIn (g .counts)) (graph-sums b fixed laid ts nodeWords countWords edgeWords g made) (f .0) m (f .2) (f .3) v
+          (subst (Mem v) (sym (list-to (f .0) (f .1))) i)
+
+      -- and there is at most one more than there are free cells
+      list-is : nodeListOf g m ≡ nodeListTo (graphEdges S start) (pathCountOf S start) (fullNode (S .full) (nodesOf S start)) m
+      unfolding nodeListOf graphOf
+      list-is = ap (λ (k : Graph). nodeListOf k m) (sym (graph-is b fixed laid ts nodeWords countWords edgeWords g made))
+
+      counted : m < graphCount S start
+      counted = subst (λ (n : ℕ). m < n) (graph-count b fixed laid ts nodeWords countWords edgeWords g made) below
+
+      counted-not-full : S .full start ≡ false
+      counted-not-full = go (S .full start) refl
+        where
+          go : (t : Bool) → S .full start ≡ t → S .full start ≡ false
+          go false q = q
+          go true q =
+              absurd
+              (omega (
+                arith,
+                counted,
+                full-counts-none S (graph-laws b fixed laid ts nodeWords countWords edgeWords g made) start (graph-start b fixed laid ts nodeWords countWords edgeWords g made) q .1,
+              ))
+
+      pub list-length : length (nodeListOf g m) ≤ freeCount (boardOf b) + 1
+      list-length =
+          omega (
+            arith,
+            tiling-length S (graph-laws b fixed laid ts nodeWords countWords edgeWords g made) (stepOf (pathsIn ts)) (graph-steps b fixed laid ts nodeWords countWords edgeWords g made) start
+                (graph-start b fixed laid ts nodeWords countWords edgeWords g made) counted-not-full m counted,
+            ap length list-is,
+            length-map (nodeListTo (graphEdges S start) (pathCountOf S start) (fullNode (S .full) (nodesOf S start)) m) (λ v. getD (nodesOf S start) v start),
+            accepted-free b ts (plot-accepted b fixed laid ts nodeWords countWords edgeWords g made) (number-lt (b .fixed) fixed) (number-lt (b .laid) laid),
+          )
+
+      -- its boards are those of the definition, and so are the pieces that its steps mark
+      boards-are : map (λ v. getD (g .nodes) v 0) (nodeListOf g m) ≡ tilingOf S start m
+      boards-are =
+          map-ext (λ v. getD (g .nodes) v 0) (λ v. getD (nodesOf S start) v start) (nodeListOf g m)
+          (λ v i. any-default (g .nodes) v 0 start (list-below v i) ∙ ap (λ (ns : List ℕ). getD ns v start) (nodes-are b fixed laid ts nodeWords countWords edgeWords g made))
+          ∙ ap (map (λ v. getD (nodesOf S start) v start)) list-is
+
+      cutting-is : cuttingOf g m ≡ cuttingAt S start m
+      unfolding cuttingOf setting
+      cutting-is = ap markedBy boards-are
+
+    -- under demand 3's conditions the numbers below the count number the cuttings
+    pub lists-number-cuttings : HasFreeCell (boardOf b) → AllEdgeJoined (pathsIn ts)
+        → Numbering (IsCutting (boardOf b) (pathsIn ts)) (countFromGraph (g .complete) (g .counts)) (cuttingOf g)
+    lists-number-cuttings free joined =
+        renumber (sym (graph-count b fixed laid ts nodeWords countWords edgeWords g made)) cutting-is
+        (cuttings-numbered (plot-accepted b fixed laid ts nodeWords countWords edgeWords g made) free joined)
+
+  -- ---- the words and the result that `generate_graph` leaves hold it
 
   module _ (nodes counts edges nodes′ counts′ edges′ : List ℕ) (r : MadeGraph) (made : GeneratesGraph b ts nodes counts edges nodes′ counts′ edges′ r)
       (g : Graph) (e : generateGraph b ts (length nodes) (length counts) (length edges) ≡ given g) where
-    complete-is : completeNode (r .graph .complete) ≡ fullNode (S .full) (nodesOf S start)
-    unfolding valueOr graphOf
-    complete-is =
-        graph-stored b fixed laid ts nodes counts edges nodes′ counts′ edges′ r made g e .complete
-        ∙ ap (λ (k : Graph). k .complete) (sym (graph-is b fixed laid ts (length nodes) (length counts) (length edges) g e))
+    -- the count,
+    pub count-read : countFromGraph (completeNode (r .graph .complete)) counts′ ≡ countFromGraph (g .complete) (g .counts)
+    count-read =
+        words-count b fixed laid ts nodes counts edges nodes′ counts′ edges′ r made g e ∙ sym (graph-count b fixed laid ts (length nodes) (length counts) (length edges) g e)
 
-    -- the node list is the definition's
-    list-is : (m : ℕ) → nodeList (r .graph) counts′ edges′ m
-        ≡ tiling (graphEdges S start) (pathCountOf S start) (atNode (λ v. v) (fullNode (S .full) (nodesOf S start))) m
-    unfolding nodeList graphOf
-    list-is m =
+    pub count-small : countFromGraph (completeNode (r .graph .complete)) counts′ < countLimit
+    count-small = subst (λ (n : ℕ). n < countLimit) (sym count-read) (graph-count-small (length nodes) (length counts) (length edges) g e)
+
+    -- a node list,
+    pub list-same : (m : ℕ) → nodeList (r .graph) counts′ edges′ m ≡ nodeListOf g m
+    unfolding nodeList nodeListOf valueOr
+    list-same m =
         let w = words-are-the-graph b fixed laid ts nodes counts edges nodes′ counts′ edges′ r made g e in
-        let k = graph-is b fixed laid ts (length nodes) (length counts) (length edges) g e in
-        let es : edgesIn edges′ (r .graph .edges) ≡ graphEdges S start = w .2 ∙ ap (λ (h : Graph). h .edges) (sym k) in
-        let cs : countIn counts′ ≡ pathCountOf S start = fun-ext (λ v. w .1 v ∙ ap (λ (h : Graph). countIn (h .counts) v) (sym k)) in
-        ap₂ (λ (ds : List (ℕ × ℕ)) (count : ℕ → ℕ). tiling ds count (atNode (λ v. v) (completeNode (r .graph .complete))) m) es cs
-        ∙ ap (λ (o : Option ℕ). tiling (graphEdges S start) (pathCountOf S start) (atNode (λ v. v) o) m) complete-is
+        ap₂ (λ (ds : List (ℕ × ℕ)) (count : ℕ → ℕ). nodeListTo ds count (completeNode (r .graph .complete)) m) (w .2) (fun-ext (w .1))
+        ∙ ap (λ (o : Option ℕ). nodeListTo (g .edges) (countIn (g .counts)) o m)
+        (graph-stored b fixed laid ts nodes counts edges nodes′ counts′ edges′ r made g e .complete)
 
-    -- a node's words are its board
-    node-at : (v : ℕ) → v < length (nodesOf S start) → setAt nodes′ v ≡ getD (nodesOf S start) v start
+    -- the board of a node,
+    node-at : (v : ℕ) → v < length (g .nodes) → setAt nodes′ v ≡ getD (g .nodes) v 0
     unfolding setsIn
     node-at v h =
-        let q = words-are-the-graph b fixed laid ts nodes counts edges nodes′ counts′ edges′ r made g e .0 ∙ nodes-are b fixed laid ts (length nodes) (length counts) (length edges) g e in
+        let q = words-are-the-graph b fixed laid ts nodes counts edges nodes′ counts′ edges′ r made g e .0 in
         let k = min (r .graph .nodes) (length nodes′ / 4) in
-        sym (getD-listOf (setAt nodes′) k v start (omega (arith, ap length q, length-listOf (setAt nodes′) k)))
-        ∙ ap (λ (ns : List ℕ). getD ns v start) q
+        sym (getD-listOf (setAt nodes′) k v 0 (omega (arith, ap length q, length-listOf (setAt nodes′) k))) ∙ ap (λ (ns : List ℕ). getD ns v 0) q
 
-    -- each node of the list with a number below the count is one of the graph
-    list-below : (m : ℕ) → m < graphCount S start → (v : ℕ) → Mem v (nodeList (r .graph) counts′ edges′ m)
-        → v < length (nodesOf S start)
-    unfolding graphCount atNode
-    list-below m h v i = go (fullNode (S .full) (nodesOf S start)) refl h (subst (Mem v) (list-is m) i)
-      where
-        go : (o : Option ℕ) → fullNode (S .full) (nodesOf S start) ≡ o → m < atNode (pathCountOf S start) o
-            → Mem v (tiling (graphEdges S start) (pathCountOf S start) (atNode (λ v. v) o) m)
-            → v < length (nodesOf S start)
-        go none q l k = absurd (omega arith)
-        go (some u) q l k =
-            tiling-below (length (nodesOf S start)) (graphEdges S start) (pathCountOf S start)
-            (graph-sum-rule S (graph-laws b fixed laid ts (length nodes) (length counts) (length edges) g e) start
-            (graph-start b fixed laid ts (length nodes) (length counts) (length edges) g e) (stepOf (pathsIn ts))
-            (graph-steps b fixed laid ts (length nodes) (length counts) (length edges) g e))
-            u m (node-behind (S .full) (nodesOf S start) u start q .1) l v k
+    module _ (m : ℕ) (h : m < countFromGraph (completeNode (r .graph .complete)) counts′) where
+      below : m < countFromGraph (g .complete) (g .counts)
+      below = subst (λ (n : ℕ). m < n) count-read h
 
-    -- its boards, read from the node words, are the definition's
-    boards-are : (m : ℕ) → m < graphCount S start → map (setAt nodes′) (nodeList (r .graph) counts′ edges′ m) ≡ tilingOf S start m
-    boards-are m h =
-        map-ext (setAt nodes′) (λ v. getD (nodesOf S start) v start) (nodeList (r .graph) counts′ edges′ m) (λ v i. node-at v (list-below m h v i))
-        ∙ ap (map (λ v. getD (nodesOf S start) v start)) (list-is m)
-
-    -- and so are its pieces
-    pub marked-is : (m : ℕ) → m < graphCount S start
-        → markedPieces nodes′ (nodeList (r .graph) counts′ edges′ m) ≡ cuttingAt S start m
-    unfolding markedPieces setting
-    marked-is m h = ap (λ (xs : List ℕ). holds eqb (piecesOf stepPiece xs)) (boards-are m h)
-
-    -- the count fits a word
-    pub count-small : countFromGraph (completeNode (r .graph .complete)) counts′ < countLimit
-    unfolding countFromGraph atNode
-    count-small = go (completeNode (r .graph .complete))
-      where
-        go : (o : Option ℕ) → atNode (countIn counts′) o < countLimit
-        go none = lit< tt
-        go (some v) =
-            subst (λ (k : ℕ). k < countLimit) (sym (words-are-the-graph b fixed laid ts nodes counts edges nodes′ counts′ edges′ r made g e .1 v))
-            (path-counts-fit b fixed laid ts (length nodes) (length counts) (length edges) g e v)
-
-    module _ (free : HasFreeCell (boardOf b)) where
-      accepted : Accepted b ts
-      accepted = plot-accepted b fixed laid ts (length nodes) (length counts) (length edges) g e
-
-      -- the numbers below the count number the cuttings
-      pub words-cuttings : AllEdgeJoined (pathsIn ts)
-          → Numbering (IsCutting (boardOf b) (pathsIn ts)) (countFromGraph (completeNode (r .graph .complete)) counts′)
-          (λ m. markedPieces nodes′ (nodeList (r .graph) counts′ edges′ m))
-      words-cuttings joined =
-          let same = words-count b fixed laid ts nodes counts edges nodes′ counts′ edges′ r made g e in
-          renumber (sym same) (λ m h. marked-is m (subst (λ (n : ℕ). m < n) same h)) (cuttings-numbered accepted free joined)
+      -- and the pieces that the steps of a list mark
+      marked-same : markedPieces nodes′ (nodeList (r .graph) counts′ edges′ m) ≡ cuttingOf g m
+      unfolding markedPieces cuttingOf
+      marked-same =
+          ap (λ (vs : List ℕ). markedBy (map (setAt nodes′) vs)) (list-same m)
+          ∙ ap markedBy
+          (map-ext (setAt nodes′) (λ v. getD (g .nodes) v 0) (nodeListOf g m) (λ v i. node-at v (list-below (length nodes) (length counts) (length edges) g e m below v i)))
 
       -- a node list has at most one node more than there are free cells
-      pub list-length : (m : ℕ) → m < countFromGraph (completeNode (r .graph .complete)) counts′ → length (nodeList (r .graph) counts′ edges′ m) ≤ freeCount (boardOf b) + 1
-      list-length m h =
-          let l = subst (λ (n : ℕ). m < n) (words-count b fixed laid ts nodes counts edges nodes′ counts′ edges′ r made g e) h in
-          omega (
-            arith,
-            tiling-length S (accepted-laws b ts accepted) (stepOf (pathsIn ts)) (accepted-steps b ts accepted) start (start-accepted b fixed laid ts accepted) (not-full accepted free) m l,
-            ap length (boards-are m l),
-            length-map (nodeList (r .graph) counts′ edges′ m) (setAt nodes′),
-            accepted-free b ts accepted (number-lt (b .fixed) fixed) (number-lt (b .laid) laid),
-          )
+      pub words-length : length (nodeList (r .graph) counts′ edges′ m) ≤ freeCount (boardOf b) + 1
+      words-length =
+          subst (λ (vs : List ℕ). length vs ≤ freeCount (boardOf b) + 1) (sym (list-same m)) (list-length (length nodes) (length counts) (length edges) g e m below)
+
+    -- the numbers below the count number the cuttings
+    pub words-cuttings : HasFreeCell (boardOf b) → AllEdgeJoined (pathsIn ts)
+        → Numbering (IsCutting (boardOf b) (pathsIn ts)) (countFromGraph (completeNode (r .graph .complete)) counts′)
+        (λ m. markedPieces nodes′ (nodeList (r .graph) counts′ edges′ m))
+    words-cuttings free joined = renumber (sym count-read) marked-same (lists-number-cuttings (length nodes) (length counts) (length edges) g e free joined)

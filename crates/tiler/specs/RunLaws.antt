@@ -19,7 +19,7 @@ use Rattle.covers.specs.SumLaws.{sum-zero}
 use Rattle.covers.specs.GatherLaws.{mem-boards, once-gather, mem-gather}
 use Rattle.covers.specs.LayerLaws.{boards-shares}
 use Rattle.covers.specs.ChildLaws.{child-ok, child-equal}
-use Rattle.tiler.specs.Counting.{tooLarge, weigh, weighTo, layersAnswer}
+use Rattle.tiler.specs.Counting.{tooLarge, judgeLayer, judgeLayers, layersAnswer}
 use Rattle.tiler.specs.Inner.{nextOf, countFrom, Ready}
 
 -- ---- answers
@@ -37,9 +37,9 @@ map-plus m k b (given n) e = let q : b + n ≡ m + (k + n) = omega arith in ap g
 -- ---- a layer by itself
 
 -- what is given is the layer
-weigh-given : (room : ℕ) (es ds : List (Entry ℕ)) → weigh room es ≡ given ds → es ≡ ds
-unfolding weigh
-weigh-given room es ds e = go (leb (length es) room) (tooLarge (counts es)) e
+judgeLayer-given : (room : ℕ) (es ds : List (Entry ℕ)) → judgeLayer room es ≡ given ds → es ≡ ds
+unfolding judgeLayer
+judgeLayer-given room es ds e = go (leb (length es) room) (tooLarge (counts es)) e
   where
     value : Answer (List (Entry ℕ)) → List (Entry ℕ)
     value (refused n) = ds
@@ -50,18 +50,18 @@ weigh-given room es ds e = go (leb (length es) room) (tooLarge (counts es)) e
     go true false e = ap value e
     go false b e = absurd (refused-given 8 ds e)
 
-weigh-none : (room : ℕ) → weigh room [] ≡ given []
-unfolding weigh tooLarge any
-weigh-none room = rw (le-leb 0 room (omega arith))
+judgeLayer-none : (room : ℕ) → judgeLayer room [] ≡ given []
+unfolding judgeLayer tooLarge any
+judgeLayer-none room = rw (le-leb 0 room (omega arith))
 
 -- layer 0
-weigh-start : (room s : ℕ) → 0 < room → weigh room ((s, 1) ∷ []) ≡ given ((s, 1) ∷ [])
-unfolding weigh tooLarge any
-weigh-start room s h = rw (le-leb 1 room (omega arith))
+judgeLayer-start : (room s : ℕ) → 0 < room → judgeLayer room ((s, 1) ∷ []) ≡ given ((s, 1) ∷ [])
+unfolding judgeLayer tooLarge any
+judgeLayer-start room s h = rw (le-leb 1 room (omega arith))
 
-weigh-no-room : (s : ℕ) → weigh 0 ((s, 1) ∷ []) ≡ refused 8
-unfolding weigh
-weigh-no-room s = refl
+judgeLayer-no-room : (s : ℕ) → judgeLayer 0 ((s, 1) ∷ []) ≡ refused 8
+unfolding judgeLayer
+judgeLayer-no-room s = refl
 
 -- ---- the layer behind a layer
 
@@ -75,8 +75,8 @@ module _ (S : Setting ℕ ℕ) where
   unfolding countFrom fullCount sumOf mapAnswer bindAnswer
   count-none room zero = refl
   count-none room (suc k) =
-      ap (λ (es : List (Entry ℕ)). mapAnswer (λ n. 0 + n) (bindAnswer (weigh room es) (countFrom S room k))) next-of-none
-      ∙ ap (λ (x : Answer (List (Entry ℕ))). mapAnswer (λ n. 0 + n) (bindAnswer x (countFrom S room k))) (weigh-none room)
+      ap (λ (es : List (Entry ℕ)). mapAnswer (λ n. 0 + n) (bindAnswer (judgeLayer room es) (countFrom S room k))) next-of-none
+      ∙ ap (λ (x : Answer (List (Entry ℕ))). mapAnswer (λ n. 0 + n) (bindAnswer x (countFrom S room k))) (judgeLayer-none room)
       ∙ ap (mapAnswer (λ n. 0 + n)) (count-none room k)
 
   module _ (L : Laws S) where
@@ -146,11 +146,11 @@ module _ (S : Setting ℕ ℕ) where
       -- ---- what is answered from a layer on
 
       pub count-on : (room k left : ℕ) (es : List (Entry ℕ)) → Ready S left es → 0 < left
-          → countFrom S room (suc k) es ≡ bindAnswer (weigh room (nextOf S es)) (countFrom S room k)
+          → countFrom S room (suc k) es ≡ bindAnswer (judgeLayer room (nextOf S es)) (countFrom S room k)
       unfolding countFrom
       count-on room k left es R h =
-          ap (λ (m : ℕ). mapAnswer (λ n. m + n) (bindAnswer (weigh room (nextOf S es)) (countFrom S room k))) (not-full left es R h)
-          ∙ map-zero (bindAnswer (weigh room (nextOf S es)) (countFrom S room k))
+          ap (λ (m : ℕ). mapAnswer (λ n. m + n) (bindAnswer (judgeLayer room (nextOf S es)) (countFrom S room k))) (not-full left es R h)
+          ∙ map-zero (bindAnswer (judgeLayer room (nextOf S es)) (countFrom S room k))
 
       module _ (a : ℕ) (E : EqualSteps S a) where
         -- nothing follows
@@ -159,7 +159,7 @@ module _ (S : Setting ℕ ℕ) where
         none-follows room zero es e = refl
         none-follows room (suc k) es e =
             ap (λ (x : Answer (List (Entry ℕ))). mapAnswer (λ n. fullCount (S .full) es + n) (bindAnswer x (countFrom S room k)))
-            (ap (weigh room) e ∙ weigh-none room)
+            (ap (judgeLayer room) e ∙ judgeLayer-none room)
             ∙ ap (mapAnswer (λ n. fullCount (S .full) es + n)) (count-none room k)
             ∙ ap given (add-zero (fullCount (S .full) es))
 
@@ -173,12 +173,12 @@ module _ (S : Setting ℕ ℕ) where
 
 module _ (S : Setting ℕ ℕ) (s room : ℕ) where
   abbrev W : ℕ → Answer (List (Entry ℕ))
-  W n = weighTo (layerOf S s) room n
+  W n = judgeLayers (layerOf S s) room n
 
   -- the layers 0 to j and then what is answered from layer j on; b is the count of the layers before j
   from-layer : (k j b : ℕ) → layerCountTo S s j ≡ b + fullCount (S .full) (layerOf S s j)
       → mapAnswer (λ es. layerCountTo S s (j + k)) (W (j + k)) ≡ bindAnswer (W j) (λ es. mapAnswer (λ n. b + n) (countFrom S room k (layerOf S s j)))
-  unfolding countFrom mapAnswer bindAnswer layerCountTo weighTo nextOf layer
+  unfolding countFrom mapAnswer bindAnswer layerCountTo judgeLayers nextOf layer
   from-layer zero j b e =
       ap (λ (i : ℕ). mapAnswer (λ es. layerCountTo S s i) (W i)) (add-zero j) ∙ go (W j)
     where
@@ -190,9 +190,9 @@ module _ (S : Setting ℕ ℕ) (s room : ℕ) where
       let q : j + suc k ≡ suc j + k = omega arith in
       ap (λ (i : ℕ). mapAnswer (λ es. layerCountTo S s i) (W i)) q
       ∙ from-layer k (suc j) (layerCountTo S s j) refl
-      ∙ go (W j) (weigh room (layerOf S s (suc j))) refl
+      ∙ go (W j) (judgeLayer room (layerOf S s (suc j))) refl
     where
-      go : (w u : Answer (List (Entry ℕ))) → weigh room (layerOf S s (suc j)) ≡ u
+      go : (w u : Answer (List (Entry ℕ))) → judgeLayer room (layerOf S s (suc j)) ≡ u
           → bindAnswer (bindAnswer w (λ es. u)) (λ es. mapAnswer (λ n. layerCountTo S s j + n) (countFrom S room k (layerOf S s (suc j))))
           ≡ bindAnswer w (λ es. mapAnswer (λ n. b + n) (mapAnswer (λ n. fullCount (S .full) (layerOf S s j) + n) (bindAnswer u (countFrom S room k))))
       go (refused n) u q = refl
@@ -200,30 +200,30 @@ module _ (S : Setting ℕ ℕ) (s room : ℕ) where
       go (given ds) (given es) q =
           map-plus b (fullCount (S .full) (layerOf S s j)) (layerCountTo S s j) (countFrom S room k (layerOf S s (suc j))) e
           ∙ ap (λ (x : List (Entry ℕ)). mapAnswer (λ n. b + n) (mapAnswer (λ n. fullCount (S .full) (layerOf S s j) + n) (countFrom S room k x)))
-          (weigh-given room (layerOf S s (suc j)) es q)
+          (judgeLayer-given room (layerOf S s (suc j)) es q)
 
   -- of a start that is not full, and room for it
   pub layers-from : S .full s ≡ false → 0 < room → layersAnswer S s room ≡ countFrom S room (S .freeCount s) ((s, 1) ∷ [])
-  unfolding layersAnswer layerCount layerCountTo weighTo layer fullCount sumOf bindAnswer
+  unfolding layersAnswer layerCount layerCountTo judgeLayers layer fullCount sumOf bindAnswer
   layers-from f h =
       let none : 0 ≡ 0 + fullCount (S .full) ((s, 1) ∷ []) = omega (arith, ap {B = ℕ} (λ (b : Bool). cond b 1 0) f) in
       ap (λ (i : ℕ). mapAnswer (λ es. layerCountTo S s i) (W i)) (sym (zero-add (S .freeCount s)))
       ∙ from-layer (S .freeCount s) 0 0 none
       ∙ ap (λ (x : Answer (List (Entry ℕ))). bindAnswer x (λ es. mapAnswer (λ n. 0 + n) (countFrom S room (S .freeCount s) ((s, 1) ∷ []))))
-      (weigh-start room s h)
+      (judgeLayer-start room s h)
       ∙ map-zero (countFrom S room (S .freeCount s) ((s, 1) ∷ []))
 
   -- of a full start, and room for it
   pub layers-full : S .freeCount s ≡ 0 → 0 < room → layersAnswer S s room ≡ given 0
-  unfolding layersAnswer layerCount layerCountTo weighTo layer mapAnswer
+  unfolding layersAnswer layerCount layerCountTo judgeLayers layer mapAnswer
   layers-full z h =
-      ap (λ (i : ℕ). mapAnswer (λ es. layerCountTo S s i) (W i)) z ∙ ap (mapAnswer (λ (es : List (Entry ℕ)). 0)) (weigh-start room s h)
+      ap (λ (i : ℕ). mapAnswer (λ es. layerCountTo S s i) (W i)) z ∙ ap (mapAnswer (λ (es : List (Entry ℕ)). 0)) (judgeLayer-start room s h)
 
 -- no room
-no-room : (S : Setting ℕ ℕ) (s n : ℕ) → weighTo (layerOf S s) 0 n ≡ refused 8
-unfolding weighTo layer bindAnswer
-no-room S s zero = weigh-no-room s
-no-room S s (suc n) = ap (λ (x : Answer (List (Entry ℕ))). bindAnswer x (λ es. weigh 0 (layerOf S s (suc n)))) (no-room S s n)
+no-room : (S : Setting ℕ ℕ) (s n : ℕ) → judgeLayers (layerOf S s) 0 n ≡ refused 8
+unfolding judgeLayers layer bindAnswer
+no-room S s zero = judgeLayer-no-room s
+no-room S s (suc n) = ap (λ (x : Answer (List (Entry ℕ))). bindAnswer x (λ es. judgeLayer 0 (layerOf S s (suc n)))) (no-room S s n)
 
 pub layers-no-room : (S : Setting ℕ ℕ) (s : ℕ) → layersAnswer S s 0 ≡ refused 8
 unfolding layersAnswer mapAnswer

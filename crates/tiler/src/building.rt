@@ -31,7 +31,7 @@ ghost use Rattle.graph.specs.Graph.{edgeAt, firstFrom};
 ghost use Rattle.tiler.specs.Boards.{From, settingOf, startOf};
 ghost use Rattle.graph.specs.Rooms.{nodeRoom, edgeRoom};
 ghost use Rattle.graph.specs.Tilings.{completeNode};
-ghost use Rattle.tiler.specs.Counting.{Makes, weighGraph, graphOf};
+ghost use Rattle.tiler.specs.Counting.{Makes, judgeGraph, graphOf};
 ghost use Rattle.tiler.specs.Inner.{Accepted, nodesIn, HoldsEdges, HoldsGraph, firstCount, AddsCount, PassesEdges, Finishes};
 
 // How many nodes and edges a graph has, the edges past their room counting as one; no room where there
@@ -294,7 +294,7 @@ pub fn made(
     edges: &mut [u64],
 ) -> MadeGraph
     requires { ⌜ Accepted board tiles ⌝ }
-    ensures { λ r. ⌜ Makes (weighGraph (nodeRoom (length (now (nodes .entry))) (length (now (counts .entry)))) (edgeRoom (length (now (edges .entry)))) (graphOf (settingOf board tiles) (startOf board))) (length (now (nodes .entry))) (length (now (counts .entry))) (length (now (edges .entry))) (now (nodes .exit)) (now (counts .exit)) (now (edges .exit)) r ⌝ }
+    ensures { λ r. ⌜ Makes (judgeGraph (nodeRoom (length (now (nodes .entry))) (length (now (counts .entry)))) (edgeRoom (length (now (edges .entry)))) (graphOf (settingOf board tiles) (startOf board))) (length (now (nodes .entry))) (length (now (counts .entry))) (length (now (edges .entry))) (now (nodes .exit)) (now (counts .exit)) (now (edges .exit)) r ⌝ }
 {
     let room = rooms::node_room(nodes.len(), counts.len());
     let space = rooms::edge_room(edges.len());

@@ -223,7 +223,7 @@ fn start(board: RectangularBoard, boards: &mut [u64], counts: &mut [u64])
 }
 
 // The count of a board and tiles that are not refused.
-fn weighed(
+fn count_accepted(
     board: RectangularBoard,
     tiles: Tiles,
     size: usize,
@@ -277,7 +277,7 @@ pub fn counted(
     let judged = plot::judge(board, tiles);
     match judged {
         Judged::Size(size) => {
-            weighed(board, tiles, size, boards_a, counts_a, boards_b, counts_b)
+            count_accepted(board, tiles, size, boards_a, counts_a, boards_b, counts_b)
         }
         Judged::Refused(refusal) => Count::Refused(refusal),
     }

@@ -108,6 +108,15 @@ descend-loop-holds t c = (search needs, (refl, λ k h. refl), λ k h. absurd (om
 descend-new-fit-requires : (t : ℕ) → descend-lts.Need-new-fit-requires (calls t) (descend-at t) descend.Post descend-Inv-loop descend-μ-loop
 descend-new-fit-requires t c κs = (c .before .before .before .before .before .before .before .before .before .before .before .before .before .before .before .pre .1 .0 .tiles, c .loop-test .taken)
 
+descend-loop-again : (t : ℕ) → descend-lts.Need-loop-again (calls t) (descend-at t) descend.Post descend-Inv-loop descend-μ-loop
+descend-loop-again t c =
+    let l = c .before .before .before .before in
+    let s = l .before .before .before .before .before .before .before .before .before .before .before .before .before .before in (
+      search needs,
+      l .loop .inv .1,
+      none-more _ _ (l .loop .inv .2) (child-none (s .args .here) (fixed t s) (laid t s) _ _ (s .pre .1 .0) _ _ _ (c .enum-told2 .given .1) (c .before .before .new-fit .ensures) (l .loop .inv .2)),
+    )
+
 descend-add-descend : (t : ℕ) → descend-lts.Need-add-descend (calls t) (descend-at t) descend.Post descend-Inv-loop descend-μ-loop
 descend-add-descend t c = deeper t (c .before .before .before .before .before .before .before .before .before .before .before .before .before .before .before .before .before .before .before .before .before)
 
@@ -143,8 +152,8 @@ descend-returns-3 t c =
     (sym (l .before .before .place .given .1) ∙ l .before .before .before .before .choose-place .ensures _ (s .pre .1 .0 .singles)) _ (m .before .before .before .before .before .loop-test .taken) (l .loop .inv .2) _ (child .2)
     _ _ _ (c .before .found .given .1) (d .descend .ensures)
 
-descend-loop-again : (t : ℕ) → descend-lts.Need-loop-again (calls t) (descend-at t) descend.Post descend-Inv-loop descend-μ-loop
-descend-loop-again t c =
+descend-loop-again-2 : (t : ℕ) → descend-lts.Need-loop-again-2 (calls t) (descend-at t) descend.Post descend-Inv-loop descend-μ-loop
+descend-loop-again-2 t c =
     let m = c .before .before .before .before .before .before in
     let l = m .before .before .before .before .before .before in
     let o = l .before .before .before .before .before in
@@ -154,17 +163,8 @@ descend-loop-again t c =
     (m .before .before .before .before .new-fit .ensures) _ (m .mark-tile-at-position .ensures) in
     let d = c .before .before .before .before in (
       omega (arith, m .before .before .before .before .before .loop-test .taken),
-      same-next _ _ _ _ (l .loop .inv .1) (walked-same _ _ _ _ _ (c .enum-told2 .given .1) (d .descend .kept .1 .1 .1 .1 .1 .0) (d .descend .ensures)),
-      none-more _ _ (l .loop .inv .2) (child .2 ∙ found-none _ _ (sym (c .enum-told2 .given .1) ∙ d .descend .ensures .answer)),
-    )
-
-descend-loop-again-2 : (t : ℕ) → descend-lts.Need-loop-again-2 (calls t) (descend-at t) descend.Post descend-Inv-loop descend-μ-loop
-descend-loop-again-2 t c =
-    let l = c .before .before .before .before in
-    let s = l .before .before .before .before .before .before .before .before .before .before .before .before .before .before in (
-      search needs,
-      l .loop .inv .1,
-      none-more _ _ (l .loop .inv .2) (child-none (s .args .here) (fixed t s) (laid t s) _ _ (s .pre .1 .0) _ _ _ (c .enum-told3 .given .1) (c .before .before .new-fit .ensures) (l .loop .inv .2)),
+      same-next _ _ _ _ (l .loop .inv .1) (walked-same _ _ _ _ _ (c .enum-told3 .given .1) (d .descend .kept .1 .1 .1 .1 .1 .0) (d .descend .ensures)),
+      none-more _ _ (l .loop .inv .2) (child .2 ∙ found-none _ _ (sym (c .enum-told3 .given .1) ∙ d .descend .ensures .answer)),
     )
 
 descend-returns-4 : (t : ℕ) → descend-lts.Need-returns-4 (calls t) (descend-at t) descend.Post descend-Inv-loop descend-μ-loop
@@ -199,15 +199,15 @@ pub +descend-spec : {M : Type 1} → statement M
     (descend-new-fit-requires t)
     (λ c. search needs)
     (λ c. search needs)
+    (λ c. search needs)
+    (λ c. search needs)
+    (descend-loop-again t)
     (λ c κs. search needs)
     (descend-add-descend t)
     (descend-descend-requires t)
     (λ c. search needs)
     (descend-same-length-3 t)
     (descend-returns-3 t)
-    (λ c. search needs)
-    (λ c. search needs)
-    (descend-loop-again t)
     (λ c. search needs)
     (λ c. search needs)
     (descend-loop-again-2 t)

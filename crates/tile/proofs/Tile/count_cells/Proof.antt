@@ -1,7 +1,6 @@
 -- `tile::Tile::count_cells` meets its contract: a tile that is accepted is counted.
 -- Assumes nothing.
 use mathlib.Core.Path.{_≡_, ap, sym, _∙_}
-use Rattle.refusal.specs.declared.Verdict.the-variants as Verdicts
 use Rattle.refusal.specs.Refusal.{mapAnswer}
 use lib.ListN.{length}
 use lib.Seq.{length-take-le}

@@ -1,7 +1,6 @@
 -- `tile::Tile::rotate` meets its contract: a tile that is accepted is moved.
 -- Assumes nothing.
 use mathlib.Core.Path.{ap}
-use Rattle.refusal.specs.declared.Verdict.the-variants as Verdicts
 use Rattle.refusal.specs.Refusal.{refused, mapAnswer}
 use Rattle.tile.specs.Path.{rotated}
 use Rattle.tile.specs.StoredLaws.{check-accepted, check-refused, readTile-given}

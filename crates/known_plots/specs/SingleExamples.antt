@@ -1,5 +1,5 @@
--- Examples: the first tiling of small boards and the refusals by the definitions, and calls at which theorems are applied. Rests on `Theorems`.
--- Assumes nothing.
+-- Examples: the first tiling of small boards and the refusals by the definitions, and calls at which theorems are applied. Rests on single_tiling's
+-- `Theorems`. Assumes nothing.
 use mathlib.Core.Path.{_≡_, refl, sym, ap, _∙_, subst}
 use mathlib.Core.Logic.{_↔_, ⊎-elim}
 use mathlib.Core.Bool.{Bool, true, So}
@@ -21,15 +21,14 @@ use Rattle.tile.specs.EqualLaws.{readTiles-sound, readEqualTiles-equal}
 use Rattle.tile.specs.EdgeTest.{edgeJoined, edgeJoined-iff}
 use Rattle.board.specs.Board.{Board, boardOf, marks, isFree, freeCount, isFull, readBoard}
 use Rattle.board.specs.Children.{children}
-use Rattle.tiler.specs.Counting.{readPlot, countTilings}
+use Rattle.tiler.specs.Counting.{readPlot, layersOf, countTilings}
 use Rattle.tiler.specs.Cuttings.{IsCutting, AllEdgeJoined}
-use Rattle.tiler.specs.KnownPlots.{layersOf}
-use Rattle.tiler.specs.Examples.{board, rectangle, no-marks}
+use Rattle.known_plots.specs.Examples.{board, rectangle, no-marks}
 use Rattle.single_tiling.specs.declared.SingleTiling.{SingleTiling}
 use Rattle.single_tiling.specs.declared.SingleTiling.the-variants as S
 use Rattle.single_tiling.specs.SingleTiling.{Tiling, readSearch, boardsFound, numberFound, singleAnswer, GetsSingleTiling}
 use Rattle.single_tiling.specs.Inner.{singleOf}
 use Rattle.single_tiling.specs.Theorems.{found-is-tiling, no-cells-answer-none, none-exactly-where-the-count-is-0, none-means-no-cutting}
 
 -- ---- the first tiling in child order
 

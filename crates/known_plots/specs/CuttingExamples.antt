@@ -1,6 +1,6 @@
 -- Examples: demand 3's conditions can be met, by 2 by 2 with dominoes, where its theorems are applied to what the three calls answer; and neither the
 -- condition on the board nor that on the tiles can be dropped. What stands in quotation marks is 01's or demand 3's. Rests on `Examples`, `KnownPlots`
--- and `CuttingTheorems`. Assumes nothing.
+-- and tiler's `CuttingTheorems`. Assumes nothing.
 use mathlib.Core.Path.{_≡_, refl, sym, ap, _∙_, subst}
 use mathlib.Core.Logic.{_⊎_, inl, inr}
 use mathlib.Core.Bool.{Bool, true, false, So}
@@ -28,20 +28,20 @@ use Rattle.covers.specs.Theorems.{number-unique, numbering-carried, full-has-on
 use Rattle.graph.specs.declared.Complete.the-variants as N
 use Rattle.graph.specs.declared.Tiling.{Tiling}
 use Rattle.graph.specs.declared.Tiling.the-variants as T
-use Rattle.graph.specs.Rooms.{layerRoom}
+use Rattle.graph.specs.Rooms.{layerRoom, nodeRoom, edgeRoom, plotBoards, plotNodes, plotEdges}
 use Rattle.graph.specs.Graph.{numbersFor, edgesFor}
 use Rattle.graph.specs.Tilings.{nodeList, markedPieces, tilingByNumber, tilingAnswer, GivesTiling}
 use Rattle.tiler.specs.declared.Count.the-variants as C
 use Rattle.tiler.specs.declared.MadeGraph.{MadeGraph}
-use Rattle.tiler.specs.Counting.{readPlot, countTilings, CountsTilings, Graph, generateGraph, Makes, GeneratesGraph}
+use Rattle.tiler.specs.Counting.{readPlot, layersOf, countTilings, CountsTilings, Graph, graphFor, generateGraph, Makes, GeneratesGraph}
 use Rattle.tiler.specs.Cuttings.{IsCutting, HasFreeCell, AllEdgeJoined}
 use Rattle.tiler.specs.Boards.{setting}
 use Rattle.tiler.specs.SettingLaws.{setting-laws, start-ok}
 use Rattle.tiler.specs.CuttingLaws.{cutting-start}
 use Rattle.tiler.specs.NumberLaws.{count-cuttings}
 use Rattle.tiler.specs.CuttingTheorems.{number-of-cuttings, gives-a-cutting, different-cuttings, every-cutting-has-its-number}
-use Rattle.tiler.specs.KnownPlots.{Row, D as dominoes, slanted, rows, graphCountIn, layersOf, graphFor, map-at, known-tiles-read, known-plots-counted, fourByTwo, one-slanted-cutting}
-use Rattle.tiler.specs.Examples.{board, full-start, full-start-graph, set, rectangle, dominoes-read, two-by-two-counted, two-by-two-given, no-marks}
+use Rattle.known_plots.specs.KnownPlots.{Row, D as dominoes, slanted, rows, graphCountIn, map-at, known-tiles-read, known-plots-counted, fourByTwo, one-slanted-cutting}
+use Rattle.known_plots.specs.Examples.{board, full-start, full-start-graph, set, rectangle, dominoes-read, two-by-two-counted, two-by-two-given, no-marks}
 
 -- ---- 2 by 2 with dominoes meets the conditions
 
@@ -225,7 +225,7 @@ full-board-counted = ap (λ (a : Answer (Board × List Path)). bindAnswer a (λ 
 full-board-graph : mapAnswer graphCountIn (generateGraph fullBoard (tilesOf dominoes) 4 1 0) ≡ given 0
 unfolding generateGraph graphFor bindAnswer mapAnswer graphCountIn
 full-board-graph =
-    ap (λ (a : Answer (Board × List Path)). mapAnswer graphCountIn (bindAnswer a (λ p. graphFor (p .0) (p .1) 4 1 0))) full-board-read
+    ap (λ (a : Answer (Board × List Path)). mapAnswer graphCountIn (bindAnswer a (λ p. graphFor (p .0) (p .1) (nodeRoom 4 1) (edgeRoom 0)))) full-board-read
     ∙ ap (mapAnswer graphCountIn) full-start-graph
 
 full-board-valid : So (valid (board 2 1 1 2))
@@ -271,8 +271,8 @@ unfolding rows
 slanted-row = mem-getD rows 11 slantedRow (lit< tt)
 
 -- neither count is refused: both are 0
-slanted-counted : (countTilings (rectangle 4 2) (tilesOf slanted) 512 ≡ given 0)
-    × (mapAnswer graphCountIn (generateGraph (rectangle 4 2) (tilesOf slanted) 4096 1024 8192) ≡ given 0)
+slanted-counted : (countTilings (rectangle 4 2) (tilesOf slanted) plotBoards ≡ given 0)
+    × (mapAnswer graphCountIn (generateGraph (rectangle 4 2) (tilesOf slanted) (4 * plotNodes) plotNodes (2 * plotEdges)) ≡ given 0)
 unfolding number newBoard
 slanted-counted = known-plots-counted slantedRow slanted-row (rectangle 4 2) (tilesOf slanted) refl (known-tiles-read slantedRow slanted-row)
 
@@ -291,11 +291,11 @@ slanted-not-none none =
 -- and where this is not asked of the tiles, a count that is given need not be the number of cuttings
 joined-needed : ((b : RectangularBoard) → Sound (b .fixed) → Sound (b .laid) → (ts : Tiles) → HasFreeCell (boardOf b)
     → (room n : ℕ) → countTilings b ts room ≡ given n → Exactly n (IsCutting (boardOf b) (pathsIn ts))) → ⊥
-joined-needed without = slanted-not-none (without (rectangle 4 2) no-marks no-marks (tilesOf slanted) slanted-free-cell 512 0 (slanted-counted .0))
+joined-needed without = slanted-not-none (without (rectangle 4 2) no-marks no-marks (tilesOf slanted) slanted-free-cell plotBoards 0 (slanted-counted .0))
 
 -- it does not hold of these
 slanted-not-joined : AllEdgeJoined (pathsIn (tilesOf slanted)) → ⊥
 slanted-not-joined joined =
-    slanted-not-none (count-cuttings (rectangle 4 2) no-marks no-marks (tilesOf slanted) slanted-free-cell joined 512 0 (slanted-counted .0))
+    slanted-not-none (count-cuttings (rectangle 4 2) no-marks no-marks (tilesOf slanted) slanted-free-cell joined plotBoards 0 (slanted-counted .0))
 
 -- ---- that tiles "all cover equally many cells" is not asked: the counts refuse others by 7 (`unequal-tiles` and `unequal-tiles-graph` of `Examples`)

@@ -1,4 +1,4 @@
--- Examples: small plots by the definitions, and one at which theorems are applied. Rests on `Theorems`. Assumes nothing.
+-- Examples: small plots by the definitions, and one at which theorems are applied. Rests on tiler's `Theorems`. Assumes nothing.
 use mathlib.Core.Path.{_≡_, refl, sym, ap, _∙_, subst}
 use mathlib.Core.Logic.{⊎-elim}
 use mathlib.Core.Bool.{true, false, So}
@@ -19,11 +19,11 @@ use Rattle.board.specs.declared.RectangularBoard.{RectangularBoard}
 use Rattle.board.specs.Board.{Board, boardOf, readBoard}
 use Rattle.covers.specs.Cuttings.{Exactly}
 use Rattle.covers.specs.Counts.{Entry}
-use Rattle.graph.specs.Rooms.{layerRoom}
+use Rattle.graph.specs.Rooms.{layerRoom, nodeRoom, edgeRoom}
 use Rattle.graph.specs.Tilings.{countFromGraph}
-use Rattle.tiler.specs.Counting.{readPlot, weigh, weighTo, countTilings, Graph, weighGraph, generateGraph}
-use Rattle.tiler.specs.KnownPlots.{D as dominoes, layersOf, graphFor}
+use Rattle.tiler.specs.Counting.{readPlot, judgeLayer, judgeLayers, layersOf, countTilings, Graph, judgeGraph, graphFor, generateGraph}
+use Rattle.known_plots.specs.KnownPlots.{D as dominoes}
 use Rattle.tiler.specs.Theorems.{Reaches, path-count-is-number-of-sequences, counts-agree}
 
 -- a board by its size, its fixed and its laid marks
 abbrev pub board : ℕ → ℕ → ℕ → ℕ → Board
@@ -43,8 +43,8 @@ twoByTwo = record {
   complete = some 3;
 }
 
-two-by-two-graph : graphFor (board 2 2 0 0) dominoes 16 4 8 ≡ given twoByTwo
-unfolding graphFor dominoes step
+two-by-two-graph : graphFor (board 2 2 0 0) dominoes (nodeRoom 16 4) (edgeRoom 8) ≡ given twoByTwo
+unfolding graphFor nodeRoom edgeRoom dominoes step
 two-by-two-graph = refl
 
 -- layer 1 has two boards; four nodes need 16 node words and 4 count words, four edges 8 words; 8 comes before 10
@@ -52,16 +52,16 @@ one-board : layersOf (board 2 2 0 0) dominoes 1 ≡ refused 8
 unfolding layersOf dominoes step
 one-board = refl
 
-few-node-words : graphFor (board 2 2 0 0) dominoes 15 4 7 ≡ refused 8
-unfolding graphFor dominoes step
+few-node-words : graphFor (board 2 2 0 0) dominoes (nodeRoom 15 4) (edgeRoom 7) ≡ refused 8
+unfolding graphFor nodeRoom edgeRoom dominoes step
 few-node-words = refl
 
-few-count-words : graphFor (board 2 2 0 0) dominoes 16 3 8 ≡ refused 8
-unfolding graphFor dominoes step
+few-count-words : graphFor (board 2 2 0 0) dominoes (nodeRoom 16 3) (edgeRoom 8) ≡ refused 8
+unfolding graphFor nodeRoom edgeRoom dominoes step
 few-count-words = refl
 
-few-edge-words : graphFor (board 2 2 0 0) dominoes 16 4 7 ≡ refused 10
-unfolding graphFor dominoes step
+few-edge-words : graphFor (board 2 2 0 0) dominoes (nodeRoom 16 4) (edgeRoom 7) ≡ refused 10
+unfolding graphFor nodeRoom edgeRoom dominoes step
 few-edge-words = refl
 
 -- ---- the least plots
@@ -80,13 +80,13 @@ pub full-start : layersOf (board 2 1 1 2) dominoes 1 ≡ given 0
 unfolding layersOf dominoes step
 full-start = refl
 
-pub full-start-graph : graphFor (board 2 1 1 2) dominoes 4 1 0 ≡ given record { nodes = 3 ∷ []; counts = 1 ∷ []; edges = []; complete = none }
-unfolding graphFor dominoes step
+pub full-start-graph : graphFor (board 2 1 1 2) dominoes (nodeRoom 4 1) (edgeRoom 0) ≡ given record { nodes = 3 ∷ []; counts = 1 ∷ []; edges = []; complete = none }
+unfolding graphFor nodeRoom edgeRoom dominoes step
 full-start-graph = refl
 
 -- a node's marks are of both kinds
-fixed-mark : graphFor (board 3 1 1 0) dominoes 8 2 2 ≡ given record { nodes = 1 ∷ 7 ∷ []; counts = 1 ∷ 1 ∷ []; edges = (0, 1) ∷ []; complete = some 1 }
-unfolding graphFor dominoes step
+fixed-mark : graphFor (board 3 1 1 0) dominoes (nodeRoom 8 2) (edgeRoom 2) ≡ given record { nodes = 1 ∷ 7 ∷ []; counts = 1 ∷ 1 ∷ []; edges = (0, 1) ∷ []; complete = some 1 }
+unfolding graphFor nodeRoom edgeRoom dominoes step
 fixed-mark = refl
 
 -- no tiles: no child
@@ -96,16 +96,16 @@ no-tiles = refl
 
 -- ---- limits: 8 before 9 in a layer, the earliest layer decides, 10 before 9 over the graph
 
-largest-count : weigh 1 ((0, 2 ^ 64 - 1) ∷ []) ≡ given ((0, 2 ^ 64 - 1) ∷ [])
-unfolding weigh
+largest-count : judgeLayer 1 ((0, 2 ^ 64 - 1) ∷ []) ≡ given ((0, 2 ^ 64 - 1) ∷ [])
+unfolding judgeLayer
 largest-count = refl
 
-count-too-large : weigh 1 ((0, 2 ^ 64) ∷ []) ≡ refused 9
-unfolding weigh
+count-too-large : judgeLayer 1 ((0, 2 ^ 64) ∷ []) ≡ refused 9
+unfolding judgeLayer
 count-too-large = refl
 
-no-room-first : weigh 0 ((0, 2 ^ 64) ∷ []) ≡ refused 8
-unfolding weigh
+no-room-first : judgeLayer 0 ((0, 2 ^ 64) ∷ []) ≡ refused 8
+unfolding judgeLayer
 no-room-first = refl
 
 -- layer 0 has a count too large, layer 1 no room
@@ -113,13 +113,17 @@ unfoldable twoLayers : ℕ → List (Entry ℕ)
 twoLayers zero = (0, 2 ^ 64) ∷ []
 twoLayers (suc n) = (1, 1) ∷ (2, 1) ∷ []
 
-earliest-layer : weighTo twoLayers 1 1 ≡ refused 9
-unfolding weighTo twoLayers
+earliest-layer : judgeLayers twoLayers 1 1 ≡ refused 9
+unfolding judgeLayers twoLayers
 earliest-layer = refl
 
-edges-before-counts : weighGraph 2 0 (record { nodes = 0 ∷ 1 ∷ []; counts = 1 ∷ 2 ^ 64 ∷ []; edges = (0, 1) ∷ []; complete = none }) ≡ refused 10
-unfolding weighGraph
+edges-before-counts : judgeGraph 2 0 (record { nodes = 0 ∷ 1 ∷ []; counts = 1 ∷ 2 ^ 64 ∷ []; edges = (0, 1) ∷ []; complete = none }) ≡ refused 10
+unfolding judgeGraph
 edges-before-counts = refl
+
+graph-count-too-large : judgeGraph 2 1 (record { nodes = 0 ∷ 1 ∷ []; counts = 1 ∷ 2 ^ 64 ∷ []; edges = (0, 1) ∷ []; complete = none }) ≡ refused 9
+unfolding judgeGraph
+graph-count-too-large = refl
 
 -- ---- refusals of the input come first, in the order 4, 6, 5, 7: here with no room at all
 
@@ -193,7 +197,7 @@ two-by-two-counted = ap (λ (a : Answer (Board × List Path)). bindAnswer a (λ 
 
 pub two-by-two-given : generateGraph (rectangle 2 2) (tilesOf dominoes) 16 4 8 ≡ given twoByTwo
 unfolding generateGraph graphFor bindAnswer
-two-by-two-given = ap (λ (a : Answer (Board × List Path)). bindAnswer a (λ p. graphFor (p .0) (p .1) 16 4 8)) two-by-two-plot ∙ two-by-two-graph
+two-by-two-given = ap (λ (a : Answer (Board × List Path)). bindAnswer a (λ p. graphFor (p .0) (p .1) (nodeRoom 16 4) (edgeRoom 8))) two-by-two-plot ∙ two-by-two-graph
 
 -- the set of no cells has words of 64 bits
 pub no-marks : Sound (set 0)

@@ -1,11 +1,11 @@
 -- 01's known plots: "The starred twelve are shown of the definitions, as rows under one common statement". Both counts of each row compute
 -- (`known-plots`), and are what the calls answer by their contracts (`known-plots-counted`). Of the last row also that "one cutting exists". What stands in quotation marks is
--- 01's. Rests on `CuttingLaws` and covers' `SequenceLaws`. Assumes nothing.
+-- 01's. Rests on tiler's `CuttingLaws` and covers' `SequenceLaws`. Assumes nothing.
 use mathlib.Core.Path.{_≡_, refl, sym, ap, _∙_, subst, fun-ext}
 use mathlib.Core.Logic.{⊎-elim}
 use mathlib.Core.Bool.{Bool, true, So, _&&_, and-eq-true-iff}
 use mathlib.Core.List.{List, [], _∷_, map, tail, List·Memᴰ as Mem, List·Memᴰ·head as here, List·Memᴰ·cases-cons as cases-cons, List·Memᴰ·eq-of-singleton as eq-of-singleton, List·Memᴰ·not-nil as not-nil, Memᴰ·of-map as of-map}
-use Prim.Native.Nat.{ℕ, _+_, _^_, _<_}
+use Prim.Native.Nat.{ℕ, _+_, _*_, _^_, _<_}
 use lib.Dec.{eqb, lit<}
 use lib.ListN.{getD}
 use Rattle.cells.specs.Firsts.{holds}
@@ -26,13 +26,13 @@ use Rattle.board.specs.FreeLaws.{piece-free, piece-iff, piece-some}
 use Rattle.covers.specs.Cuttings.{Exactly, CuttingOf}
 use Rattle.covers.specs.NumberingLaws.{exactly-one, one-is, one-only}
 use Rattle.covers.specs.SequenceLaws.{cutting-add, sequence-cutting}
-use Rattle.graph.specs.Rooms.{nodeRoom, edgeRoom}
+use Rattle.graph.specs.Rooms.{nodeRoom, edgeRoom, plotBoards, plotNodes, plotEdges}
 use Rattle.graph.specs.Tilings.{countFromGraph}
 use Rattle.tiler.specs.Boards.{From, setting}
-use Rattle.tiler.specs.Counting.{readPlot, layersAnswer, countTilings, Graph, graphOf, weighGraph, generateGraph}
+use Rattle.tiler.specs.Counting.{readPlot, layersOf, countTilings, Graph, graphFor, generateGraph}
 use Rattle.tiler.specs.Cuttings.{IsCutting}
 use Rattle.tiler.specs.SettingLaws.{fits-piece, lay-adds, lay-from, setting-laws, start-ok}
 use Rattle.tiler.specs.CuttingLaws.{cutting-start}
 
 -- ---- the table
 
@@ -88,21 +88,12 @@ unfoldable pub graphCountIn : Graph → ℕ
 unfolding countFromGraph
 graphCountIn g = countFromGraph (g .complete) (g .counts)
 
--- the layer count, and the graph, of a board and tiles that are not refused, for a room of so many boards, and for so many node, count and edge words
-unfoldable pub layersOf : Board → List Path → ℕ → Answer ℕ
-unfolding layersAnswer setting marks
-layersOf b paths room = layersAnswer (setting b paths) (marks b) room
-
-unfoldable pub graphFor : Board → List Path → ℕ → ℕ → ℕ → Answer Graph
-unfolding weighGraph nodeRoom edgeRoom graphOf setting marks
-graphFor b paths nodeWords countWords edgeWords = weighGraph (nodeRoom nodeWords countWords) (edgeRoom edgeWords) (graphOf (setting b paths) (marks b))
-
--- the layer count and the graph count of a row: 4,096 node words and 8,192 edge words hold 1,024 nodes and 4,096 edges
+-- the layer count and the graph count of a row
 unfoldable pub countsOf : Row → Answer ℕ × Answer ℕ
 unfolding bindAnswer mapAnswer graphCountIn layersOf graphFor
 countsOf r = (
-  bindAnswer (r .board) (λ b. layersOf b (r .tiles) 512),
-  bindAnswer (r .board) (λ b. mapAnswer graphCountIn (graphFor b (r .tiles) 4096 1024 8192)),
+  bindAnswer (r .board) (λ b. layersOf b (r .tiles) plotBoards),
+  bindAnswer (r .board) (λ b. mapAnswer graphCountIn (graphFor b (r .tiles) plotNodes plotEdges)),
 )
 
 -- The known plots: neither count of a row is refused, and both are the row's.
@@ -142,27 +133,27 @@ module _ (b : RectangularBoard) (ts : Tiles) (board : Board) (paths : List Path)
   unfolding readPlot bindAnswer mapAnswer
   plot-read = rw (boardIs, tilesAre)
 
-  layers-called : countTilings b ts 512 ≡ layersOf board paths 512
+  layers-called : countTilings b ts plotBoards ≡ layersOf board paths plotBoards
   unfolding countTilings layersOf bindAnswer
   layers-called = rw plot-read
 
-  graph-called : generateGraph b ts 4096 1024 8192 ≡ graphFor board paths 4096 1024 8192
-  unfolding generateGraph graphFor bindAnswer
+  graph-called : generateGraph b ts (4 * plotNodes) plotNodes (2 * plotEdges) ≡ graphFor board paths plotNodes plotEdges
+  unfolding generateGraph graphFor nodeRoom edgeRoom bindAnswer
   graph-called = rw plot-read
 
 -- For a board that is made as the row says and tiles that are read as the row's, what the contracts say that `count_tilings` with layers of 512 boards and
--- `generate_graph` with 4,096 node words, 1,024 count words and 8,192 edge words answer is the row's count.
+-- `generate_graph` with 4,096 node words, 1,024 count words and 8,192 edge words (four a node and two an edge) answer is the row's count.
 pub known-plots-counted : (r : Row) → Mem r rows → (b : RectangularBoard) (ts : Tiles) → given (boardOf b) ≡ r .board → readEqualTiles ts ≡ given (r .tiles)
-    → (countTilings b ts 512 ≡ given (r .count)) × (mapAnswer graphCountIn (generateGraph b ts 4096 1024 8192) ≡ given (r .count))
+    → (countTilings b ts plotBoards ≡ given (r .count)) × (mapAnswer graphCountIn (generateGraph b ts (4 * plotNodes) plotNodes (2 * plotEdges)) ≡ given (r .count))
 unfolding countsOf bindAnswer
 known-plots-counted r m b ts made read =
     let same = readBoard-given b (known-board-accepted r m (boardOf b) made) in
     let both = map-at countsOf (λ q. (given (q .count), given (q .count))) rows known-plots r m in (
       layers-called b ts (boardOf b) (r .tiles) same read
-          ∙ ap (λ (a : Answer Board). bindAnswer a (λ c. layersOf c (r .tiles) 512)) made
+          ∙ ap (λ (a : Answer Board). bindAnswer a (λ c. layersOf c (r .tiles) plotBoards)) made
           ∙ ap (λ (c : Answer ℕ × Answer ℕ). c .0) both,
       ap (mapAnswer graphCountIn) (graph-called b ts (boardOf b) (r .tiles) same read)
-          ∙ ap (λ (a : Answer Board). bindAnswer a (λ c. mapAnswer graphCountIn (graphFor c (r .tiles) 4096 1024 8192))) made
+          ∙ ap (λ (a : Answer Board). bindAnswer a (λ c. mapAnswer graphCountIn (graphFor c (r .tiles) plotNodes plotEdges))) made
           ∙ ap (λ (c : Answer ℕ × Answer ℕ). c .1) both,
     )
 
@@ -229,13 +220,9 @@ module _ (b : Board) (paths : List Path) (good : So (valid b)) where
         → Exactly 1 (IsCutting b paths)
     one-cutting xs h alone = exactly-one (setIn xs) (cuts-start xs h) (λ X u. cutting-within X (setIn xs) u (cuts-start xs h) (forced xs alone X u))
 
--- the board of the last row: what is made, and accepted
+-- the board of the last row, and that it is accepted
 abbrev pub fourByTwo : Board
 fourByTwo = record { width = 4; height = 2; fixed = 0; laid = 0 }
-
-pub four-by-two : newBoard 4 2 ≡ given fourByTwo
-unfolding newBoard
-four-by-two = refl
 
 four-by-two-valid : So (valid fourByTwo)
 unfolding valid

@@ -1,4 +1,4 @@
--- `layers::weighed` meets its contract: no room, a full start, or layer 0 in the first words and the layers from it on. Assumes nothing.
+-- `layers::count_accepted` meets its contract: no room, a full start, or layer 0 in the first words and the layers from it on. Assumes nothing.
 use Prim.Native.Nat.{_^_, _<_}
 use native.Mathlib.Omega.{arith}
 use Rattle.cells.specs.Words.{number}
@@ -6,8 +6,8 @@ use Rattle.cells.specs.WordLaws.{number-lt}
 use Rattle.graph.specs.RoomLaws.{layer-room}
 use Rattle.tiler.proofs.StartLaws.{positive, start-no-room, start-full, start-ready, start-run}
 use borrow.Author.Needs.{needs}
-use Rattle.tiler.proofs.layers.weighed.Statement.{statement}
-use Rattle.tiler.proofs.layers.weighed.Tie as tie
+use Rattle.tiler.proofs.layers.count_accepted.Statement.{statement}
+use Rattle.tiler.proofs.layers.count_accepted.Tie as tie
 
 -- the marks are machine words
 small-fixed : (c : tie.Start) → number (c .args .board .fixed) < 2 ^ 256
@@ -60,8 +60,8 @@ returns-3 c =
     start-run _ _ (s .pre .0) (small-fixed s) (small-laid s) _ (f .free-cells .ensures) _ _ (f .before .before .layer-room .ensures) (f .before .if1 .left)
     _ (m .start .ensures) (m .before .before .before .if2 .left) _ (r .run .ensures)
 
-pub weighed-spec : {M : Type 1} → statement M
-weighed-spec =
+pub count-accepted-spec : {M : Type 1} → statement M
+count-accepted-spec =
     tie.close
     (tie.spec
     (λ c κs. search needs)
