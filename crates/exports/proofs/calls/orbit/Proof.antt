@@ -1,0 +1,32 @@
+-- `exports::calls::orbit` meets its contract: what `orbit` answers is told.
+-- Assumes nothing.
+use Rattle.exports.proofs.TileLaws.{orbit-clean, orbit-told, orbit-refused}
+use borrow.Author.Needs.{needs}
+use Rattle.exports.proofs.calls.orbit.Statement.{statement}
+use Rattle.exports.proofs.calls.orbit.Tie as tie
+
+put-tiles-requires : tie.Need-put-tiles-requires
+put-tiles-requires c κs = orbit-clean _ _ (c .before .before .orbit .ensures)
+
+returns : tie.Need-returns
+returns c = orbit-told _ _ (c .before .before .before .before .before .before .before .before .before .before .before .orbit .ensures) (c .before .before .before .before .before .before .before .before .before .before .before .before .before .before .args .tiles .now) _ _ _ (c .before .before .before .before .before .before .before .before .put-tiles .ensures) _ (c .before .before .before .before .enum-told .given .1) (c .before .before .accept .ensures)
+
+returns-2 : tie.Need-returns-2
+returns-2 c = orbit-refused _ _ (c .before .before .before .before .before .before .before .before .before .before .before .before .orbit .ensures) (c .before .before .before .before .before .before .before .before .before .before .before .before .before .before .before .args .tiles .now) _ _ _ (c .before .before .before .before .before .before .before .before .before .put-tiles .ensures) _ _ (c .before .before .before .before .before .verdict .given .1) (c .before .before .refuse .ensures)
+
+pub orbit-spec : {M : Type 1} → statement M
+orbit-spec =
+    tie.close
+    (tie.spec
+    (λ c κs. search needs)
+    put-tiles-requires
+    (λ c. search needs)
+    (λ c κs. search needs)
+    (λ c. search needs)
+    (λ c κs. search needs)
+    (λ c. search needs)
+    (λ c. search needs)
+    returns
+    (λ c. search needs)
+    (λ c. search needs)
+    returns-2)

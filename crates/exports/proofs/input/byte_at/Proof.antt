@@ -1,0 +1,12 @@
+-- `exports::input::byte_at` meets its contract: what is not lent reads as 0.
+-- Assumes nothing.
+use Rattle.exports.proofs.InputLaws.{past}
+use borrow.Author.Needs.{needs}
+use Rattle.exports.proofs.input.byte_at.Statement.{statement}
+use Rattle.exports.proofs.input.byte_at.Tie as tie
+
+returns-2 : tie.Need-returns-2
+returns-2 c = search (needs, past)
+
+pub byte-at-spec : {M : Type 1} → statement M
+byte-at-spec = tie.close (tie.spec (λ c. search needs) (λ c. search needs) returns-2)

@@ -1,0 +1,9 @@
+-- What the exported functions mean for a host. `Theorems` is the page to read; `Examples` computes small inputs and shows that its conditions can be met. The
+-- others hold laws.
+pub mod ReturnLaws
+pub mod RefusedLaws
+pub mod ReadBackLaws
+pub mod HandedOnLaws
+pub mod CuttingLaws
+pub mod Theorems
+pub mod Examples

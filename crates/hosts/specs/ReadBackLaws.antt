@@ -1,0 +1,230 @@
+-- Laws of what stands in lent words and bytes, read again by another call: a board's ten words, the bytes of tiles, the four words of a graph's result, and a
+-- count's two words. Rests on cells' `WordLaws` and `ArrayLaws`, tile's `StoredLaws` and graph's `GraphLaws`. Assumes nothing.
+use mathlib.Core.Path.{_≡_, refl, sym, ap, ap₂, _∙_, subst}
+use mathlib.Core.Bool.{Bool, true, false, cond}
+use mathlib.Core.List.{List, [], _∷_}
+use mathlib.Core.Option.{Option, none, some}
+use Prim.Native.Nat.{ℕ, _+_, _-_, _*_, _/_, _%_, _^_, _≤_, _<_}
+use native.Mathlib.Decide.{decLt}
+use native.Mathlib.Omega.{arith}
+use lib.Dec.{eqb, lit<}
+use lib.ListN.{length, getD, take, drop, List·getD-eq-default}
+use lib.Seq.{getD-take, getD-drop, length-take-le}
+use borrow.Author.Tests.{ne-eqb}
+use Rattle.cells.specs.declared.Cells.{Cells}
+use Rattle.cells.specs.Words.{value, wordsBelow, wordsOf, number}
+use Rattle.cells.specs.WordLaws.{value-wordsOf}
+use Rattle.cells.specs.Arrays.{listOf}
+use Rattle.cells.specs.ArrayLaws.{length-listOf, getD-listOf, listOf-ext}
+use Rattle.tile.specs.Path.{Path}
+use Rattle.tile.specs.Stored.{Storable, readTiles, tilesOf}
+use Rattle.tile.specs.StoredLaws.{readTiles-tilesOf}
+use Rattle.refusal.specs.Refusal.{given}
+use Rattle.board.specs.declared.RectangularBoard.{RectangularBoard}
+use Rattle.board.specs.Board.{Board, boardOf, valid, readBoard}
+use Rattle.board.specs.BoardLaws.{readBoard-given}
+use Rattle.covers.specs.Counts.{atNode}
+use Rattle.graph.specs.Graph.{numbersFor}
+use Rattle.graph.specs.GraphLaws.{take-numbersFor}
+use Rattle.graph.specs.Tilings.{completeNode}
+use Rattle.exports.specs.Layout.{boardIn, boardWords, tilesIn, byteOf, bytesFor, completeIn, resultIn, hasNode, resultWords}
+
+-- ---- words in order
+
+pub number-at : (ns : List ℕ) (count k : ℕ) → k < count → getD (numbersFor ns count) k 0 ≡ getD ns k 0
+unfolding numbersFor
+number-at ns count k h = getD-listOf (λ i. getD ns i 0) count k 0 h
+
+-- ---- a board
+
+-- the four words of a number, as a set
+cellsOf : ℕ → Cells
+cellsOf n = record { w0 = getD (wordsOf n) 0 0; w1 = getD (wordsOf n) 1 0; w2 = getD (wordsOf n) 2 0; w3 = getD (wordsOf n) 3 0 }
+
+number-cellsOf : (n : ℕ) → n < 2 ^ 256 → number (cellsOf n) ≡ n
+unfolding number cellsOf wordsOf wordsBelow
+number-cellsOf n h = value-wordsOf n h
+
+structOf : Board → RectangularBoard
+structOf b = record { width = b .width; height = b .height; fixed = cellsOf (b .fixed); laid = cellsOf (b .laid) }
+
+module _ (b : Board) (count : ℕ) (ten : 10 ≤ count) where
+  abbrev left : List ℕ
+  left = numbersFor (boardWords b) count
+
+  word-left : (k : ℕ) → k < 10 → getD left k 0 ≡ getD (boardWords b) k 0
+  word-left k h = number-at (boardWords b) count k (omega arith)
+
+  mark-left : (i : ℕ) → i < 8 → getD (take 8 (drop 2 left)) i 0 ≡ getD (boardWords b) (2 + i) 0
+  mark-left i h = getD-take 8 (drop 2 left) i 0 h ∙ getD-drop 2 left i 0 ∙ word-left (2 + i) (omega arith)
+
+  struct-left : boardIn (getD left 0 0) (getD left 1 0) (take 8 (drop 2 left)) ≡ structOf b
+  unfolding structOf cellsOf boardWords wordsOf wordsBelow
+  struct-left =
+      rw (
+        word-left 0 (lit< tt),
+        word-left 1 (lit< tt),
+        mark-left 0 (lit< tt),
+        mark-left 1 (lit< tt),
+        mark-left 2 (lit< tt),
+        mark-left 3 (lit< tt),
+        mark-left 4 (lit< tt),
+        mark-left 5 (lit< tt),
+        mark-left 6 (lit< tt),
+        mark-left 7 (lit< tt),
+      )
+
+-- a valid board's words are read as that board
+pub board-back : (b : Board) (count : ℕ) → 10 ≤ count → b .fixed < 2 ^ 256 → b .laid < 2 ^ 256 → valid b ≡ true → (ws : List ℕ) → ws ≡ numbersFor (boardWords b) count
+    → readBoard (boardIn (getD ws 0 0) (getD ws 1 0) (take 8 (drop 2 ws))) ≡ given b
+unfolding structOf
+board-back b count ten f l ok ws e =
+    let same : boardOf (structOf b) ≡ b = ap₂ (λ (x y : ℕ). record { width = b .width; height = b .height; fixed = x; laid = y }) (number-cellsOf (b .fixed) f) (number-cellsOf (b .laid) l) in
+    ap (λ (xs : List ℕ). readBoard (boardIn (getD xs 0 0) (getD xs 1 0) (take 8 (drop 2 xs)))) e
+    ∙ ap readBoard (struct-left b count ten)
+    ∙ readBoard-given (structOf b) (ap valid same ∙ ok)
+    ∙ ap given same
+
+-- ---- tiles
+
+byte-length : (ps : List Path) (i : ℕ) → byteOf ps (33 * i) ≡ length (getD ps i [])
+unfolding byteOf
+byte-length ps i =
+    let a : (33 * i) % 33 ≡ 0 = omega arith in
+    let b : (33 * i) / 33 ≡ i = omega arith in
+    rw (a, b)
+
+byte-code : (ps : List Path) (i q : ℕ) → q < 32 → byteOf ps (33 * i + (1 + q)) ≡ getD (getD ps i []) q 0
+unfolding byteOf
+byte-code ps i q h =
+    let a : (33 * i + (1 + q)) % 33 ≡ 1 + q = omega arith in
+    let b : (33 * i + (1 + q)) / 33 ≡ i = omega arith in
+    let n : 1 + q ≡ 0 → ⊥ = λ e. omega arith in
+    let c : 1 + q - 1 ≡ q = omega arith in
+    rw (a, b, ne-eqb (1 + q) 0 n, c)
+
+-- behind the last tile there are zeros
+pub byte-past : (ps : List Path) (k : ℕ) → 33 * length ps ≤ k → byteOf ps k ≡ 0
+unfolding byteOf
+byte-past ps k h =
+    let l : length ps ≤ k / 33 = omega arith in
+    rw (List·getD-eq-default ps [] l) (go (eqb (k % 33) 0))
+  where
+    go : (t : Bool) → cond t (length {A = ℕ} []) (getD {A = ℕ} [] (k % 33 - 1) 0) ≡ 0
+    go true = refl
+    go false = refl
+
+module _ (ps : List Path) (count : ℕ) (room : 33 * length ps ≤ count) where
+  abbrev bytes : List ℕ
+  bytes = take (33 * length ps) (bytesFor ps count)
+
+  length-bytesFor : length (bytesFor ps count) ≡ count
+  unfolding bytesFor
+  length-bytesFor = length-listOf (byteOf ps) count
+
+  length-bytes : length bytes ≡ 33 * length ps
+  length-bytes = length-take-le (33 * length ps) (bytesFor ps count) (omega (arith, length-bytesFor))
+
+  byte-left : (k : ℕ) → getD bytes k 0 ≡ byteOf ps k
+  unfolding bytesFor
+  byte-left k = go (decLt k (33 * length ps))
+    where
+      go : Dec (k < 33 * length ps) → getD bytes k 0 ≡ byteOf ps k
+      go (yes h) = getD-take (33 * length ps) (listOf (byteOf ps) count) k 0 h ∙ getD-listOf (byteOf ps) count k 0 (omega arith)
+      go (no h) =
+          let a : length bytes ≤ k = omega (arith, length-bytes) in
+          let b : 33 * length ps ≤ k = omega arith in
+          List·getD-eq-default bytes 0 a ∙ sym (byte-past ps k b)
+
+  tiles-left : tilesIn bytes ≡ tilesOf ps
+  unfolding tilesOf
+  tiles-left =
+      let n : length bytes / 33 ≡ length ps = omega (arith, length-bytes) in
+      let lens : listOf (λ i. getD bytes (33 * i) 0) 64 ≡ listOf (λ i. length (getD ps i [])) 64 =
+      listOf-ext (λ i. getD bytes (33 * i) 0) (λ i. length (getD ps i [])) 64 (λ i h. byte-left (33 * i) ∙ byte-length ps i) in
+      let codes : listOf (λ k. getD bytes (33 * (k / 32) + (1 + k % 32)) 0) 2048 ≡ listOf (λ k. getD (getD ps (k / 32) []) (k % 32) 0) 2048 =
+      listOf-ext (λ k. getD bytes (33 * (k / 32) + (1 + k % 32)) 0) (λ k. getD (getD ps (k / 32) []) (k % 32) 0) 2048
+      (λ k h. byte-left (33 * (k / 32) + (1 + k % 32)) ∙ byte-code ps (k / 32) (k % 32) (omega arith)) in
+      λ i. record { count = n i; lens = lens i; codes = codes i }
+
+-- the bytes of tiles are those tiles, as they are stored
+pub tiles-stored : (ps : List Path) (count : ℕ) → 33 * length ps ≤ count → (bs : List ℕ) → bs ≡ bytesFor ps count → tilesIn (take (33 * length ps) bs) ≡ tilesOf ps
+tiles-stored ps count room bs e = ap (λ (xs : List ℕ). tilesIn (take (33 * length ps) xs)) e ∙ tiles-left ps count room
+
+-- and are read as those tiles
+pub tiles-back : (ps : List Path) (count : ℕ) → 2112 ≤ count → length ps ≤ 64 → Storable ps → (bs : List ℕ) → bs ≡ bytesFor ps count
+    → readTiles (tilesIn (take (33 * length ps) bs)) ≡ given ps
+tiles-back ps count room few fine bs e =
+    let r : 33 * length ps ≤ count = omega arith in
+    ap readTiles (tiles-stored ps count r bs e) ∙ readTiles-tilesOf ps few fine
+
+pub bytes-length : (ps : List Path) (count : ℕ) → 2112 ≤ count → length ps ≤ 64 → (bs : List ℕ) → bs ≡ bytesFor ps count → length (take (33 * length ps) bs) ≡ 33 * length ps
+bytes-length ps count room few bs e =
+    let r : 33 * length ps ≤ count = omega arith in
+    ap (λ (xs : List ℕ). length (take (33 * length ps) xs)) e ∙ length-bytes ps count r
+
+-- ---- a result
+
+module _ (nodes edges : ℕ) (complete : Option ℕ) where
+  result-four : length (resultWords nodes edges complete) ≡ 4
+  unfolding resultWords
+  result-four = refl
+
+  -- four words that were written are read as they were
+  pub result-left : (count : ℕ) → 4 ≤ count → (ws : List ℕ) → ws ≡ numbersFor (resultWords nodes edges complete) count → take 4 ws ≡ resultWords nodes edges complete
+  result-left count h ws e =
+      ap (take 4) e
+      ∙ subst (λ (k : ℕ). take k (numbersFor (resultWords nodes edges complete) count) ≡ resultWords nodes edges complete) result-four
+      (take-numbersFor (resultWords nodes edges complete) count (omega (arith, result-four)))
+
+  pub result-nodes : resultIn (resultWords nodes edges complete) .nodes ≡ nodes
+  unfolding resultIn resultWords
+  result-nodes = refl
+
+  pub result-edges : resultIn (resultWords nodes edges complete) .edges ≡ edges
+  unfolding resultIn resultWords
+  result-edges = refl
+
+  pub result-length : length (resultWords nodes edges complete) ≡ 4
+  result-length = result-four
+
+full-back : (complete : Option ℕ) → completeNode (completeIn (hasNode complete) (atNode (λ v. v) complete)) ≡ complete
+unfolding completeIn hasNode atNode
+full-back none = refl
+full-back (some v) = refl
+
+pub result-complete : (nodes edges : ℕ) (complete : Option ℕ) → completeNode (resultIn (resultWords nodes edges complete) .complete) ≡ complete
+unfolding resultIn resultWords
+result-complete nodes edges complete = full-back complete
+
+flag-small : (complete : Option ℕ) → hasNode complete ≤ 1
+unfolding hasNode
+flag-small none = omega arith
+flag-small (some v) = omega arith
+
+pub result-flag : (nodes edges : ℕ) (complete : Option ℕ) → getD (resultWords nodes edges complete) 2 0 ≤ 1
+unfolding resultWords
+result-flag nodes edges complete = flag-small complete
+
+-- ---- a count
+
+two-words : (n : ℕ) → length (wordsBelow 2 n) ≡ 2
+unfolding wordsBelow
+two-words n = refl
+
+pub value-two : (n : ℕ) → n < 2 ^ 64 → value (wordsBelow 2 n) ≡ n
+unfolding value wordsBelow
+value-two n h = let q : n / 2 ^ 64 ≡ 0 = omega arith in let m : n % 2 ^ 64 ≡ n = omega arith in let z : (n / 2 ^ 64) % 2 ^ 64 ≡ 0 = omega arith in rw (z, m) (omega arith)
+
+-- the two words of a count that has 64 bits are read as the count
+pub count-back : (n count : ℕ) → n < 2 ^ 64 → 2 ≤ count → (ws : List ℕ) → ws ≡ numbersFor (wordsBelow 2 n) count → value (take 2 ws) ≡ n
+count-back n count h l ws e =
+    ap value
+    (ap (take 2) e
+    ∙ subst (λ (k : ℕ). take k (numbersFor (wordsBelow 2 n) count) ≡ wordsBelow 2 n) (two-words n) (take-numbersFor (wordsBelow 2 n) count (subst (λ (k : ℕ). k ≤ count) (sym (two-words n)) l)))
+    ∙ value-two n h
+
+-- a number of 64 bits and a high word 0
+pub value-low : (n : ℕ) → value (n ∷ 0 ∷ []) ≡ n
+unfolding value
+value-low n = omega arith

@@ -1,0 +1,87 @@
+-- Laws of calls that returned a refusal's number: every lent word and byte is zero. Rests on `ReturnLaws`, `ReadBackLaws` and cells' `ArrayLaws`. Assumes
+-- nothing.
+use mathlib.Core.Path.{_≡_, refl, sym, ap, _∙_, subst}
+use mathlib.Core.Bool.{Bool, true, false, cond}
+use mathlib.Core.List.{List, []}
+use Prim.Native.Nat.{ℕ, zero, suc, _/_, _%_, _<_}
+use native.Mathlib.Omega.{arith}
+use lib.Dec.{eqb}
+use lib.ListN.{length, getD, replicate}
+use Rattle.cells.specs.Arrays.{listOf}
+use Rattle.cells.specs.ArrayLaws.{listOf-ext, replicate-listOf}
+use Rattle.cells.specs.Lists.{wordsFor, wordAt}
+use Rattle.cells.specs.ListLaws.{wordAt-past}
+use Rattle.refusal.specs.Refusal.{Answer, refused, given, mapAnswer, refusalOf, valueOr}
+use Rattle.board.specs.Board.{noBoard}
+use Rattle.graph.specs.Graph.{numbersFor, edgeWord, edgesFor}
+use Rattle.exports.specs.Layout.{boardWords, byteOf, bytesFor}
+use Rattle.exports.specs.Calls.{AnswersWords}
+use Rattle.hosts.specs.ReturnLaws.{map-number}
+use Rattle.hosts.specs.ReadBackLaws.{byte-past}
+
+-- ---- words that hold nothing are zero
+
+zeros : (f : ℕ → ℕ) (n : ℕ) → ((k : ℕ) → f k ≡ 0) → listOf f n ≡ replicate n 0
+zeros f n z = listOf-ext f (λ k. 0) n (λ k h. z k) ∙ sym (replicate-listOf 0 n 0)
+
+pub no-numbers : (n : ℕ) → numbersFor [] n ≡ replicate n 0
+unfolding numbersFor
+no-numbers n = zeros (λ k. getD [] k 0) n (λ k. refl)
+
+pub no-sets : (n : ℕ) → wordsFor [] n ≡ replicate n 0
+unfolding wordsFor
+no-sets n = zeros (wordAt []) n (λ k. wordAt-past [] k (omega arith))
+
+pub no-edges : (n : ℕ) → edgesFor [] n ≡ replicate n 0
+unfolding edgesFor edgeWord
+no-edges n = zeros (edgeWord []) n (λ k. go k (eqb (k % 2) 0))
+  where
+    go : (k : ℕ) (b : Bool) → cond b (getD {A = ℕ × ℕ} [] (k / 2) (0, 0) .0) (getD {A = ℕ × ℕ} [] (k / 2) (0, 0) .1) ≡ 0
+    go k true = refl
+    go k false = refl
+
+pub no-tiles : (n : ℕ) → bytesFor [] n ≡ replicate n 0
+unfolding bytesFor
+no-tiles n = zeros (byteOf []) n (λ k. byte-past [] k (omega arith))
+
+pub zero-at : (n k : ℕ) → getD (replicate {A = ℕ} n 0) k 0 ≡ 0
+zero-at zero k = refl
+zero-at (suc n) zero = refl
+zero-at (suc n) (suc k) = zero-at n k
+
+ten-zeros : boardWords noBoard ≡ replicate 10 0
+unfolding boardWords
+ten-zeros = refl
+
+pub no-board : (n : ℕ) → numbersFor (boardWords noBoard) n ≡ replicate n 0
+unfolding numbersFor
+no-board n = ap (λ (ws : List ℕ). numbersFor ws n) ten-zeros ∙ zeros (λ k. getD (replicate 10 0) k 0) n (zero-at 10)
+
+-- ---- an answer with a refusal's number has no value
+
+module _ {A : Type 0} where
+  pub no-value : (a : Answer A) (d : A) → 0 < refusalOf a → valueOr d a ≡ d
+  unfolding refusalOf valueOr
+  no-value (refused n) d h = refl
+  no-value (given x) d h = absurd (omega arith)
+
+  pub nothing-put : {B : Type 0} (f : A → B) (a : Answer A) (d : B) → 0 < refusalOf a → valueOr d (mapAnswer f a) ≡ d
+  unfolding refusalOf valueOr mapAnswer
+  nothing-put f (refused n) d h = refl
+  nothing-put f (given x) d h = absurd (omega arith)
+
+  module _ (f : A → List ℕ) (a : Answer A) (old new : List ℕ) (r : ℕ) (told : AnswersWords (mapAnswer f a) old new r) (h : 0 < r) where
+    -- the answer was refused,
+    pub was-refused : 0 < refusalOf a
+    was-refused = subst (λ (n : ℕ). 0 < n) (told .number ∙ map-number f a) h
+
+    -- and the answer words are zero
+    pub words-zero : new ≡ replicate (length old) 0
+    words-zero = told .words ∙ ap (λ (ns : List ℕ). numbersFor ns (length old)) (nothing-put f a [] was-refused) ∙ no-numbers (length old)
+
+-- ---- what else is lent
+
+module _ {A : Type 0} (a : Answer A) (h : 0 < refusalOf a) where
+  -- what was written of a value is written of no value
+  pub none-left : {L : Type 0} (d : A) (write : A → L) {left : L} → left ≡ write (valueOr d a) → left ≡ write d
+  none-left d write e = e ∙ ap write (no-value a d h)
