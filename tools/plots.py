@@ -485,7 +485,9 @@ def stop(message):
 
 
 def build_oracle(sources, folder):
-    """Builds the oracle in a folder outside the repository; its file."""
+    """Builds the oracle in a folder outside the repository; its file. ORACLE names one that is built."""
+    if "ORACLE" in os.environ:
+        return os.environ["ORACLE"]
     build = ROOT / "tools" / "oracle" / "build.sh"
     subprocess.run([build, sources, folder], check=True, stdout=sys.stderr)
     return os.path.join(folder, "oracle")

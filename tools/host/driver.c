@@ -1,0 +1,589 @@
+/* Answers the commands of the program `replay` that stand for a call, through the library alone: orbit,
+   children, layers, graph, tilings, tiling, one, plot. The forms stand in ../README.md. Here `children`
+   takes a room too, and no room has a limit but memory.
+
+   Beside the answer, every call is held to the definitions of crates/exports/specs/Calls.antt. What is
+   lent for writing is filled before, and has to be zero behind what is written and after a refusal.
+   What is only read has to stay. Each slice stands between guards, or against a page that cannot be
+   touched. Beside a quarter of the commands the call is also made with slices of a wrong shape. `dirty`
+   behind an answer: a lent word or byte is not zero. `wrong`: anything else; standard error says what.
+
+   Lengths, fillings and wrong shapes are drawn from the text of the command, so that a command is
+   always treated in the same way. */
+#define _DEFAULT_SOURCE
+#include <inttypes.h>
+#include <stdio.h>
+#include <stdlib.h>
+#include <string.h>
+
+#include "calls.h"
+
+enum { BOARDS = 512, NODES = 1024, EDGES = 4096, LISTED = 16 }; /* the program `plot` */
+enum { MOST_CHILDREN = 2112, LONGEST = 257, MOST_TILINGS = 200 };
+
+/* ---- the fields of a command */
+
+static char *fields[12]; /* the first is the command; those behind the last are null */
+
+static void split(char *line)
+{
+    size_t number = 0;
+    memset(fields, 0, sizeof fields);
+    for (char *field = line; field != NULL; number++) {
+        char *blank = strchr(field, ' ');
+        if (number == 11)
+            stop("too many fields");
+        if (blank != NULL)
+            *blank++ = 0;
+        fields[number] = field;
+        field = blank;
+    }
+}
+
+static const char *field(size_t i)
+{
+    if (fields[i] == NULL)
+        stop("a field is missing");
+    return fields[i];
+}
+
+/* The decimal number at the front of a text, and the place behind it. */
+static uint64_t number_at(const char *text, const char **end)
+{
+    uint64_t number = 0;
+    if (*text < '0' || *text > '9')
+        stop("a number is missing");
+    for (; *text >= '0' && *text <= '9'; text++) {
+        uint64_t digit = (uint64_t)(*text - '0');
+        if (number > (UINT64_MAX - digit) / 10)
+            stop("a number of 2^64 or more");
+        number = 10 * number + digit;
+    }
+    *end = text;
+    return number;
+}
+
+static uint64_t number_in(size_t i)
+{
+    const char *end;
+    uint64_t number = number_at(field(i), &end);
+    if (*end != 0)
+        stop("not a number");
+    return number;
+}
+
+static size_t room_in(size_t i, size_t usual)
+{
+    uint64_t room = fields[i] == NULL ? usual : number_in(i);
+    if (room > UINT32_MAX)
+        stop("too large a room");
+    return (size_t)room;
+}
+
+static unsigned hex_digit(char c)
+{
+    const char *digits = "0123456789abcdef", *found = c ? strchr(digits, c) : NULL;
+    if (found == NULL)
+        stop("not a hexadecimal digit");
+    return (unsigned)(found - digits);
+}
+
+static void marks_in(size_t i, uint64_t *words)
+{
+    size_t length = strlen(field(i));
+    if (length > 64)
+        stop("too many marks");
+    memset(words, 0, 32);
+    for (size_t k = 0; k < length; k++)
+        words[k / 16] |= (uint64_t)hex_digit(fields[i][length - 1 - k]) << 4 * (k % 16);
+}
+
+/* One tile of a text: the codes behind the path may be any. Gives the place behind the text. */
+static const char *tile_at(const char *text, unsigned char *tile)
+{
+    size_t length = strcspn(text, ","), k = 0;
+    const char *end = text + length;
+    if (*text == '-')
+        length = 0;
+    tile[0] = (unsigned char)(length < 255 ? length : 255);
+    for (; k < CODES && k < length; k++)
+        tile[1 + k] = (unsigned char)(text[k] - '0');
+    int is_filled = one_in(2);
+    for (; k < CODES; k++)
+        tile[1 + k] = is_filled ? (unsigned char)draw() : 0;
+    return end;
+}
+
+static void tiles_in(size_t i, Plot *plot)
+{
+    const char *text = field(i);
+    plot->tile_bytes = 0;
+    plot->tiles = memory(NULL, TILE * (strlen(text) + 1));
+    if (strcmp(text, ".") == 0)
+        return;
+    for (;; text++) {
+        text = tile_at(text, plot->tiles + plot->tile_bytes);
+        plot->tile_bytes += TILE;
+        if (*text == 0)
+            return;
+    }
+}
+
+static void plot_in(Plot *plot)
+{
+    plot->width = number_in(1);
+    plot->height = number_in(2);
+    marks_in(3, plot->marks);
+    marks_in(4, plot->marks + 4);
+    tiles_in(5, plot);
+}
+
+/* A slice with the decimal numbers of a field, each two parted by one byte; `.` if there are none. */
+static Slice *words_in(const char *name, size_t i)
+{
+    const char *text = field(i), *end;
+    size_t number = 0;
+    uint64_t *words = memory(NULL, 8 * (strlen(text) + 1));
+    while (strcmp(text, ".") != 0) {
+        words[number++] = number_at(text, &end);
+        if (*end == 0)
+            break;
+        text = end + 1;
+    }
+    Slice *slice = hand(name, words, number, 8);
+    free(words);
+    return slice;
+}
+
+/* ---- the text of an answer */
+
+static void print_number(uint64_t number)
+{
+    printf("%" PRIu64, number);
+}
+
+static void print_marks(const uint64_t *words)
+{
+    int i = 3;
+    while (i > 0 && words[i] == 0)
+        i--;
+    printf("%" PRIx64, words[i]);
+    while (i-- > 0)
+        printf("%016" PRIx64, words[i]);
+}
+
+static void print_refusal(uint64_t refusal)
+{
+    printf("refused %" PRIu64, refusal);
+}
+
+static void print_tile(const unsigned char *tile)
+{
+    if (tile[0] == 0)
+        putchar('-');
+    for (size_t k = 0; k < tile[0] && k < CODES; k++)
+        putchar('0' + tile[1 + k] % 10);
+}
+
+/* ---- the model of the tiling by number, for graphs of the library's own */
+
+/* Every node's count is the sum of its parents'; edges lead from lower nodes to higher ones. */
+static int is_graph(const Graph *graph)
+{
+    uint64_t nodes = graph->result[0], *counts = WORDS(graph->counts), *edges = WORDS(graph->edges);
+    uint64_t *sums = memory(NULL, 8 * (size_t)nodes);
+    memset(sums, 0, 8 * (size_t)nodes);
+    int holds = nodes > 0 && counts[0] == 1 && (!graph->result[2] || graph->result[3] < nodes);
+    for (uint64_t e = 0; holds && e < graph->result[1]; e++) {
+        uint64_t parent = edges[2 * e], child = edges[2 * e + 1];
+        holds = parent < child && child < nodes && counts[parent] <= UINT64_MAX - sums[child];
+        if (holds)
+            sums[child] += counts[parent];
+    }
+    for (uint64_t node = 1; holds && node < nodes; node++)
+        holds = counts[node] == sums[node];
+    free(sums);
+    return holds;
+}
+
+static uint64_t count_of(const Graph *graph)
+{
+    return graph->result[2] ? WORDS(graph->counts)[graph->result[3]] : 0;
+}
+
+/* The list of a number below the count, backward from the full node; its length. */
+static size_t walk_back(const Graph *graph, uint64_t m, uint64_t *list)
+{
+    const uint64_t *counts = WORDS(graph->counts), *edges = WORDS(graph->edges);
+    size_t length = 1;
+    list[0] = graph->result[3];
+    while (list[length - 1] != 0 && length < LONGEST) {
+        for (uint64_t e = 0; e < graph->result[1]; e++) {
+            if (edges[2 * e + 1] != list[length - 1])
+                continue;
+            if (m < counts[edges[2 * e]]) {
+                list[length++] = edges[2 * e];
+                break;
+            }
+            m -= counts[edges[2 * e]];
+        }
+    }
+    for (size_t i = 0; i < length / 2; i++) {
+        uint64_t other = list[i];
+        list[i] = list[length - 1 - i];
+        list[length - 1 - i] = other;
+    }
+    return length;
+}
+
+/* Asks for a tiling, with an output of just its length, or of one word less, or of more. */
+static void try_number(const Graph *graph, uint64_t m)
+{
+    size_t before = used;
+    uint64_t list[LONGEST], number[2] = {m, 0}, told;
+    int is_below = m < count_of(graph);
+    size_t length = is_below ? walk_back(graph, m, list) : 0, short_by = is_below && one_in(4);
+    Slice *out = lend_words("out", length - short_by + (short_by || one_in(2) ? 0 : below(9)));
+    uint64_t refusal = tiling(graph, number, out, &told);
+    expect(refusal == (uint64_t)(!is_below ? 12 : short_by ? 8 : 0), "the refusal of a tiling");
+    if (!refusal && is_below)
+        expect(told == length && memcmp(out->at, list, 8 * length) == 0, "the list of a tiling");
+    used = before;
+}
+
+/* Tilings through the words that a graph was left in. */
+static void try_numbers(Graph *graph)
+{
+    uint64_t count = count_of(graph);
+    keep(graph->nodes);
+    keep(graph->counts);
+    keep(graph->edges);
+    try_number(graph, 0);
+    try_number(graph, count);
+    if (count > 1) {
+        try_number(graph, count - 1);
+        try_number(graph, draw() % count);
+    }
+    if (one_in(4)) {
+        try_tiling_shapes(graph, (uint64_t[2]){0, 0});
+        try_high_number(graph, 0, 1);
+    }
+}
+
+/* ---- the commands */
+
+static int has_trials(void)
+{
+    return one_in(4);
+}
+
+static void answer_orbit(void)
+{
+    unsigned char tile[TILE];
+    uint64_t number;
+    if (*tile_at(field(1), tile) != 0)
+        stop("not a path");
+    if (has_trials())
+        try_orbit_shapes(tile);
+    Slice *tiles = lend("tiles", ORBIT_BYTES + (one_in(2) ? 0 : below(70)), 1);
+    uint64_t refusal = orbit(tile, tiles, &number);
+    if (refusal)
+        print_refusal(refusal);
+    for (size_t i = 0; !refusal && i < number; i++) {
+        if (i > 0)
+            putchar(',');
+        print_tile(tiles->at + TILE * i);
+    }
+}
+
+static void answer_children(Plot *plot)
+{
+    uint64_t number;
+    Slice *out = lend_words("out", 4 * room_in(6, MOST_CHILDREN) + below(4));
+    uint64_t refusal = place_tile(plot, out, &number);
+    if (refusal)
+        print_refusal(refusal);
+    else
+        print_number(number);
+    for (size_t i = 0; i < number; i++) {
+        putchar(' ');
+        print_marks(WORDS(out) + 4 * i);
+    }
+}
+
+static void answer_layers(Plot *plot)
+{
+    uint64_t count[2];
+    uint64_t refusal = count_tilings(plot, room_in(6, BOARDS), count);
+    if (refusal)
+        print_refusal(refusal);
+    else
+        print_number(count[0]);
+}
+
+static void answer_graph(Plot *plot)
+{
+    Graph graph;
+    uint64_t refusal = generate_graph(plot, room_in(6, NODES), room_in(7, EDGES), &graph);
+    if (refusal) {
+        print_refusal(refusal);
+        return;
+    }
+    int holds = is_graph(&graph);
+    expect(holds, "the path counts of a graph");
+    print_number(holds ? count_of(&graph) : 0);
+    printf(" %" PRIu64 " %" PRIu64, graph.result[0], graph.result[1]);
+    if (graph.result[2])
+        printf(" %" PRIu64, graph.result[3]);
+    else
+        printf(" none");
+    for (size_t i = 0; i < graph.result[0]; i++) {
+        putchar(' ');
+        print_marks(WORDS(graph.nodes) + 4 * i);
+    }
+    for (size_t i = 0; i < graph.result[1]; i++)
+        printf(" %" PRIu64 ">%" PRIu64, WORDS(graph.edges)[2 * i], WORDS(graph.edges)[2 * i + 1]);
+    if (holds)
+        try_numbers(&graph);
+}
+
+/* The boards of a tiling. */
+typedef struct {
+    size_t length;
+    uint64_t boards[LONGEST][4];
+} List;
+
+/* As the oracle sorts them: by the numbers of their boards. */
+static int compare_lists(const void *one, const void *other)
+{
+    const List *a = one, *b = other;
+    for (size_t i = 0; i < a->length && i < b->length; i++)
+        for (int k = 3; k >= 0; k--)
+            if (a->boards[i][k] != b->boards[i][k])
+                return a->boards[i][k] < b->boards[i][k] ? -1 : 1;
+    return a->length < b->length ? -1 : a->length > b->length;
+}
+
+static void list_tiling(const Graph *graph, uint64_t m, List *list)
+{
+    size_t before = used;
+    uint64_t number[2] = {m, 0}, length;
+    Slice *out = lend_words("out", LONGEST + below(3));
+    uint64_t refusal = tiling(graph, number, out, &length);
+    expect(!refusal && length <= LONGEST, "a tiling below the count");
+    list->length = length <= LONGEST ? (size_t)length : 0;
+    for (size_t i = 0; i < list->length; i++) {
+        if (WORDS(out)[i] >= graph->result[0])
+            stop("a list has a node that is none");
+        memcpy(list->boards[i], WORDS(graph->nodes) + 4 * WORDS(out)[i], 32);
+    }
+    used = before;
+}
+
+static void answer_tilings(Plot *plot)
+{
+    static List lists[MOST_TILINGS];
+    Graph graph;
+    uint64_t refusal = generate_graph(plot, NODES, EDGES, &graph);
+    if (refusal) {
+        print_refusal(refusal);
+        return;
+    }
+    expect(is_graph(&graph), "the path counts of a graph");
+    uint64_t count = count_of(&graph);
+    if (count > MOST_TILINGS) {
+        printf("large");
+        return;
+    }
+    try_numbers(&graph);
+    for (size_t m = 0; m < count; m++)
+        list_tiling(&graph, m, &lists[m]);
+    qsort(lists, (size_t)count, sizeof lists[0], compare_lists);
+    print_number(count);
+    for (size_t m = 0; m < count; m++)
+        for (size_t i = 0; i < lists[m].length; i++) {
+            putchar(i == 0 ? ' ' : ',');
+            print_marks(lists[m].boards[i]);
+        }
+}
+
+static void answer_tiling(void)
+{
+    Graph graph;
+    uint64_t length, number[2] = {number_in(7), 0};
+    int has_full = strcmp(field(3), "none") != 0;
+    graph.result[0] = number_in(1);
+    graph.result[1] = number_in(2);
+    graph.result[2] = (uint64_t)has_full;
+    graph.result[3] = has_full ? number_in(3) : one_in(2) ? 0 : draw();
+    graph.nodes = lend_words("nodes", room_in(4, 0));
+    keep(graph.nodes);
+    graph.counts = words_in("counts", 5);
+    graph.edges = words_in("edges", 6);
+    Slice *out = lend_words("out", room_in(8, 0));
+    uint64_t refusal = tiling(&graph, number, out, &length);
+    if (refusal)
+        print_refusal(refusal);
+    else
+        print_number(length);
+    for (size_t i = 0; i < length; i++)
+        printf(" %" PRIu64, WORDS(out)[i]);
+    keep(out);
+    if (has_trials())
+        try_tiling_shapes(&graph, number);
+    if (has_trials())
+        try_high_number(&graph, number[0], refusal != 11);
+}
+
+static int is_full(const Plot *plot, const uint64_t *marks)
+{
+    for (size_t row = 0; row < plot->height; row++)
+        for (size_t column = 0; column < plot->width; column++) {
+            size_t bit = 16 * row + column;
+            if (!(marks[bit / 64] >> bit % 64 & 1))
+                return 0;
+        }
+    return 1;
+}
+
+/* Two boards or more, the first of them the plot's, each other one a child of the one before, the last
+   full. */
+static int is_tiling(const Plot *plot, const uint64_t *boards, size_t number)
+{
+    size_t before = used;
+    Plot parent = *plot;
+    for (size_t k = 0; k < 4; k++)
+        if (number < 2 || boards[k] != (plot->marks[k] | plot->marks[4 + k]))
+            return 0;
+    for (size_t i = 1; i < number; i++) {
+        uint64_t children, found = 0;
+        Slice *out = lend_words("out", 4 * MOST_CHILDREN);
+        for (size_t k = 0; k < 4; k++)
+            parent.marks[4 + k] = boards[4 * (i - 1) + k] & ~plot->marks[k];
+        if (place_tile(&parent, out, &children) != 0)
+            return 0;
+        while (found < children && memcmp(WORDS(out) + 4 * found, boards + 4 * i, 32) != 0)
+            found++;
+        used = before;
+        if (found == children)
+            return 0;
+    }
+    return is_full(plot, boards + 4 * (number - 1));
+}
+
+static void answer_one(Plot *plot)
+{
+    uint64_t number;
+    Slice *out = lend_words("out", 4 * room_in(6, LONGEST) + below(4));
+    uint64_t refusal = single_tiling(plot, out, &number);
+    if (refusal)
+        print_refusal(refusal);
+    else
+        printf(number ? "found" : "none");
+    keep(out);
+    if (number)
+        expect(is_tiling(plot, WORDS(out), (size_t)number), "one tiling");
+}
+
+/* The lines of the program `plot`, with a bar behind each. */
+static void answer_plot(void)
+{
+    const char *text = field(1);
+    size_t number = strlen(text) / 2, free_cells = 0;
+    unsigned char *bytes = memory(NULL, number);
+    unsigned char tiles[PLOT_BYTES];
+    uint64_t count[2];
+    Plot plot = {.tiles = tiles};
+    Graph graph;
+    for (size_t i = 0; i < number; i++)
+        bytes[i] = (unsigned char)(16 * hex_digit(text[2 * i]) + hex_digit(text[2 * i + 1]));
+    if (has_trials())
+        try_file_shapes(bytes, number);
+    uint64_t refusal = read_plot(bytes, number, &plot);
+    free(bytes);
+    if (refusal) {
+        printf("refused %" PRIu64 "|", refusal);
+        return;
+    }
+    for (size_t row = 0; row < plot.height && row < 16; row++)
+        for (size_t column = 0; column < plot.width && column < 16; column++)
+            free_cells += !(plot.marks[row / 4] >> (16 * (row % 4) + column) & 1);
+    printf("board %" PRIu64 " %" PRIu64 " free %zu|", plot.width, plot.height, free_cells);
+    printf("tiles %zu|", plot.tile_bytes / TILE);
+    refusal = count_tilings(&plot, BOARDS, count);
+    if (refusal)
+        printf("layers refused %" PRIu64 "|", refusal);
+    else
+        printf("layers %" PRIu64 "|", count[0]);
+    refusal = generate_graph(&plot, NODES, EDGES, &graph);
+    if (refusal) {
+        printf("graph refused %" PRIu64 "|", refusal);
+        return;
+    }
+    expect(is_graph(&graph), "the path counts of a graph");
+    printf("graph %" PRIu64 " nodes %" PRIu64, count_of(&graph), graph.result[0]);
+    printf(" edges %" PRIu64 "|", graph.result[1]);
+    keep(graph.nodes);
+    keep(graph.counts);
+    keep(graph.edges);
+    Slice *out = lend_words("out", LONGEST);
+    for (uint64_t m = 0; m < LISTED && m < count_of(&graph); m++) {
+        uint64_t length, m_words[2] = {m, 0};
+        memset(out->at, out->filling, out->bytes);
+        expect(tiling(&graph, m_words, out, &length) == 0, "a tiling below the count");
+        printf("tiling %" PRIu64 ":", m);
+        for (size_t i = 0; i < length; i++)
+            printf(" %" PRIu64, WORDS(out)[i]);
+        putchar('|');
+    }
+}
+
+/* The commands on a board and tiles, in the order of the calls above. */
+static void answer_with_tiles(int call)
+{
+    static void (*const answers[])(Plot *) = {answer_children, answer_layers, answer_graph, answer_one,
+                                              answer_tilings};
+    Plot plot;
+    plot_in(&plot);
+    if (has_trials())
+        try_plot_shapes(&plot, call == 4 ? GENERATE_GRAPH : call);
+    answers[call](&plot);
+    free(plot.tiles);
+}
+
+static void answer(char *line)
+{
+    static const char *const names[] = {"children", "layers", "graph", "one", "tilings"};
+    int call = 0;
+    start_draws(line);
+    split(line);
+    used = 0;
+    is_dirty = is_wrong = 0;
+    while (call < 5 && strcmp(fields[0], names[call]) != 0)
+        call++;
+    if (call < 5)
+        answer_with_tiles(call);
+    else if (strcmp(fields[0], "orbit") == 0)
+        answer_orbit();
+    else if (strcmp(fields[0], "tiling") == 0)
+        answer_tiling();
+    else if (strcmp(fields[0], "plot") == 0)
+        answer_plot();
+    else
+        printf("unknown command");
+    printf("%s%s\n", is_dirty ? " dirty" : "", is_wrong ? " wrong" : "");
+}
+
+int main(void)
+{
+    char *line = NULL;
+    size_t size = 0;
+    ssize_t length;
+    while ((length = getline(&line, &size, stdin)) > 0) {
+        if (line[length - 1] == '\n')
+            line[length - 1] = 0;
+        answer(line);
+    }
+    free(line);
+    return 0;
+}
