@@ -1,4 +1,11 @@
-"""Plot files for the commands `plot`: how they are written, and random ones.
+#!/usr/bin/env python3
+"""Plot files: how they are written, and random ones for the commands `plot`.
+
+    plotfiles.py WORDS > FILE
+
+writes the plot file of some words: a board, `RB WIDTH HEIGHT`, `LB N SCALE` or `TB N SCALE`; then tiles, `TI PATH` or `OR PATH`, a PATH
+being codes 0 to 7 in one word and `-` for the empty one, or `pairs`, `threes` or `fours` for the orbits of all edge-joined pieces of so many
+cells. `plotfiles.py RB 8 8 pairs > my.plot` writes 8 by 8 in pairs. Sizes are not judged here: the program tells its refusals.
 
 Nothing here answers a command. Files that come with what 01 has for them stand in filecases.py.
 """
@@ -11,6 +18,7 @@ import plots
 BOARDS = ("RB", "LB", "TB")
 TILES = ("TI", "OR")
 EN = b"EN"
+PIECES = {"pairs": "OR 3", "threes": "OR 33 OR 30", "fours": "OR 333 OR 330 OR 303 OR 306 OR 302"}
 
 
 def board(mark, a, b):
@@ -197,3 +205,18 @@ def some_file(draws):
         again = draws.one_of([cut, with_byte_changed, with_byte_inserted])
         return "damaged twice", again(draws, [file])
     return name, file
+
+
+def main(arguments):
+    words = " ".join(PIECES.get(word, word) for word in arguments)
+    try:
+        file = whole(words)
+    except (IndexError, ValueError):
+        sys.exit(__doc__)
+    if not file.startswith(tuple(mark.encode() for mark in BOARDS)):
+        sys.exit(__doc__)
+    sys.stdout.buffer.write(file)
+
+
+if __name__ == "__main__":
+    main(sys.argv[1:])
