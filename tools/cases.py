@@ -10,7 +10,7 @@ sys.dont_write_bytecode = True
 import plots
 from plots import MOST_CODES, MOST_TILES
 
-MOST_TILINGS = 200  # that the program replay answers
+MOST_TILINGS = 200  # that the program replay_counts answers
 MOST_SEQUENCES = 50_000  # with more the Rust is slow to list its tilings
 
 

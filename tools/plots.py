@@ -468,7 +468,7 @@ def weights_of(ask, plots, most=20_000):
     return [Weight(answer) if " " in answer else None for answer in answers]
 
 
-# What the program replay lends where a command doesn't say: boards a layer; nodes and edges.
+# What the program replay_counts lends where a command doesn't say: boards a layer; nodes and edges.
 USUAL_ROOMS = {"layers": ["512"], "graph": ["1024", "4096"]}
 
 

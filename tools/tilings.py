@@ -38,7 +38,7 @@ class Case:
         return dataclasses.replace(self, **changes)
 
     def check(self):
-        """Stops if the program replay can't lend so many words, or a number is no word."""
+        """Stops if the program replay_counts can't lend so many words, or a number is no word."""
         lent = self.node_words <= 4096 and max(len(self.counts), self.out) <= 1024
         words = [self.nodes, self.edges, self.full or 0, *self.counts, *self.edge_words, self.m]
         if not lent or len(self.edge_words) > 2048 or not 0 <= min(words) <= max(words) <= LARGEST:
@@ -119,7 +119,7 @@ def refusal_or_list(case):
 
 
 def answer(case):
-    """The answer that the program replay has to give."""
+    """The answer that the program replay_counts has to give."""
     found = refusal_or_list(case)
     if isinstance(found, int):
         return f"refused {found}"

@@ -1,7 +1,7 @@
--- What `new`, `l_board` and `t_board` hand back. Rests on `Board` and `BoardLaws`. Assumes nothing.
+-- What `new`, `l_board`, `t_board`, `with_marks` and `mark_tile_at_position` hand back. Rests on `Board` and on the laws of sizes. Assumes nothing.
+use Prim.Native.Nat.{ℕ, _+_, _-_, _*_, _≤_, _<_}
 use mathlib.Core.Path.{_≡_, refl, sym, ap, ap₂, _∙_}
 use mathlib.Core.Bool.{true, false}
-use Prim.Native.Nat.{ℕ, _+_, _*_, _≤_, _<_}
 use native.Mathlib.Nat.{mul-zero, mul-le-mul, le-mul-of-pos-right}
 use native.Mathlib.Omega.{arith}
 use Rattle.cells.specs.declared.Cells.{Cells}
@@ -9,11 +9,11 @@ use Rattle.cells.specs.Set.{setOf, unionOf}
 use Rattle.cells.specs.Words.{number}
 use Rattle.refusal.specs.declared.Verdict.the-variants as Verdicts
 use Rattle.refusal.specs.Refusal.{Answer, refused, refusalOf, valueOr, verdictNumber}
+use Rattle.rectangle.specs.Board.{boardAt, Board, noBoard, sizeOk, lay}
+use Rattle.rectangle.specs.BoardLaws.{sizeOk-wide, sizeOk-high}
+use Rattle.board.specs.Board.{ofMarks, boardOf, shapeMark, shaped, lBoard, tBoard, MakesBoard}
 use Rattle.board.specs.declared.RectangularBoard.{RectangularBoard}
 use Rattle.board.specs.declared.MadeBoard.{MadeBoard}
-use Rattle.board.specs.Board.{Board, boardOf, noBoard, sizeOk, shapeMark, shaped, lBoard, tBoard, MakesBoard}
-use Rattle.board.specs.Children.{lay}
-use Rattle.board.specs.BoardLaws.{sizeOk-wide, sizeOk-high}
 
 -- ---- one shape
 
@@ -22,12 +22,12 @@ module _ (w h rows low high : ℕ) where
   unfolding shaped
   shaped-refused e = rw e
 
-  pub makes-shaped : sizeOk w h ≡ true → (f l : Cells) → number f ≡ setOf (shapeMark w h rows low high) → number l ≡ 0 → MakesBoard (shaped w h rows low high) (record { verdict = Verdicts.Accepted; board = record { width = w; height = h; fixed = f; laid = l } })
+  pub makes-shaped : sizeOk w h ≡ true → (f l : Cells) → number f ≡ setOf (shapeMark w h rows low high) → number l ≡ 0 → (x : RectangularBoard) → x ≡ ofMarks w h f l → MakesBoard (shaped w h rows low high) (record { verdict = Verdicts.Accepted; board = x })
   unfolding shaped refusalOf valueOr
-  makes-shaped e f l p q =
+  makes-shaped e f l p q x s =
       record {
         verdict = rw e;
-        board = rw e (λ i. record { width = w; height = h; fixed = p i; laid = q i });
+        board = ap boardOf s ∙ rw e (λ i. record { width = w; height = h; fixed = p i; laid = q i });
       }
 
 pub makes-refused : (a : Answer Board) (r : MadeBoard) → a ≡ refused 4 → (boardOf (r .board) ≡ noBoard) × (verdictNumber (r .verdict) ≡ 4) → MakesBoard a r
@@ -35,14 +35,19 @@ unfolding refusalOf valueOr
 makes-refused a r e h = record { verdict = rw e (h .1); board = rw e (h .0) }
 
 -- the board with no cell, by its parts
-pub no-board : (f l : Cells) → number f ≡ 0 → number l ≡ 0 → boardOf (record { width = 0; height = 0; fixed = f; laid = l }) ≡ noBoard
-no-board f l p q = λ i. record { width = 0; height = 0; fixed = p i; laid = q i }
+pub no-board : (f l : Cells) → number f ≡ 0 → number l ≡ 0 → (x : RectangularBoard) → x ≡ ofMarks 0 0 f l → boardOf x ≡ noBoard
+no-board f l p q x s = ap boardOf s ∙ (λ i. record { width = 0; height = 0; fixed = p i; laid = q i })
 
 -- a board with a piece laid, by its parts
 pub lay-parts : (b : RectangularBoard) (piece : ℕ) (s t : Cells) → number s ≡ piece → number t ≡ unionOf (number (b .laid)) (number s) → boardOf (record { width = b .width; height = b .height; fixed = b .fixed; laid = t }) ≡ lay (boardOf b) piece
 unfolding lay
 lay-parts b piece s t p q =
     λ i. record { width = b .width; height = b .height; fixed = number (b .fixed); laid = (q ∙ ap (unionOf (number (b .laid))) p) i }
+
+-- the board of some marks, by its parts
+pub with-parts : (b : RectangularBoard) (n : ℕ) (t : Cells) (x : RectangularBoard) → x ≡ ofMarks (b .width) (b .height) (b .fixed) t → number t ≡ n - number (b .fixed) → boardOf x ≡ boardAt (boardOf b) n
+with-parts b n t x s q =
+    ap boardOf s ∙ (λ i. record { width = b .width; height = b .height; fixed = number (b .fixed); laid = q i })
 
 -- ---- L and T
 

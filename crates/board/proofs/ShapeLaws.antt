@@ -1,43 +1,20 @@
--- What the tests and loops of `shape` come to: sizes, the marks of a shape, the test of a board and the count of its free cells.
--- Rests on `BoardLaws`. Assumes nothing.
+-- What the tests and loops of `shape` come to: the marks of a shape, the test of a board and the count of its free cells.
+-- Rests on the laws of boards. Assumes nothing.
 use mathlib.Core.Path.{_≡_, refl, sym, ap, _∙_}
 use mathlib.Core.Bool.{Bool, true, false, cond, or-true, or-false}
 use Prim.Native.Nat.{ℕ, _+_, _*_, _/_, _%_, _^_, _≤_, _<_}
 use native.Mathlib.Nat.{zero-mul, add-zero}
 use native.Mathlib.Numerals.{add-one}
 use native.Mathlib.Omega.{arith}
-use borrow.Author.Tests.{lt-ltb, le-ltb, le-leb, ne-eqb}
-use lib.Dec.{eqb, ltb, leb}
+use borrow.Author.Tests.{lt-ltb, le-ltb}
+use lib.Dec.{leb}
 use Rattle.cells.specs.Set.{hasCell, fromBits, setOf, withCell, sizeBelow, size}
 use Rattle.cells.specs.Arrays.{allBelow}
 use Rattle.cells.specs.BitLaws.{bit-high, bit-fromBits, fromBits-lt}
-use Rattle.board.specs.Board.{Board, positionOf, inside, below, isMarked, freeAt, isFree, freeSet, freeCount, sizeOk, markOk, valid, shapeMark}
-use Rattle.board.specs.BoardLaws.{cellOf-positionOf, digit}
-
--- ---- sizes
-
-pub sizeOk-none : (w h : ℕ) → w ≡ 0 → eqb h 0 ≡ sizeOk w h
-unfolding sizeOk
-sizeOk-none w h e = rw e (sym (or-false (eqb h 0)))
-
-pub sizeOk-flat : (w h : ℕ) → (w ≡ 0 → ⊥) → w ≤ 16 → h ≡ 0 → false ≡ sizeOk w h
-unfolding sizeOk
-sizeOk-flat w h n l e = rw (e, ne-eqb w 0 n, lt-ltb 0 w (omega arith), le-leb w 16 l)
-
-pub sizeOk-last : (w h : ℕ) → (w ≡ 0 → ⊥) → w ≤ 16 → (h ≡ 0 → ⊥) → leb h 16 ≡ sizeOk w h
-unfolding sizeOk
-sizeOk-last w h n l m = rw (ne-eqb w 0 n, lt-ltb 0 w (omega arith), le-leb w 16 l, lt-ltb 0 h (omega arith))
-
--- ---- cells in the rectangle
-
-module _ (w h cell : ℕ) where
-  pub inside-below : h ≤ cell / 16 → false ≡ inside w h (positionOf cell)
-  unfolding inside below
-  inside-below l = rw (le-ltb (cell / 16) h l)
-
-  pub inside-column : cell / 16 < h → ltb (cell % 16) w ≡ inside w h (positionOf cell)
-  unfolding inside below
-  inside-column l = rw (lt-ltb (cell / 16) h l)
+use Rattle.cells.specs.SetLaws.{digit}
+use Rattle.rectangle.specs.Board.{Board, positionOf, inside, isMarked, freeAt, isFree, freeSet, freeCount, sizeOk, markOk, valid}
+use Rattle.rectangle.specs.BoardLaws.{cellOf-positionOf}
+use Rattle.board.specs.Board.{shapeMark}
 
 -- ---- the marks of a shape
 
@@ -104,13 +81,13 @@ module _ (b : Board) (cell : ℕ) where
 -- ---- the whole test
 
 module _ (b : Board) where
-  pub valid-size : sizeOk (b .width) (b .height) ≡ false → false ≡ valid b
+  pub refused-size : sizeOk (b .width) (b .height) ≡ false → false ≡ valid b
   unfolding valid
-  valid-size e = rw e
+  refused-size e = rw e
 
-  pub valid-marks : sizeOk (b .width) (b .height) ≡ true → allBelow (markOk b) 256 ≡ valid b
+  pub accepted-marks : sizeOk (b .width) (b .height) ≡ true → allBelow (markOk b) 256 ≡ valid b
   unfolding valid
-  valid-marks e = rw e
+  accepted-marks e = rw e
 
 pub allBelow-end : (p : ℕ → Bool) (i : ℕ) → allBelow p i ≡ true → i ≤ 256 → 256 ≤ i → true ≡ allBelow p 256
 allBelow-end p i e l k = let q : i ≡ 256 = omega arith in sym e ∙ ap (allBelow p) q

@@ -1,39 +1,15 @@
-// Sizes, the fixed marks of a shape, and the test of a board, cell by cell. Private helpers.
+// The fixed marks of a shape, the test of a board and the count of its free cells, cell by cell, and a set
+// without the cells of another. Private helpers; the last asks that the one set is within the other.
 use crate::RectangularBoard;
 use cells::Cells;
 ghost use mathlib.Core.Path.{_≡_};
 ghost use mathlib.Core.Bool.{cond};
-ghost use Prim.Native.Nat.{_≤_};
-ghost use Rattle.cells.specs.Set.{setOf, withCell};
+ghost use Prim.Native.Nat.{_-_, _≤_};
+ghost use Rattle.cells.specs.Set.{setOf, withCell, Within};
 ghost use Rattle.cells.specs.Words.{number};
 ghost use Rattle.cells.specs.Arrays.{allBelow};
-ghost use Rattle.board.specs.Board.{boardOf, positionOf, inside, isFree, freeCount, sizeOk, markOk, valid, shapeMark};
-
-// Whether width and height are each 1 to 16, or both 0.
-pub fn size_ok(width: usize, height: usize) -> bool
-    ensures { λ r. ⌜ r ≡ sizeOk width height ⌝ }
-{
-    if width == 0 {
-        return height == 0;
-    }
-    if 16 < width {
-        return false;
-    }
-    if height == 0 {
-        return false;
-    }
-    height <= 16
-}
-
-// Whether a cell is in the rectangle.
-pub fn is_inside(width: usize, height: usize, cell: usize) -> bool
-    ensures { λ r. ⌜ r ≡ inside width height (positionOf cell) ⌝ }
-{
-    if height <= cell / 16 {
-        return false;
-    }
-    cell % 16 < width
-}
+ghost use Rattle.rectangle.specs.Board.{isFree, freeCount, markOk, valid};
+ghost use Rattle.board.specs.Board.{boardOf, shapeMark};
 
 // Whether a cell of the rectangle is in the first rows, and in a column below one or from another
 // on.
@@ -47,7 +23,7 @@ fn is_shape_mark(
 ) -> bool
     ensures { λ r. ⌜ r ≡ shapeMark width height rows low high cell ⌝ }
 {
-    if !is_inside(width, height, cell) {
+    if !rectangle::is_inside(width, height, cell) {
         return false;
     }
     if rows <= cell / 16 {
@@ -92,7 +68,7 @@ fn mark_ok(board: RectangularBoard, cell: usize) -> bool
 {
     let fixed = board.fixed;
     let laid = board.laid;
-    let inside = is_inside(board.width, board.height, cell);
+    let inside = rectangle::is_inside(board.width, board.height, cell);
     if fixed.has_cell(cell) {
         if laid.has_cell(cell) {
             return false;
@@ -123,7 +99,7 @@ fn marks_ok(board: RectangularBoard) -> bool
 pub fn is_ok(board: RectangularBoard) -> bool
     ensures { λ r. ⌜ r ≡ valid (boardOf board) ⌝ }
 {
-    if !size_ok(board.width, board.height) {
+    if !rectangle::size_ok(board.width, board.height) {
         return false;
     }
     marks_ok(board)
@@ -135,7 +111,7 @@ fn free_mark(board: RectangularBoard, cell: usize) -> usize
 {
     let fixed = board.fixed;
     let laid = board.laid;
-    if !is_inside(board.width, board.height, cell) {
+    if !rectangle::is_inside(board.width, board.height, cell) {
         return 0;
     }
     if fixed.has_cell(cell) {
@@ -158,4 +134,17 @@ pub fn free_count(board: RectangularBoard) -> usize
         cell += 1;
     }
     n
+}
+
+// A set without the cells of a set within it, word by word.
+pub fn without(set: Cells, part: Cells) -> Cells
+    requires { ⌜ Within (number part) (number set) ⌝ }
+    ensures { λ r. ⌜ number r ≡ number set - number part ⌝ }
+{
+    Cells {
+        w0: set.w0 - part.w0,
+        w1: set.w1 - part.w1,
+        w2: set.w2 - part.w2,
+        w3: set.w3 - part.w3,
+    }
 }

@@ -1,40 +1,21 @@
 -- What the loops and stores over lists of sets in lent words come to: the search, the four stores of one set, and the clearing. Rests on
 -- `ListLaws` and `ArrayLaws`. Assumes nothing.
 use mathlib.Core.Path.{_≡_, refl, sym, ap, _∙_}
-use mathlib.Core.Bool.{Bool, true, false, cond}
+use mathlib.Core.Bool.{Bool, cond}
 use mathlib.Core.List.{List}
-use Prim.Native.Nat.{ℕ, suc, _+_, _*_, _/_, _≤_, _<_, min}
-use native.Mathlib.Decide.{ℕ-discrete}
+use Prim.Native.Nat.{ℕ, suc, _+_, _*_, _/_, _≤_, _<_}
 use native.Mathlib.Omega.{arith}
 use borrow.Author.Tests.{lt-ltb, le-ltb}
 use lib.Dec.{eqb, ltb}
 use lib.ListN.{length, getD, set}
 use Rattle.cells.specs.declared.Cells.{Cells}
 use Rattle.cells.specs.Words.{number, Sound}
-use Rattle.cells.specs.Firsts.{holds}
-use Rattle.cells.specs.Lists.{setAt, setsIn, withSet, clearedFrom}
+use Rattle.cells.specs.Lists.{setAt, withSet, clearedFrom}
 use Rattle.cells.specs.WordLaws.{wordsOf-number}
-use Rattle.cells.specs.ArrayLaws.{Filled, filled-start, filled-end, any-listOf, none-listOf}
+use Rattle.cells.specs.ArrayLaws.{Filled, filled-start, filled-end}
 use Rattle.cells.specs.ListLaws.{withSet-lent}
 
--- ---- the search for a set among the first n
-
-module _ (ws : List ℕ) (n x : ℕ) where
-  pub holds-found : (i : ℕ) → i < n → i < length ws / 4 → eqb (setAt ws i) x ≡ true → true ≡ holds eqb (setsIn ws n) x
-  unfolding holds setsIn
-  holds-found i h k e = sym (any-listOf (λ y. eqb y x) (setAt ws) (min n (length ws / 4)) i (omega arith) e)
-
-  pub holds-missed : (m : ℕ) → min n (length ws / 4) ≤ m → ((i : ℕ) → i < m → eqb (setAt ws i) x ≡ false) → false ≡ holds eqb (setsIn ws n) x
-  unfolding holds setsIn
-  holds-missed m l h = sym (none-listOf (λ y. eqb y x) (setAt ws) (min n (length ws / 4)) (λ i k. h i (omega arith)))
-
--- one set more was not it
-pub missed-more : (ws : List ℕ) (x i : ℕ) → ((k : ℕ) → k < i → eqb (setAt ws k) x ≡ false) → eqb (setAt ws i) x ≡ false → (k : ℕ) → k < i + 1 → eqb (setAt ws k) x ≡ false
-missed-more ws x i h e k l = go (ℕ-discrete k i)
-  where
-    go : Dec (k ≡ i) → eqb (setAt ws k) x ≡ false
-    go (yes q) = ap (λ (j : ℕ). eqb (setAt ws j) x) q ∙ e
-    go (no q) = h k (omega arith)
+-- ---- the search for a set
 
 -- what a look at one set tells
 pub looked-at : (ws : List ℕ) (i x s : ℕ) (t b : Bool) → s ≡ setAt ws i → t ≡ eqb s x → t ≡ b → eqb (setAt ws i) x ≡ b

@@ -13,6 +13,12 @@ use lib.Seq.{ext-getD, getD-set-same, getD-set-other}
 use Rattle.cells.specs.Firsts.{any}
 use Rattle.cells.specs.Arrays.{listFrom, listOf, allBelow}
 
+-- within a list the default makes no difference
+pub getD-any : {A : Type 0} (l : List A) (k : ℕ) (d e : A) → k < length l → getD l k d ≡ getD l k e
+getD-any [] k d e h = absurd (omega arith)
+getD-any (x ∷ l) zero d e h = refl
+getD-any (x ∷ l) (suc k) d e h = getD-any l k d e (omega arith)
+
 -- a list with one more: every other place is as it was
 pub getD-snoc : {A : Type 0} (xs : List A) (x d : A) (k : ℕ) → (k ≡ length xs → ⊥) → getD (xs ++ x ∷ []) k d ≡ getD xs k d
 getD-snoc xs x d k n = go (decLt k (length xs))

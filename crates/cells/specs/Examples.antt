@@ -2,12 +2,13 @@
 use mathlib.Core.Path.{_≡_, refl}
 use mathlib.Core.Bool.{true, false}
 use mathlib.Core.List.{[], _∷_}
+use mathlib.Core.Option.{none, some}
 use Prim.Native.Nat.{_+_, _^_}
 use lib.Dec.{eqb}
 use Rattle.cells.specs.Set.{hasCell, withCell, unionOf, sharesCell, size}
 use Rattle.cells.specs.Words.{value, wordsOf}
 use Rattle.cells.specs.Firsts.{firsts}
-use Rattle.cells.specs.Lists.{setAt, setsIn, withSet, clearedFrom, wordsFor, storedIn}
+use Rattle.cells.specs.Lists.{setAt, setsIn, findSet, withSet, clearedFrom, wordsFor, storedIn}
 
 -- the cell in row 1, column 1 is number 17; a cell that is there is not added again; 256 is no cell
 seventeen : withCell 5 17 ≡ 131077
@@ -74,3 +75,11 @@ lists-written = (refl, refl, refl)
 lists-stored : (storedIn (3 ∷ []) (9 ∷ 9 ∷ 9 ∷ 9 ∷ 9 ∷ []) ≡ 3 ∷ 0 ∷ 0 ∷ 0 ∷ 9 ∷ []) × (wordsFor (3 ∷ []) 5 ≡ 3 ∷ 0 ∷ 0 ∷ 0 ∷ 0 ∷ [])
 unfolding storedIn wordsFor
 lists-stored = (refl, refl)
+
+-- the sets 3, 5, 3: the first equal one; from 1 on; up to 2; and as many as are lent
+found : (findSet (3 ∷ 0 ∷ 0 ∷ 0 ∷ 5 ∷ 0 ∷ 0 ∷ 0 ∷ 3 ∷ 0 ∷ 0 ∷ 0 ∷ []) 0 3 3 ≡ some 0)
+    × (findSet (3 ∷ 0 ∷ 0 ∷ 0 ∷ 5 ∷ 0 ∷ 0 ∷ 0 ∷ 3 ∷ 0 ∷ 0 ∷ 0 ∷ []) 1 9 3 ≡ some 2)
+    × (findSet (3 ∷ 0 ∷ 0 ∷ 0 ∷ 5 ∷ 0 ∷ 0 ∷ 0 ∷ 3 ∷ 0 ∷ 0 ∷ 0 ∷ []) 1 2 3 ≡ none)
+    × (findSet (3 ∷ 0 ∷ 0 ∷ 0 ∷ 5 ∷ 0 ∷ 0 ∷ 0 ∷ 3 ∷ 0 ∷ 0 ∷ 0 ∷ []) 0 9 0 ≡ none)
+unfolding findSet
+found = (refl, refl, refl, refl)

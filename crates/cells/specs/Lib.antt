@@ -11,5 +11,6 @@ pub mod WordLaws
 pub mod FirstsLaws
 pub mod ArrayLaws
 pub mod ListLaws
+pub mod SearchLaws
 pub mod MemberLaws
 pub mod Examples

@@ -1,10 +1,13 @@
 -- Definitions: lists of sets in lent words, four words a set (01: "A board in an output, layer or node is four words"). Assumes nothing.
-use mathlib.Core.Bool.{cond}
+use mathlib.Core.Bool.{Bool, cond}
 use mathlib.Core.List.{List, [], _∷_}
-use Prim.Native.Nat.{ℕ, _+_, _*_, _/_, _%_, min}
-use lib.Dec.{ltb}
+use mathlib.Core.Option.{Option, none, some}
+use Prim.Native.Nat.{ℕ, zero, suc, _+_, _-_, _*_, _/_, _%_, min}
+use lib.Dec.{eqb, ltb}
 use lib.ListN.{length, getD}
 use lib.Seq.{sets}
+use Rattle.cells.specs.declared.list.Found.{Found}
+use Rattle.cells.specs.declared.list.Found.the-variants as F
 use Rattle.cells.specs.Words.{value, wordsOf}
 use Rattle.cells.specs.Arrays.{listOf}
 
@@ -18,6 +21,21 @@ setAt ws i =
 unfoldable pub setsIn : List ℕ → ℕ → List ℕ
 unfolding setAt listOf
 setsIn ws n = listOf (setAt ws) (min n (length ws / 4))
+
+-- the first of count places from i on of which a test holds
+unfoldable pub firstFrom : (ℕ → Bool) → ℕ → ℕ → Option ℕ
+firstFrom test i zero = none
+firstFrom test i (suc count) = cond (test i) (some i) (firstFrom test (suc i) count)
+
+-- the first set equal to n among the sets from..to, or among as many of them as are lent (01: "lent slices searched for an equal board")
+unfoldable pub findSet : List ℕ → ℕ → ℕ → ℕ → Option ℕ
+unfolding firstFrom setAt
+findSet ws from to n = firstFrom (λ i. eqb (setAt ws i) n) from (min to (length ws / 4) - from)
+
+-- what `list::find` answers
+abbrev pub foundAnswer : Found → Option ℕ
+foundAnswer (F.At i) = some i
+foundAnswer F.Nothing = none
 
 -- the words with n for set i; as they were where its four words are not all lent
 unfoldable pub withSet : List ℕ → ℕ → ℕ → List ℕ

@@ -1,4 +1,4 @@
--- Laws of sets of cells: a set within another; the bits and the size of a set with one cell more, of a union and of an intersection; when two
+-- Laws of sets of cells: membership; the set of a test; a set within another; the bits and the size of a set with one cell more, of a union and of an intersection; when two
 -- sets share a cell; how many cells a set has. Rests on `BitLaws`. Assumes nothing.
 use mathlib.Core.Path.{_≡_, refl, sym, ap, _∙_, subst}
 use mathlib.Core.Logic.{_≢_, _↔_}
@@ -7,11 +7,11 @@ use Prim.Native.Nat.{ℕ, zero, suc, _+_, _-_, _*_, _/_, _%_, _^_, _≤_, _<_, z
 use native.Mathlib.Nat.{one-mul, zero-mul, add-zero}
 use native.Mathlib.Decide.{ℕ-discrete, decLt}
 use native.Mathlib.Omega.{arith}
-use borrow.Author.Tests.{lt-ltb, le-ltb, eq-eqb, ne-eqb, eqb-true, not-false}
+use borrow.Author.Tests.{lt-ltb, le-ltb, eq-eqb, ne-eqb, eqb-true, eqb-false, not-false}
 use lib.Dec.{eqb, ltb}
 use lib.Pow.{pow-pos, pow-lt}
 use lib.Count.{ones, ones-step}
-use Rattle.cells.specs.Set.{bit, hasCell, fromBits, withCell, unionOf, intersectionOf, sharesCell, Disjoint, Within, sizeBelow, size}
+use Rattle.cells.specs.Set.{bit, hasCell, fromBits, setOf, withCell, unionOf, intersectionOf, sharesCell, Disjoint, Within, sizeBelow, size}
 use Rattle.cells.specs.BitLaws.{bit-zero, bit-suc, bit-le, zero-bit, bit-ext, bit-high, half-lt, bit-add, add-lt, bit-pow-same, bit-pow-other, disjoint-pow, fromBits-lt, bit-fromBits}
 
 -- ---- membership
@@ -23,6 +23,33 @@ hasCell-iff n c = (λ e. eqb-true (bit n c) 1 e, λ e. eq-eqb (bit n c) 1 e)
 pub hasCell-false : (n c : ℕ) → bit n c ≡ 0 → hasCell n c ≡ false
 unfolding hasCell
 hasCell-false n c e = ne-eqb (bit n c) 1 (λ q. omega arith)
+
+pub bit-free : (n c : ℕ) → hasCell n c ≡ false → bit n c ≡ 0
+unfolding hasCell
+bit-free n c e = let other = eqb-false (bit n c) 1 e in omega (arith, bit-le n c)
+
+pub hasCell-none : (cell : ℕ) → hasCell 0 cell ≡ false
+hasCell-none cell = hasCell-false 0 cell (zero-bit cell)
+
+-- ---- the set of the cells of which a test holds
+
+pub digit : (t : Bool) → cond t 1 0 ≤ 1
+digit true = omega arith
+digit false = omega arith
+
+-- a cell is in the set of those of which a test holds if the test holds of it
+pub hasCell-setOf : (test : ℕ → Bool) (cell : ℕ) → cell < 256 → hasCell (setOf test) cell ≡ test cell
+unfolding hasCell setOf
+hasCell-setOf test cell h = ap (λ (n : ℕ). eqb n 1) (bit-fromBits (λ c. cond (test c) 1 0) (λ c. digit (test c)) 256 cell h) ∙ back (test cell)
+  where
+    back : (t : Bool) → eqb (cond t 1 0) 1 ≡ t
+    back true = refl
+    back false = refl
+
+-- a set of tested cells is one of 256 cells
+pub setOf-lt : (test : ℕ → Bool) → setOf test < 2 ^ 256
+unfolding setOf
+setOf-lt test = fromBits-lt (λ c. cond (test c) 1 0) (λ c. digit (test c)) 256
 
 -- ---- a set within another: by its cells, and its number is no greater
 
@@ -189,6 +216,17 @@ pub sharesCell-true : (n m c : ℕ) → c < 256 → bit n c ≡ 1 → bit m c �
 unfolding sharesCell
 sharesCell-true n m c h a b =
     rw (ne-eqb (intersectionOf n m) 0 (λ e. omega (arith, sym (bit-intersectionOf n m c h) ∙ ap (λ (x : ℕ). bit x c) e ∙ zero-bit c)))
+
+-- a set is within its unions, and the union with a set within it is the set itself
+pub within-union : (n m : ℕ) → n < 2 ^ 256 → Within n (unionOf n m)
+within-union n m l c = go (decLt c 256)
+  where
+    go : Dec (c < 256) → bit n c ≤ bit (unionOf n m) c
+    go (yes h) = omega (arith, bit-unionOf n m c h)
+    go (no h) = let none : bit n c ≡ 0 = bit-high 256 n c l (omega arith) in omega arith
+
+pub union-within : (n m : ℕ) → m < 2 ^ 256 → Within n m → unionOf n m ≡ m
+union-within n m l w = bit-ext 256 (unionOf n m) m (unionOf-lt n m) l (λ c h. bit-unionOf n m c h ∙ omega (arith, w c))
 
 -- ---- how many cells
 

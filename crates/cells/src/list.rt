@@ -3,10 +3,14 @@
 // of a caller.
 use crate::Cells;
 ghost use mathlib.Core.Path.{_≡_};
-ghost use lib.Dec.{eqb};
-ghost use Rattle.cells.specs.Firsts.{holds};
 ghost use Rattle.cells.specs.Words.{number};
-ghost use Rattle.cells.specs.Lists.{setAt, setsIn, withSet, clearedFrom};
+ghost use Rattle.cells.specs.Lists.{setAt, findSet, foundAnswer, withSet, clearedFrom};
+
+// The place of a set.
+pub enum Found {
+    At(usize),
+    Nothing,
+}
 
 // Set i of the words.
 pub fn get(words: &[u64], i: usize) -> Cells
@@ -24,21 +28,21 @@ pub fn get(words: &[u64], i: usize) -> Cells
     Cells::of_words(words[at], words[at + 1], words[at + 2], words[at + 3])
 }
 
-// Whether a set is one of the first n, or of as many as are lent.
-pub fn contains(words: &[u64], n: usize, set: Cells) -> bool
-    ensures { λ r. ⌜ r ≡ holds eqb (setsIn (now (words .entry)) n) (number set) ⌝ }
+// The first set equal to a set, among the sets from..to that are lent.
+pub fn find(words: &[u64], from: usize, to: usize, set: Cells) -> Found
+    ensures { λ r. ⌜ foundAnswer r ≡ findSet (now (words .entry)) from to (number set) ⌝ }
 {
-    let mut i = 0;
-    while i < n {
+    let mut i = from;
+    while i < to {
         if words.len() / 4 <= i {
-            return false;
+            return Found::Nothing;
         }
         if get(words, i).equal(set) {
-            return true;
+            return Found::At(i);
         }
         i += 1;
     }
-    false
+    Found::Nothing
 }
 
 // The words with another set i.

@@ -18,7 +18,7 @@ use Rattle.covers.specs.NodeLaws.{chain-good, chain-map, number-lt, getD
 use Rattle.covers.specs.GatherLaws.{mem-boards, mem-entry, weight-entry, weight-none}
 use Rattle.covers.specs.LayerLaws.{shares-layers, mem-layer, boards-suc, layer-entry, start-layer}
 use Rattle.covers.specs.ChildLaws.{child-once}
-use Rattle.covers.specs.WalkLaws.{sum-parentsOf, tiling-numbers}
+use Rattle.covers.specs.WalkLaws.{share, sum-parentsOf, tiling-numbers}
 use Rattle.covers.specs.SettingLaws.{node-layer, layer-fewer, layer-empty, layer-node, node-ok, child-node, start-node, start-mem, some-node, first-count, once-layers, found-layers, number-layers}
 
 module _ {B P : Type 0} (G : Setting B P) (L : Laws G) (a : ℕ) (E : EqualSteps G a) (s : B) (ok : G .Ok s) where
@@ -98,6 +98,7 @@ module _ {B P : Type 0} (G : Setting B P) (L : Laws G) (a : ℕ) (E : EqualSteps
       ∙ ap (weight same t) (append-nil (upTo top))
 
   node-sums : (v : ℕ) → 0 < v → v < length nodes → count v ≡ sumOf count (parentsOf edges v)
+  unfolding share
   node-sums v h k =
       let m = mem-getD nodes v s k in
       let e = mem-entry (upTo top) (node v) m in

@@ -8,7 +8,7 @@ use mathlib.Core.List.{List, [], _∷_, _++_, map, List·Memᴰ as Mem, List·Me
 use Prim.Native.Nat.{ℕ, zero, suc, _+_, _≤_, _<_}
 use native.Mathlib.Decide.{decLt}
 use native.Mathlib.Omega.{arith}
-use borrow.Author.Tests.{eqb-true, eqb-false, eq-eqb, ne-eqb}
+use borrow.Author.Tests.{eqb-true, eqb-false, ne-eqb}
 use lib.Dec.{eqb}
 use lib.ListN.{length, getD, take, drop, length-map, take-append-drop, List·getD-eq-default}
 use lib.Seq.{take-all, take-suc}
@@ -16,7 +16,7 @@ use Rattle.cells.specs.FirstsLaws.{mem-getD}
 use Rattle.covers.specs.Cuttings.{Setting, childBoards, Laws, EqualSteps}
 use Rattle.covers.specs.Counts.{Entry, counts, entriesOf, sumOf, parentsOf, numberIn, nodesOf, pathCountOf, graphEdges}
 use Rattle.covers.specs.SumLaws.{sum-append, sum-zero}
-use Rattle.covers.specs.WalkLaws.{sum-parentsOf, mem-parentsOf}
+use Rattle.covers.specs.WalkLaws.{share, share-same, share-other, sum-parentsOf, mem-parentsOf}
 use Rattle.covers.specs.GraphLaws.{edge-rises, sum-rule}
 use Rattle.covers.specs.FindingLaws.{edgesAt, edges-zero, edges-suc, edges-all}
 
@@ -52,21 +52,9 @@ module _ {B P : Type 0} (G : Setting B P) (s : B) where
   unfolding sumOf parentsOf
   passed j v = cond (eqb v 0) 1 0 + sumOf (pathCountOf G s) (parentsOf (take j (graphEdges G s)) v)
 
-  -- what an edge adds to the count of node v
-  gives : ℕ → ℕ × ℕ → ℕ
-  gives v e = cond (eqb (e .1) v) (pathCountOf G s (e .0)) 0
-
-  passed-gives : (j v : ℕ) → passed j v ≡ cond (eqb v 0) 1 0 + sumOf (gives v) (take j (graphEdges G s))
-  unfolding passed gives
-  passed-gives j v = ap (λ (n : ℕ). cond (eqb v 0) 1 0 + n) (sum-parentsOf (pathCountOf G s) (take j (graphEdges G s)) v)
-
-  gives-same : (v : ℕ) (e : ℕ × ℕ) → v ≡ e .1 → gives v e ≡ pathCountOf G s (e .0)
-  unfolding gives
-  gives-same v e q = rw (eq-eqb (e .1) v (sym q))
-
-  gives-other : (v : ℕ) (e : ℕ × ℕ) → (v ≡ e .1 → ⊥) → gives v e ≡ 0
-  unfolding gives
-  gives-other v e n = rw (ne-eqb (e .1) v (λ q. n (sym q)))
+  passed-shares : (j v : ℕ) → passed j v ≡ cond (eqb v 0) 1 0 + sumOf (share (pathCountOf G s) v) (take j (graphEdges G s))
+  unfolding passed
+  passed-shares j v = ap (λ (n : ℕ). cond (eqb v 0) 1 0 + n) (sum-parentsOf (pathCountOf G s) (take j (graphEdges G s)) v)
 
 module _ {B P : Type 0} (G : Setting B P) (L : Laws G) (a : ℕ) (E : EqualSteps G a) (s : B) (ok : G .Ok s) where
   abbrev nodes : List B
@@ -144,16 +132,16 @@ module _ {B P : Type 0} (G : Setting B P) (L : Laws G) (a : ℕ) (E : EqualSteps
   passed-all j v h = ap (λ (es : List (ℕ × ℕ)). cond (eqb v 0) 1 0 + sumOf count (parentsOf es v)) (take-all j edges h) ∙ count-all v
 
   -- the edges passed and those to come
-  passed-rest : (j v : ℕ) → passed G s j v + sumOf (gives G s v) (drop j edges) ≡ count v
+  passed-rest : (j v : ℕ) → passed G s j v + sumOf (share count v) (drop j edges) ≡ count v
   passed-rest j v =
       omega (
         arith,
         passed-all (length edges) v (omega arith),
-        passed-gives G s (length edges) v,
-        passed-gives G s j v,
-        ap (sumOf (gives G s v)) (take-all (length edges) edges (omega arith)),
-        ap (sumOf (gives G s v)) (take-append-drop j edges),
-        sum-append (gives G s v) (take j edges) (drop j edges),
+        passed-shares G s (length edges) v,
+        passed-shares G s j v,
+        ap (sumOf (share count v)) (take-all (length edges) edges (omega arith)),
+        ap (sumOf (share count v)) (take-append-drop j edges),
+        sum-append (share count v) (take j edges) (drop j edges),
       )
 
   pub passed-le : (j v : ℕ) → passed G s j v ≤ count v
@@ -167,7 +155,7 @@ module _ {B P : Type 0} (G : Setting B P) (L : Laws G) (a : ℕ) (E : EqualSteps
       omega (
         arith,
         passed-rest j (edge j .0),
-        sum-zero (gives G s (edge j .0)) (drop j edges) (λ x m. gives-other G s (edge j .0) x (later x m)),
+        sum-zero (share count (edge j .0)) (drop j edges) (λ x m. share-other count (edge j .0) x (later x m)),
       )
     where
       later : (x : ℕ × ℕ) → Mem x (drop j edges) → edge j .0 ≡ x .1 → ⊥
@@ -175,15 +163,15 @@ module _ {B P : Type 0} (G : Setting B P) (L : Laws G) (a : ℕ) (E : EqualSteps
           let k : Mem x edges = subst (Mem x) (take-append-drop j edges) (append-right (take j edges) m) in
           omega (arith, sorted-drop edges j sorted-edges h x m, edge-rises G L a E s ok (x .0) (x .1) k .0)
 
-  passed-next : (j v : ℕ) → j < length edges → passed G s (suc j) v ≡ passed G s j v + gives G s v (edge j)
+  passed-next : (j v : ℕ) → j < length edges → passed G s (suc j) v ≡ passed G s j v + share count v (edge j)
   unfolding sumOf
   passed-next j v h =
       omega (
         arith,
-        passed-gives G s (suc j) v,
-        passed-gives G s j v,
-        ap (sumOf (gives G s v)) (take-suc edges j (0, 0) h),
-        sum-append (gives G s v) (take j edges) (edge j ∷ []),
+        passed-shares G s (suc j) v,
+        passed-shares G s j v,
+        ap (sumOf (share count v)) (take-suc edges j (0, 0) h),
+        sum-append (share count v) (take j edges) (edge j ∷ []),
       )
 
   -- each edge adds the count of its parent, as it stands, to the count of its child
@@ -193,5 +181,5 @@ module _ {B P : Type 0} (G : Setting B P) (L : Laws G) (a : ℕ) (E : EqualSteps
   passed-suc j v h = go (eqb v (edge j .1)) refl
     where
       go : (b : Bool) → eqb v (edge j .1) ≡ b → passed G s (suc j) v ≡ cond b (passed G s j v + passed G s j (edge j .0)) (passed G s j v)
-      go true q = omega (arith, passed-next j v h, gives-same G s v (edge j) (eqb-true v (edge j .1) q), passed-parent j h)
-      go false q = omega (arith, passed-next j v h, gives-other G s v (edge j) (eqb-false v (edge j .1) q))
+      go true q = omega (arith, passed-next j v h, share-same count v (edge j) (eqb-true v (edge j .1) q), passed-parent j h)
+      go false q = omega (arith, passed-next j v h, share-other count v (edge j) (eqb-false v (edge j .1) q))

@@ -6,7 +6,7 @@ use mathlib.Core.Bool.{Bool, true, false, cond}
 use mathlib.Core.List.{List, [], _∷_, _++_, append-cancel-right, List·Memᴰ as Mem, List·Memᴰ·head as here, List·Memᴰ·tail as there, List·Memᴰ·cases-cons as cases-cons, List·Memᴰ·not-nil as not-nil, List·Memᴰ·append-cases as append-cases, Memᴰ·cast as cast}
 use Prim.Native.Nat.{ℕ, zero, suc, _+_, _-_, _≤_, _<_}
 use native.Mathlib.Omega.{arith}
-use borrow.Author.Tests.{eqb-true, eqb-false, ne-eqb, ltb-true, ltb-false, lt-ltb, le-ltb}
+use borrow.Author.Tests.{eqb-true, eqb-false, eq-eqb, ne-eqb, ltb-true, ltb-false, lt-ltb, le-ltb}
 use lib.Dec.{eqb, ltb}
 use Rattle.cells.specs.Firsts.{Once}
 use Rattle.covers.specs.Cuttings.{Numbering}
@@ -15,8 +15,21 @@ use Rattle.covers.specs.NumberingLaws.{carry, renumber}
 
 -- ---- parents
 
-pub sum-parentsOf : (count : ℕ → ℕ) (es : List (ℕ × ℕ)) (v : ℕ) → sumOf count (parentsOf es v) ≡ sumOf (λ e. cond (eqb (e .1) v) (count (e .0)) 0) es
-unfolding parentsOf sumOf
+-- an edge's share: what it adds to the count of node v
+unfoldable pub share : (ℕ → ℕ) → ℕ → ℕ × ℕ → ℕ
+share count v e = cond (eqb (e .1) v) (count (e .0)) 0
+
+module _ (count : ℕ → ℕ) (v : ℕ) (e : ℕ × ℕ) where
+  pub share-same : v ≡ e .1 → share count v e ≡ count (e .0)
+  unfolding share
+  share-same q = rw (eq-eqb (e .1) v (sym q))
+
+  pub share-other : (v ≡ e .1 → ⊥) → share count v e ≡ 0
+  unfolding share
+  share-other n = rw (ne-eqb (e .1) v (λ q. n (sym q)))
+
+pub sum-parentsOf : (count : ℕ → ℕ) (es : List (ℕ × ℕ)) (v : ℕ) → sumOf count (parentsOf es v) ≡ sumOf (share count v) es
+unfolding parentsOf sumOf share
 sum-parentsOf count [] v = refl
 sum-parentsOf count (e ∷ es) v = go (eqb (e .1) v) ∙ ap (λ (n : ℕ). cond (eqb (e .1) v) (count (e .0)) 0 + n) (sum-parentsOf count es v)
   where

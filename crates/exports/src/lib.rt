@@ -1,7 +1,8 @@
 // The calls of the lower crates for hosts in C or Rust. A slice is a pointer and a length; the host
 // lends every word. Each function returns 0 or the number of the refusal, and nothing is asked of a
-// caller but what a slice is (include/cuttings.h). What each returns and leaves in the lent words is a
-// definition of specs/Calls.antt.
+// caller but what a slice is (include/cuttings.h). Each is the call of the same name of `host_plots`,
+// `host_counts` or `host_tilings`, with its contract; what it returns and leaves in the lent words is a
+// definition of that crate's specs/Calls.antt.
 //
 // A board is width, height and 8 words of marks, fixed then laid; tiles are 33 bytes each, a length
 // and 32 codes. Slices of a wrong shape are refused first: 4, marks that are not 8 words; 5, tile
@@ -9,16 +10,11 @@
 // whose third word is neither 0 nor 1; 12, a number that is not two words; 8, an answer or an output
 // of fixed size that is too short.
 // After any refusal every lent word and byte is zero.
-use cells::list;
-use refusal::Verdict;
 ghost use lib.ListN.{length};
 ghost use Rattle.graph.specs.Rooms.{layerRoom};
-ghost use Rattle.exports.specs.Calls.{placed, AnswersChildren, counted, AnswersCount, generated, AnswersGraph, searched, AnswersSingle, numbered, AnswersList, orbitFor, AnswersTiles, readFile, AnswersPlot};
-
-mod calls;
-mod input;
-mod output;
-mod shapes;
+ghost use Rattle.host_plots.specs.Calls.{placed, AnswersChildren, orbitFor, AnswersTiles, readFile, AnswersPlot};
+ghost use Rattle.host_counts.specs.Calls.{counted, AnswersCount, generated, AnswersGraph};
+ghost use Rattle.host_tilings.specs.Calls.{searched, AnswersSingle, numbered, AnswersList};
 
 // The children of a board, four words each, zeros behind. Answer: their number.
 #[no_mangle]
@@ -30,21 +26,11 @@ pub extern "C" fn cuttings_place_tile(
     out: &mut [u64],
     answer: &mut [u64],
 ) -> u64
-    ensures { λ r. ⌜ AnswersChildren (placed width height (now (marks .entry)) (now (tiles .entry)) (length (now (out .entry))) (length (now (answer .entry)))) (now (out .entry)) (now (answer .entry)) (now (out .exit)) (now (answer .exit)) r ⌝ }
+    ensures { λ r.
+        ⌜ AnswersChildren (placed width height (now (marks .entry)) (now (tiles .entry)) (length (now (out .entry))) (length (now (answer .entry))))
+        (now (out .entry)) (now (answer .entry)) (now (out .exit)) (now (answer .exit)) r ⌝ }
 {
-    let verdict = shapes::of_plot(1, marks.len(), tiles.len(), answer.len());
-    match verdict {
-        Verdict::Accepted => calls::place_tile(
-            input::board_from(width, height, marks),
-            input::tiles_from(tiles),
-            out,
-            answer,
-        ),
-        Verdict::Refused(refusal) => {
-            list::clear_from(out, 0);
-            output::refuse(answer, refusal)
-        }
-    }
+    host_plots::place_tile(width, height, marks, tiles, out, answer)
 }
 
 // The layer count. The lent layers are zero afterwards. Answer: the count's low word and high word.
@@ -60,27 +46,23 @@ pub extern "C" fn cuttings_count_tilings(
     counts_b: &mut [u64],
     answer: &mut [u64],
 ) -> u64
-    ensures { λ r. ⌜ AnswersCount (counted width height (now (marks .entry)) (now (tiles .entry)) (layerRoom (length (now («boards_a» .entry))) (length (now («counts_a» .entry))) (length (now («boards_b» .entry))) (length (now («counts_b» .entry)))) (length (now (answer .entry)))) (now («boards_a» .entry)) (now («counts_a» .entry)) (now («boards_b» .entry)) (now («counts_b» .entry)) (now (answer .entry)) (now («boards_a» .exit)) (now («counts_a» .exit)) (now («boards_b» .exit)) (now («counts_b» .exit)) (now (answer .exit)) r ⌝ }
+    ensures { λ r.
+        ⌜ AnswersCount (counted width height (now (marks .entry)) (now (tiles .entry))
+        (layerRoom (length (now («boards_a» .entry))) (length (now («counts_a» .entry))) (length (now («boards_b» .entry))) (length (now («counts_b» .entry)))) (length (now (answer .entry))))
+        (now («boards_a» .entry)) (now («counts_a» .entry)) (now («boards_b» .entry)) (now («counts_b» .entry)) (now (answer .entry))
+        (now («boards_a» .exit)) (now («counts_a» .exit)) (now («boards_b» .exit)) (now («counts_b» .exit)) (now (answer .exit)) r ⌝ }
 {
-    let verdict = shapes::of_plot(2, marks.len(), tiles.len(), answer.len());
-    match verdict {
-        Verdict::Accepted => calls::count_tilings(
-            input::board_from(width, height, marks),
-            input::tiles_from(tiles),
-            boards_a,
-            counts_a,
-            boards_b,
-            counts_b,
-            answer,
-        ),
-        Verdict::Refused(refusal) => {
-            list::clear_from(boards_a, 0);
-            list::clear_from(counts_a, 0);
-            list::clear_from(boards_b, 0);
-            list::clear_from(counts_b, 0);
-            output::refuse(answer, refusal)
-        }
-    }
+    host_counts::count_tilings(
+        width,
+        height,
+        marks,
+        tiles,
+        boards_a,
+        counts_a,
+        boards_b,
+        counts_b,
+        answer,
+    )
 }
 
 // The graph: nodes, four words each, a count beside each, and edges, two words each; zeros behind.
@@ -96,25 +78,12 @@ pub extern "C" fn cuttings_generate_graph(
     edges: &mut [u64],
     answer: &mut [u64],
 ) -> u64
-    ensures { λ r. ⌜ AnswersGraph (generated width height (now (marks .entry)) (now (tiles .entry)) (length (now (nodes .entry))) (length (now (counts .entry))) (length (now (edges .entry))) (length (now (answer .entry)))) (now (nodes .entry)) (now (counts .entry)) (now (edges .entry)) (now (answer .entry)) (now (nodes .exit)) (now (counts .exit)) (now (edges .exit)) (now (answer .exit)) r ⌝ }
+    ensures { λ r.
+        ⌜ AnswersGraph (generated width height (now (marks .entry)) (now (tiles .entry))
+        (length (now (nodes .entry))) (length (now (counts .entry))) (length (now (edges .entry))) (length (now (answer .entry))))
+        (now (nodes .entry)) (now (counts .entry)) (now (edges .entry)) (now (answer .entry)) (now (nodes .exit)) (now (counts .exit)) (now (edges .exit)) (now (answer .exit)) r ⌝ }
 {
-    let verdict = shapes::of_plot(4, marks.len(), tiles.len(), answer.len());
-    match verdict {
-        Verdict::Accepted => calls::generate_graph(
-            input::board_from(width, height, marks),
-            input::tiles_from(tiles),
-            nodes,
-            counts,
-            edges,
-            answer,
-        ),
-        Verdict::Refused(refusal) => {
-            list::clear_from(nodes, 0);
-            list::clear_from(counts, 0);
-            list::clear_from(edges, 0);
-            output::refuse(answer, refusal)
-        }
-    }
+    host_counts::generate_graph(width, height, marks, tiles, nodes, counts, edges, answer)
 }
 
 // One tiling, without a graph: its boards, four words each, zeros behind. Answer: the number of
@@ -128,21 +97,11 @@ pub extern "C" fn cuttings_single_tiling(
     out: &mut [u64],
     answer: &mut [u64],
 ) -> u64
-    ensures { λ r. ⌜ AnswersSingle (searched width height (now (marks .entry)) (now (tiles .entry)) (length (now (out .entry))) (length (now (answer .entry)))) (now (out .entry)) (now (answer .entry)) (now (out .exit)) (now (answer .exit)) r ⌝ }
+    ensures { λ r.
+        ⌜ AnswersSingle (searched width height (now (marks .entry)) (now (tiles .entry)) (length (now (out .entry))) (length (now (answer .entry))))
+        (now (out .entry)) (now (answer .entry)) (now (out .exit)) (now (answer .exit)) r ⌝ }
 {
-    let verdict = shapes::of_plot(1, marks.len(), tiles.len(), answer.len());
-    match verdict {
-        Verdict::Accepted => calls::single_tiling(
-            input::board_from(width, height, marks),
-            input::tiles_from(tiles),
-            out,
-            answer,
-        ),
-        Verdict::Refused(refusal) => {
-            list::clear_from(out, 0);
-            output::refuse(answer, refusal)
-        }
-    }
+    host_tilings::single_tiling(width, height, marks, tiles, out, answer)
 }
 
 // The tiling with the number m, low word and high word, of a graph's words and the four words of its
@@ -157,39 +116,21 @@ pub extern "C" fn cuttings_tiling(
     out: &mut [u64],
     answer: &mut [u64],
 ) -> u64
-    ensures { λ r. ⌜ AnswersList (numbered (length (now (nodes .entry))) (now (counts .entry)) (now (edges .entry)) (now (graph .entry)) (now (m .entry)) (length (now (out .entry))) (length (now (answer .entry)))) (now (out .entry)) (now (answer .entry)) (now (out .exit)) (now (answer .exit)) r ⌝ }
+    ensures { λ r.
+        ⌜ AnswersList (numbered (length (now (nodes .entry))) (now (counts .entry)) (now (edges .entry)) (now (graph .entry)) (now (m .entry))
+        (length (now (out .entry))) (length (now (answer .entry)))) (now (out .entry)) (now (answer .entry)) (now (out .exit)) (now (answer .exit)) r ⌝ }
 {
-    let verdict = shapes::of_tiling(graph, m.len(), answer.len());
-    match verdict {
-        Verdict::Accepted => calls::tiling(
-            input::graph_from(graph),
-            nodes,
-            counts,
-            edges,
-            m,
-            out,
-            answer,
-        ),
-        Verdict::Refused(refusal) => {
-            list::clear_from(out, 0);
-            output::refuse(answer, refusal)
-        }
-    }
+    host_tilings::tiling(nodes, counts, edges, graph, m, out, answer)
 }
 
 // The orbit of a tile: its tiles, 33 bytes each, zeros behind. Answer: their number.
 #[no_mangle]
 pub extern "C" fn cuttings_orbit(tile: &[u8], tiles: &mut [u8], answer: &mut [u64]) -> u64
-    ensures { λ r. ⌜ AnswersTiles (orbitFor (now (tile .entry)) (length (now (tiles .entry))) (length (now (answer .entry)))) (now (tiles .entry)) (now (answer .entry)) (now (tiles .exit)) (now (answer .exit)) r ⌝ }
+    ensures { λ r.
+        ⌜ AnswersTiles (orbitFor (now (tile .entry)) (length (now (tiles .entry))) (length (now (answer .entry))))
+        (now (tiles .entry)) (now (answer .entry)) (now (tiles .exit)) (now (answer .exit)) r ⌝ }
 {
-    let verdict = shapes::of_orbit(tile.len(), tiles.len(), answer.len());
-    match verdict {
-        Verdict::Accepted => calls::orbit(input::tile_from(tile), tiles, answer),
-        Verdict::Refused(refusal) => {
-            output::no_tiles(tiles);
-            output::refuse(answer, refusal)
-        }
-    }
+    host_plots::orbit(tile, tiles, answer)
 }
 
 // A plot file: ten words of its board, width, height, fixed and laid marks, and its tiles, 33 bytes
@@ -201,15 +142,9 @@ pub extern "C" fn cuttings_read_plot(
     tiles: &mut [u8],
     answer: &mut [u64],
 ) -> u64
-    ensures { λ r. ⌜ AnswersPlot (readFile (now (file .entry)) (length (now (board .entry))) (length (now (tiles .entry))) (length (now (answer .entry)))) (now (board .entry)) (now (tiles .entry)) (now (answer .entry)) (now (board .exit)) (now (tiles .exit)) (now (answer .exit)) r ⌝ }
+    ensures { λ r.
+        ⌜ AnswersPlot (readFile (now (file .entry)) (length (now (board .entry))) (length (now (tiles .entry))) (length (now (answer .entry))))
+        (now (board .entry)) (now (tiles .entry)) (now (answer .entry)) (now (board .exit)) (now (tiles .exit)) (now (answer .exit)) r ⌝ }
 {
-    let verdict = shapes::of_file(board.len(), tiles.len(), answer.len());
-    match verdict {
-        Verdict::Accepted => calls::read_plot(file, board, tiles, answer),
-        Verdict::Refused(refusal) => {
-            list::clear_from(board, 0);
-            output::no_tiles(tiles);
-            output::refuse(answer, refusal)
-        }
-    }
+    host_plots::read_plot(file, board, tiles, answer)
 }

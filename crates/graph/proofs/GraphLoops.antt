@@ -1,24 +1,21 @@
--- What the searches and loops over nodes and edges in lent words come to. Rests on `Graph`, `GraphLaws` and `cells`. Assumes nothing.
+-- What the part of a node and the loops over edges in lent words come to. Rests on `Graph`, `GraphLaws` and `cells`. Assumes nothing.
 use mathlib.Core.Path.{_≡_, refl, sym, ap, _∙_, subst}
-use mathlib.Core.Bool.{true, false}
 use mathlib.Core.List.{List, [], _∷_, _++_}
-use mathlib.Core.Option.{none, some}
 use Prim.Native.Nat.{ℕ, _+_, _-_, _*_, _/_, _≤_, _<_, min}
 use native.Mathlib.Decide.{ℕ-discrete}
 use native.Mathlib.Omega.{arith}
 use borrow.Author.Tests.{lt-ltb, le-ltb, le-leb, lt-leb}
-use lib.Dec.{eqb}
 use lib.ListN.{length, getD, set, take, drop, length-append, length-set}
 use lib.Seq.{getD-append-seam, getD-set-same, getD-set-other}
 use Rattle.cells.specs.Arrays.{listFrom, listOf}
 use Rattle.cells.specs.ArrayLaws.{getD-snoc, listOf-snoc}
-use Rattle.cells.specs.Lists.{setAt, clearedFrom}
+use Rattle.cells.specs.Lists.{clearedFrom}
 use Rattle.refusal.specs.Refusal.{given, mapAnswer, valueOr}
 use Rattle.refusal.specs.declared.Refusal.the-variants as R
 use Rattle.graph.specs.declared.Edges.the-variants as E
-use Rattle.graph.specs.Graph.{nodePart, findNode, edgeAt, edgesIn, edgesFrom, getEdges, numbersFor, GetsEdges}
+use Rattle.graph.specs.Graph.{nodePart, edgeAt, edgesIn, edgesFrom, getEdges, numbersFor, GetsEdges}
 use Rattle.graph.specs.Inner.{StandsIn}
-use Rattle.graph.specs.GraphLaws.{firstFrom-found, firstFrom-missed, edgesFrom-more, edgesFrom-other, cleared-numbers}
+use Rattle.graph.specs.GraphLaws.{edgesFrom-more, edgesFrom-other, cleared-numbers}
 
 -- ---- the part of a node
 
@@ -30,17 +27,6 @@ module _ (ws : List ℕ) (n : ℕ) where
   pub part-none : length ws / 4 ≤ n → [] ≡ nodePart ws n
   unfolding nodePart
   part-none h = rw (le-ltb n (length ws / 4) h)
-
--- ---- the search for a node
-
-module _ (ws : List ℕ) (from to x i : ℕ) (missed : (k : ℕ) → from ≤ k → k < i → eqb (setAt ws k) x ≡ false) where
-  pub node-found : from ≤ i → i < to → i < length ws / 4 → eqb (setAt ws i) x ≡ true → some i ≡ findNode ws from to x
-  unfolding findNode
-  node-found h k l e = sym (firstFrom-found (λ j. eqb (setAt ws j) x) from (min to (length ws / 4) - from) i h (omega arith) e missed)
-
-  pub node-missed : min to (length ws / 4) ≤ i → none ≡ findNode ws from to x
-  unfolding findNode
-  node-missed h = sym (firstFrom-missed (λ j. eqb (setAt ws j) x) from (min to (length ws / 4) - from) (λ j a b. missed j a (omega arith)))
 
 -- ---- the edges out of a node
 

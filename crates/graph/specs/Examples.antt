@@ -1,31 +1,23 @@
 -- Examples of the definitions, by computation.
 use mathlib.Core.Path.{_≡_, refl}
-use mathlib.Core.List.{List, [], _∷_, _++_, flatMap}
+use mathlib.Core.List.{[], _∷_}
 use mathlib.Core.Option.{none, some}
-use Prim.Native.Nat.{ℕ, suc, _-_, _^_}
-use lib.ListN.{replicate}
-use Rattle.cells.specs.Arrays.{listOf}
 use lib.Dec.{eqb}
 use Rattle.cells.specs.Firsts.{holds}
-use Rattle.refusal.specs.Refusal.{Answer, refused, given}
-use Rattle.graph.specs.declared.Complete.{Complete}
-use Rattle.graph.specs.declared.Complete.the-variants as N
-use Rattle.graph.specs.declared.GraphResult.{GraphResult}
-use Rattle.graph.specs.Graph.{nodePart, findNode, edgesIn, edgesFrom, getEdges, numbersFor, edgesFor}
-use Rattle.graph.specs.Tilings.{tilingByNumber, stepPiece, markedPieces}
+use Rattle.refusal.specs.Refusal.{refused, given}
+use Rattle.graph.specs.Rooms.{layerRoom, nodeRoom, edgeRoom}
+use Rattle.graph.specs.Graph.{nodePart, edgesIn, edgesFrom, getEdges, numbersFor, edgesFor}
+use Rattle.graph.specs.Result.{countFromGraph, stepPiece, markedPieces}
+
+-- the least of words and count words decides; quotients drop their remainder
+rooms-held : (layerRoom 9 3 16 3 ≡ 2) × (layerRoom 16 3 16 1 ≡ 1) × (nodeRoom 16 3 ≡ 3) × (edgeRoom 5 ≡ 2) × (edgeRoom 40000000 ≡ 16777216)
+unfolding layerRoom nodeRoom edgeRoom
+rooms-held = (refl, refl, refl, refl, refl)
 
 -- seven words hold node 0 and no other
 part : (nodePart (5 ∷ 0 ∷ 0 ∷ 1 ∷ 7 ∷ 7 ∷ 7 ∷ []) 0 ≡ 5 ∷ 0 ∷ 0 ∷ 1 ∷ []) × (nodePart (5 ∷ 0 ∷ 0 ∷ 1 ∷ 7 ∷ 7 ∷ 7 ∷ []) 1 ≡ [])
 unfolding nodePart
 part = (refl, refl)
-
--- the nodes 3, 5, 3: the first equal one; from 1 on; up to 2; and as many as are lent
-found : (findNode (3 ∷ 0 ∷ 0 ∷ 0 ∷ 5 ∷ 0 ∷ 0 ∷ 0 ∷ 3 ∷ 0 ∷ 0 ∷ 0 ∷ []) 0 3 3 ≡ some 0)
-    × (findNode (3 ∷ 0 ∷ 0 ∷ 0 ∷ 5 ∷ 0 ∷ 0 ∷ 0 ∷ 3 ∷ 0 ∷ 0 ∷ 0 ∷ []) 1 9 3 ≡ some 2)
-    × (findNode (3 ∷ 0 ∷ 0 ∷ 0 ∷ 5 ∷ 0 ∷ 0 ∷ 0 ∷ 3 ∷ 0 ∷ 0 ∷ 0 ∷ []) 1 2 3 ≡ none)
-    × (findNode (3 ∷ 0 ∷ 0 ∷ 0 ∷ 5 ∷ 0 ∷ 0 ∷ 0 ∷ 3 ∷ 0 ∷ 0 ∷ 0 ∷ []) 0 9 0 ≡ none)
-unfolding findNode
-found = (refl, refl, refl, refl)
 
 -- the edges (0, 1), (0, 2), (1, 3), and a word left over
 edges : edgesIn (0 ∷ 1 ∷ 0 ∷ 2 ∷ 1 ∷ 3 ∷ 4 ∷ []) 9 ≡ (0, 1) ∷ (0, 2) ∷ (1, 3) ∷ []
@@ -47,84 +39,13 @@ written : (numbersFor (1 ∷ 2 ∷ []) 4 ≡ 1 ∷ 2 ∷ 0 ∷ 0 ∷ []) × (edg
 unfolding numbersFor edgesFor
 written = (refl, refl)
 
--- ---- the tiling by number: 01's worked example, 2 by 2 dominoes, `graph 2 nodes 4 edges 4`
+-- ---- the graph count: the full node's, 0 with none
 
--- the result, the count words and the edge words
-abbrev result : GraphResult
-result = record { nodes = 4; edges = 4; complete = N.Node 3 }
+graph-counts : (countFromGraph (some 3) (1 ∷ 1 ∷ 1 ∷ 2 ∷ []) ≡ 2) × (countFromGraph none (1 ∷ 1 ∷ 1 ∷ 2 ∷ []) ≡ 0)
+unfolding countFromGraph
+graph-counts = (refl, refl)
 
-abbrev resultCounts : List ℕ
-resultCounts = 1 ∷ 1 ∷ 1 ∷ 2 ∷ []
-
-abbrev resultEdges : List ℕ
-resultEdges = 0 ∷ 1 ∷ 0 ∷ 2 ∷ 1 ∷ 3 ∷ 2 ∷ 3 ∷ []
-
--- the answer with a number, for an output of so many words
-unfoldable tilingOf : ℕ → ℕ → Answer (List ℕ)
-unfolding tilingByNumber
-tilingOf m room = tilingByNumber result 16 resultCounts resultEdges m room
-
--- "tiling 0: 0 1 3", "tiling 1: 0 2 3"
-worked-tilings : (tilingOf 0 3 ≡ given (0 ∷ 1 ∷ 3 ∷ [])) × (tilingOf 1 3 ≡ given (0 ∷ 2 ∷ 3 ∷ []))
-unfolding tilingOf
-worked-tilings = (refl, refl)
-
--- "12, […] m not below its count; 8, output shorter than the list"; 12 before 8
-no-such-tiling : (tilingOf 2 3 ≡ refused 12) × (tilingOf 1 2 ≡ refused 8) × (tilingOf 2 0 ≡ refused 12)
-unfolding tilingOf
-no-such-tiling = (refl, refl, refl)
-
--- "12, no full node"
-no-full-node : tilingByNumber (record { nodes = 4; edges = 4; complete = N.Nothing }) 16 resultCounts resultEdges 0 3 ≡ refused 12
-unfolding tilingByNumber
-no-full-node = refl
-
--- the causes of 11, each alone. 11 comes before 12 and 8: m is 9, and the output has no words
-unfoldable badGiven : ℕ → ℕ → Complete → ℕ → List ℕ → List ℕ → Answer (List ℕ)
-unfolding tilingByNumber
-badGiven nodes edges complete nodeWords countWords edgeWords =
-    tilingByNumber (record { nodes = nodes; edges = edges; complete = complete }) nodeWords countWords edgeWords 9 0
-
-bad-graphs : badGiven 0 0 N.Nothing 16 resultCounts resultEdges  -- "the result has no nodes"
-    ∷ badGiven 4 4 (N.Node 3) 15 resultCounts resultEdges  -- "its nodes […] pass the lent words"
-    ∷ badGiven 2 0 N.Nothing 8 (1 ∷ []) []  -- here the count words
-    ∷ badGiven 4 5 (N.Node 3) 16 resultCounts resultEdges  -- "its […] edges pass the lent words"
-    ∷ badGiven 4 4 (N.Node 4) 16 resultCounts resultEdges  -- "its full node is not below the nodes"
-    ∷ badGiven 2 1 (N.Node 1) 8 (1 ∷ 0 ∷ []) (1 ∷ 1 ∷ [])  -- "an edge's parent is not below its child"
-    ∷ badGiven 2 1 (N.Node 1) 8 (1 ∷ 0 ∷ []) (0 ∷ 2 ∷ [])  -- "a child is not below the nodes"
-    ∷ badGiven 1 0 N.Nothing 4 (2 ∷ []) []  -- "node 0's count is not 1"
-    ∷ badGiven 4 4 (N.Node 3) 16 (1 ∷ 1 ∷ 1 ∷ 3 ∷ []) resultEdges  -- "another's is not the exact sum of its parents' counts"
-    ∷ [] ≡ replicate 9 (refused 11)
-unfolding badGiven
-bad-graphs = refl
-
--- the sum is exact: of nodes that are each joined twice to the next, node k has the count 2^k, and node 64 would have 2^64. With the count 0, to which
--- that sum wraps in a word, it is 11. Without it, the last number gives all nodes
-unfoldable doubled : ℕ → List ℕ
-unfolding flatMap listOf
-doubled n = flatMap (λ k. k ∷ suc k ∷ k ∷ suc k ∷ []) (listOf (λ k. k) n)
-
-wrapped-sum : tilingByNumber (record { nodes = 65; edges = 128; complete = N.Node 64 }) 260 (listOf (λ k. 2 ^ k) 64 ++ 0 ∷ []) (doubled 64) 0 65 ≡ refused 11
-unfolding tilingByNumber doubled
-wrapped-sum = refl
-
-largest-sum : tilingByNumber (record { nodes = 64; edges = 126; complete = N.Node 63 }) 256 (listOf (λ k. 2 ^ k) 64) (doubled 63) (2 ^ 63 - 1) 64
-    ≡ given (listOf (λ k. k) 64)
-unfolding tilingByNumber doubled
-largest-sum = refl
-
--- a full node 0: its list is node 0 alone
-full-node-0 : tilingByNumber (record { nodes = 1; edges = 0; complete = N.Node 0 }) 4 (1 ∷ []) [] 0 1 ≡ given (0 ∷ [])
-unfolding tilingByNumber
-full-node-0 = refl
-
--- two equal edges: two numbers give one list
-double-edge : (tilingByNumber (record { nodes = 2; edges = 2; complete = N.Node 1 }) 8 (1 ∷ 2 ∷ []) (doubled 1) 0 2 ≡ given (0 ∷ 1 ∷ []))
-    × (tilingByNumber (record { nodes = 2; edges = 2; complete = N.Node 1 }) 8 (1 ∷ 2 ∷ []) (doubled 1) 1 2 ≡ given (0 ∷ 1 ∷ []))
-unfolding tilingByNumber doubled
-double-edge = (refl, refl)
-
--- ---- the pieces of the steps of the first tiling: cells (0, 0) and (0, 1), then (1, 0) and (1, 1)
+-- ---- the pieces of the steps of 01's "tiling 0: 0 1 3": cells (0, 0) and (0, 1), then (1, 0) and (1, 1)
 
 step-pieces : (stepPiece 0 3 ≡ 3) × (stepPiece 3 196611 ≡ 196608)
 unfolding stepPiece

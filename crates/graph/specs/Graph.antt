@@ -1,17 +1,13 @@
 -- Definitions: a graph in lent words. Nodes are boards, four words each; edges are pairs of words. What stands in quotation marks is 01's, from its
 -- section The graph. Assumes nothing.
 use mathlib.Core.Path.{_≡_}
-use mathlib.Core.Bool.{Bool, cond}
+use mathlib.Core.Bool.{cond}
 use mathlib.Core.List.{List, [], _∷_}
-use mathlib.Core.Option.{Option, none, some}
-use Prim.Native.Nat.{ℕ, zero, suc, _+_, _-_, _*_, _/_, _%_, min}
+use Prim.Native.Nat.{ℕ, _+_, _*_, _/_, _%_, min}
 use lib.Dec.{eqb, ltb, leb}
 use lib.ListN.{length, getD, take, drop}
 use Rattle.cells.specs.Arrays.{listOf}
-use Rattle.cells.specs.Lists.{setAt}
 use Rattle.refusal.specs.Refusal.{Answer, refused, given, mapAnswer, refusalNumber, valueOr}
-use Rattle.graph.specs.declared.Found.{Found}
-use Rattle.graph.specs.declared.Found.the-variants as F
 use Rattle.graph.specs.declared.Edges.{Edges}
 use Rattle.graph.specs.declared.Edges.the-variants as E
 
@@ -20,21 +16,6 @@ use Rattle.graph.specs.declared.Edges.the-variants as E
 -- "A node's four words are handed back as that part of the lent words; where they aren't all lent the part is empty"
 unfoldable pub nodePart : List ℕ → ℕ → List ℕ
 nodePart ws n = cond (ltb n (length ws / 4)) (take 4 (drop (4 * n) ws)) []
-
--- the first of count places from i on of which a test holds
-unfoldable pub firstFrom : (ℕ → Bool) → ℕ → ℕ → Option ℕ
-firstFrom test i zero = none
-firstFrom test i (suc count) = cond (test i) (some i) (firstFrom test (suc i) count)
-
--- the first node equal to a board among the nodes from..to, or among as many of them as are lent
-unfoldable pub findNode : List ℕ → ℕ → ℕ → ℕ → Option ℕ
-unfolding firstFrom setAt
-findNode ws from to n = firstFrom (λ i. eqb (setAt ws i) n) from (min to (length ws / 4) - from)
-
--- what `find_node` answers
-abbrev pub foundAnswer : Found → Option ℕ
-foundAnswer (F.At i) = some i
-foundAnswer F.Nothing = none
 
 -- ---- edges
 

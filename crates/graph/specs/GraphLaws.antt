@@ -19,41 +19,14 @@ use Rattle.cells.specs.Words.{value, wordsOf, Small}
 use Rattle.cells.specs.WordLaws.{wordsOf-value}
 use Rattle.cells.specs.Arrays.{listFrom, listOf}
 use Rattle.cells.specs.ArrayLaws.{length-listOf, getD-listOf, listOf-ext, listOf-eta, listOf-getD, listOf-snoc}
-use Rattle.cells.specs.Lists.{setAt, clearedFrom, wordAt, wordsFor}
+use Rattle.cells.specs.Lists.{setAt, firstFrom, findSet, clearedFrom, wordAt, wordsFor}
 use Rattle.cells.specs.ListLaws.{setAt-value, wordAt-past}
 use Rattle.covers.specs.Counts.{numberIn}
-use Rattle.graph.specs.Graph.{firstFrom, findNode, edgeAt, edgesIn, edgesFrom, numbersFor, edgeWord, edgesFor}
+use Rattle.graph.specs.Graph.{edgeAt, edgesIn, edgesFrom, numbersFor, edgeWord, edgesFor}
 
 -- ---- the search for a node
 
 module _ (test : ℕ → Bool) where
-  -- place k passes the test and none before it does
-  pub firstFrom-found : (i count k : ℕ) → i ≤ k → k < i + count → test k ≡ true → ((j : ℕ) → i ≤ j → j < k → test j ≡ false)
-      → firstFrom test i count ≡ some k
-  unfolding firstFrom
-  firstFrom-found i zero k h l e n = absurd (omega arith)
-  firstFrom-found i (suc count) k h l e n =
-      go (ℕ-discrete i k) (λ q. firstFrom-found (suc i) count k (omega arith) (omega arith) e (λ j a b. n j (omega arith) b))
-    where
-      go : Dec (i ≡ k) → ((i ≡ k → ⊥) → firstFrom test (suc i) count ≡ some k) → cond (test i) (some i) (firstFrom test (suc i) count) ≡ some k
-      go (yes q) later = rw (ap test q ∙ e) (ap some q)
-      go (no q) later = rw (n i (omega arith) (omega arith)) (later q)
-
-  -- one place more does not pass the test
-  pub missed-more : (i k : ℕ) → ((j : ℕ) → i ≤ j → j < k → test j ≡ false) → test k ≡ false → (j : ℕ) → i ≤ j → j < k + 1 → test j ≡ false
-  missed-more i k n e j a b = go (ℕ-discrete j k)
-    where
-      go : Dec (j ≡ k) → test j ≡ false
-      go (yes q) = ap test q ∙ e
-      go (no q) = n j a (omega arith)
-
-  -- no place passes the test
-  pub firstFrom-missed : (i count : ℕ) → ((j : ℕ) → i ≤ j → j < i + count → test j ≡ false) → firstFrom test i count ≡ none
-  unfolding firstFrom
-  firstFrom-missed i zero n = refl
-  firstFrom-missed i (suc count) n =
-      rw (n i (omega arith) (omega arith)) (firstFrom-missed (suc i) count (λ j a b. n j (omega arith) (omega arith)))
-
   -- the places hold a list's elements: the first is the element's number
   firstFrom-held : (bs : List ℕ) (v i : ℕ) → ((k : ℕ) → k < length bs → test (i + k) ≡ eqb (getD bs k 0) v)
       → firstFrom test i (length bs) ≡ cond (holds eqb bs v) (some (i + numberIn eqb bs v)) none
@@ -73,8 +46,8 @@ module _ (test : ℕ → Bool) where
 
 -- the search in words that hold a list of nodes
 pub found-held : (ws : List ℕ) (bs : List ℕ) (v : ℕ) → length bs ≤ length ws / 4 → listOf (setAt ws) (length bs) ≡ bs
-    → findNode ws 0 (length bs) v ≡ cond (holds eqb bs v) (some (numberIn eqb bs v)) none
-unfolding findNode
+    → findSet ws 0 (length bs) v ≡ cond (holds eqb bs v) (some (numberIn eqb bs v)) none
+unfolding findSet
 found-held ws bs v h e =
     let all : min (length bs) (length ws / 4) - 0 ≡ length bs = omega arith in
     ap (firstFrom (λ i. eqb (setAt ws i) v) 0) all

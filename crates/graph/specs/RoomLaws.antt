@@ -2,14 +2,15 @@
 use mathlib.Core.Path.{_≡_}
 use Prim.Native.Nat.{ℕ, _*_, _≤_}
 use native.Mathlib.Omega.{arith}
+use Rattle.path_count.specs.PathCounts.{countRoom}
 use Rattle.graph.specs.Rooms.{roomOf, layerRoom, nodeRoom, edgeRoom}
 
 pub layer-room : (n boardsA countsA boardsB countsB : ℕ) → n ≡ layerRoom boardsA countsA boardsB countsB
-    → (4 * n ≤ boardsA) × (n ≤ countsA) × (4 * n ≤ boardsB) × (n ≤ countsB)
+    → (4 * n ≤ boardsA) × (n ≤ countRoom countsA) × (4 * n ≤ boardsB) × (n ≤ countRoom countsB)
 unfolding layerRoom roomOf
 layer-room n boardsA countsA boardsB countsB e = (omega arith, omega arith, omega arith, omega arith)
 
-pub node-room : (n nodes counts : ℕ) → n ≤ nodeRoom nodes counts → (4 * n ≤ nodes) × (n ≤ counts)
+pub node-room : (n nodes counts : ℕ) → n ≤ nodeRoom nodes counts → (4 * n ≤ nodes) × (n ≤ countRoom counts)
 unfolding nodeRoom roomOf
 node-room n nodes counts h = (omega arith, omega arith)
 

@@ -1,38 +1,43 @@
 -- Demand 3 from the words that exported calls leave: with the count's two words and the graph's words and four answer words, the calls below are those of
--- tiler's `CuttingTheorems`, and a numbered call that a host makes is the numbered call there. Rests on `HandedOnLaws` and tiler's `CuttingTheorems`. Assumes
--- nothing.
+-- layers' `CountLaws` and tiler's `CuttingTheorems`, and a numbered call that a host makes gives the list of 01's walk. Rests on `HandedOnLaws` and on those.
+-- Assumes nothing.
 use mathlib.Core.Path.{_≡_, refl, sym, ap, _∙_, subst}
-use mathlib.Core.Bool.{Bool}
+use mathlib.Core.Bool.{Bool, false}
 use mathlib.Core.List.{List, [], _∷_}
-use Prim.Native.Nat.{ℕ, zero, suc, _+_, _≤_, _<_}
-use native.Mathlib.Omega.{arith}
-use lib.Dec.{lit<}
+use Prim.Native.Nat.{ℕ, _+_, _≤_, _<_}
+use native.Mathlib.Nat.{lt-trans}
 use lib.ListN.{length, getD, take}
 use Rattle.cells.specs.Words.{Sound, Small, value, wordsBelow}
 use Rattle.refusal.specs.Refusal.{Answer, given, mapAnswer, refusalOf, valueOr}
-use Rattle.tile.specs.declared.Tiles.{Tiles}
-use Rattle.tile.specs.Stored.{pathsIn}
+use Rattle.tiles.specs.declared.Tiles.{Tiles}
+use Rattle.tiles.specs.Stored.{pathsIn}
 use Rattle.board.specs.declared.RectangularBoard.{RectangularBoard}
-use Rattle.board.specs.Board.{boardOf, freeCount}
-use Rattle.covers.specs.Cuttings.{Exactly}
-use Rattle.graph.specs.declared.Tiling.{Tiling}
-use Rattle.graph.specs.declared.Tiling.the-variants as T
+use Rattle.board.specs.Board.{boardOf}
+use Rattle.rectangle.specs.Board.{freeCount}
+use Rattle.covers.specs.Cuttings.{Numbering, Exactly}
+use Rattle.numbered_tilings.specs.declared.Tiling.{Tiling}
+use Rattle.numbered_tilings.specs.declared.Tiling.the-variants as T
 use Rattle.graph.specs.Graph.{numbersFor}
 use Rattle.graph.specs.Rooms.{layerRoom}
-use Rattle.graph.specs.Tilings.{completeNode, countFromGraph, nodeList, markedPieces, tilingByNumber, GivesTiling}
-use Rattle.graph.specs.TilingLaws.{tiling-given}
-use Rattle.tiler.specs.declared.Count.the-variants as K
+use Rattle.graph.specs.Result.{completeNode, countFromGraph, markedPieces}
+use Rattle.numbered_tilings.specs.Tilings.{badGraph, nodeList, tilingByNumber, GivesTiling}
+use Rattle.numbered_tilings.specs.TilingLaws.{tiling-given, list-read}
 use Rattle.tiler.specs.declared.MadeGraph.{MadeGraph}
-use Rattle.tiler.specs.Counting.{countLimit, countTilings, CountsTilings, GeneratesGraph}
-use Rattle.tiler.specs.Cuttings.{IsCutting, HasFreeCell, AllEdgeJoined}
-use Rattle.tiler.specs.SmallLaws.{layers-small}
-use Rattle.tiler.specs.Theorems.{own-graph-is-sound}
+use Rattle.path_count.specs.PathCounts.{countLimit}
+use Rattle.layers.specs.LayerCounts.{countTilings}
+use Rattle.tiler.specs.Graphs.{GeneratesGraph}
+use Rattle.expansion.specs.Cuttings.{IsCutting, HasFreeCell, AllEdgeJoined}
+use Rattle.layers.specs.CountLaws.{layers-small, count-cuttings}
+use Rattle.tiler.specs.NumberLaws.{words-length}
+use Rattle.tiler.specs.Theorems.{own-graph-is-sound, calls-agree}
 use Rattle.tiler.specs.CuttingTheorems as Demand
-use Rattle.exports.specs.Layout.{boardIn, tilesIn, resultIn, tilingShape}
-use Rattle.exports.specs.Calls.{counted, AnswersCount, generated, AnswersGraph, numbered, AnswersList}
-use Rattle.hosts.specs.ReturnLaws.{unless-right}
-use Rattle.hosts.specs.ReadBackLaws.{number-at, count-back, value-low}
-use Rattle.hosts.specs.HandedOnLaws.{words-given, count-given, count-below, madeIn, result-read, graph-below}
+use Rattle.host_words.specs.Layout.{boardIn, resultIn}
+use Rattle.host_tiles.specs.TileBytes.{tilesIn}
+use Rattle.host_counts.specs.Calls.{counted, AnswersCount, generated, AnswersGraph}
+use Rattle.host_tilings.specs.Calls.{tilingShape, numbered, AnswersList}
+use Rattle.host_words.specs.AnswerLaws.{unless-right}
+use Rattle.hosts.specs.ReadBackLaws.{number-at, two-words, two-small, value-two, count-back}
+use Rattle.hosts.specs.HandedOnLaws.{words-given, count-given, madeIn, result-read, graph-below}
 
 -- ---- a list that is given, as the numbered call of a host and of graph's `Tilings`
 
@@ -56,12 +61,6 @@ module _ (nodeWords : ℕ) (counts edges graph m out answer out′ answer′ : L
 
   pub list-words : out′ ≡ numbersFor (valueOr [] (tilingByNumber (resultIn graph) nodeWords counts edges (value m) (length out))) (length out)
   list-words = told .outLeft ∙ ap (λ (a : Answer (List ℕ)). numbersFor (valueOr [] a) (length out)) (list-told ∙ sym gives)
-
--- a number below a count has one word
-low-small : (k n : ℕ) → k < n → n < countLimit → Small (k ∷ 0 ∷ [])
-low-small k n h l zero = omega arith
-low-small k n h l (suc zero) = lit< tt
-low-small k n h l (suc (suc i)) = lit< tt
 
 -- ---- the count alone
 
@@ -99,12 +98,9 @@ module _ (width height : ℕ) (marks tiles : List ℕ) (small : Small marks)
   pub n-small : countGiven < countLimit
   n-small = layers-small boardGiven fixed-words laid-words tilesGiven (layerRoom (length boardsA) (length countsA) (length boardsB) (length countsB)) countGiven told-n
 
-  counted-n : CountsTilings boardGiven tilesGiven boardsA countsA boardsB countsB boardsA′ countsA′ boardsB′ countsB′ (K.Number countGiven)
-  counted-n = count-below width height marks tiles boardsA countsA boardsB countsB answer boardsA′ countsA′ boardsB′ countsB′ answer′ countTold countGiven told-n
-
   pub n-cuttings : HasFreeCell (boardOf boardGiven) → AllEdgeJoined (pathsIn tilesGiven) → Exactly countGiven (IsCutting (boardOf boardGiven) (pathsIn tilesGiven))
   n-cuttings free joined =
-      Demand.layer-count-is-number-of-cuttings boardGiven fixed-words laid-words tilesGiven boardsA countsA boardsB countsB boardsA′ countsA′ boardsB′ countsB′ (K.Number countGiven) counted-n free joined countGiven refl
+      count-cuttings boardGiven fixed-words laid-words tilesGiven free joined (layerRoom (length boardsA) (length countsA) (length boardsB) (length countsB)) countGiven told-n
 
 -- ---- the three calls
 
@@ -131,8 +127,11 @@ module _ (width height : ℕ) (marks tiles : List ℕ) (small : Small marks) (fr
   laid : Sound (b .laid)
   laid = laid-words width height marks tiles small boardsA countsA boardsB countsB answer boardsA′ countsA′ boardsB′ countsB′ answer′ countTold
 
-  counts-n : CountsTilings b ts boardsA countsA boardsB countsB boardsA′ countsA′ boardsB′ countsB′ (K.Number n)
-  counts-n = counted-n width height marks tiles small boardsA countsA boardsB countsB answer boardsA′ countsA′ boardsB′ countsB′ answer′ countTold
+  abbrev room : ℕ
+  room = layerRoom (length boardsA) (length countsA) (length boardsB) (length countsB)
+
+  count-n : countTilings b ts room ≡ given n
+  count-n = told-n width height marks tiles small boardsA countsA boardsB countsB answer boardsA′ countsA′ boardsB′ countsB′ answer′ countTold
 
   abbrev made : MadeGraph
   made = madeIn graphAnswer′
@@ -141,9 +140,7 @@ module _ (width height : ℕ) (marks tiles : List ℕ) (small : Small marks) (fr
   generates = graph-below width height marks tiles nodes counts edges graphAnswer nodes′ counts′ edges′ graphAnswer′ graphTold
 
   pub n-from-graph : countFromGraph (completeNode (resultIn (take 4 graphAnswer′) .complete)) counts′ ≡ n
-  n-from-graph =
-      Demand.both-counts b fixed laid ts free joined boardsA countsA boardsB countsB boardsA′ countsA′ boardsB′ countsB′ (K.Number n) counts-n
-      nodes counts edges nodes′ counts′ edges′ made generates n refl refl
+  n-from-graph = calls-agree b fixed laid ts room n count-n nodes counts edges nodes′ counts′ edges′ made generates refl
 
   -- ---- the numbered call
 
@@ -157,16 +154,24 @@ module _ (width height : ℕ) (marks tiles : List ℕ) (small : Small marks) (fr
   -- more words than there are free cells are enough
   pub call-long : (k : ℕ) → k < n → length (listFor k) ≤ freeCount (boardOf b) + 1
   call-long k below =
-      Demand.long-enough b fixed laid ts free joined boardsA countsA boardsB countsB boardsA′ countsA′ boardsB′ countsB′ (K.Number n) counts-n
-      nodes counts edges nodes′ counts′ edges′ made generates n refl refl k below
+      let g = result-read width height marks tiles nodes counts edges graphAnswer nodes′ counts′ edges′ graphAnswer′ graphTold in
+      words-length b fixed laid ts nodes counts edges nodes′ counts′ edges′ made generates (g .0) (g .1) k (subst (λ (x : ℕ). k < x) (sym n-from-graph) below)
+
+  -- the graph is not refused by 11, and the pieces of its lists by number are the cuttings
+  sound : badGraph (resultIn (take 4 graphAnswer′)) (length nodes′) counts′ edges′ ≡ false
+  sound = own-graph-is-sound b fixed laid ts nodes counts edges nodes′ counts′ edges′ made generates refl
+
+  numbering : Numbering (IsCutting (boardOf b) (pathsIn ts)) n (λ k. markedPieces nodes′ (listFor k))
+  numbering =
+      subst (λ (x : ℕ). Numbering (IsCutting (boardOf b) (pathsIn ts)) x (λ k. markedPieces nodes′ (listFor k))) n-from-graph
+      (Demand.graph-numbers-cuttings b fixed laid ts nodes counts edges nodes′ counts′ edges′ made generates .cuttings refl free joined)
 
   module _ (m : List ℕ) (two : length m ≡ 2) (below : value m < n) (out answerM out′ answerM′ : List ℕ) (r : ℕ)
       (long : length (listFor (value m)) ≤ length out) (one : 1 ≤ length answerM) (call : Call m out answerM out′ answerM′ r) where
     gives : tilingByNumber (resultIn (take 4 graphAnswer′)) (length nodes′) counts′ edges′ (value m) (length out) ≡ given (listFor (value m))
     gives =
         tiling-given (resultIn (take 4 graphAnswer′)) (length nodes′) counts′ edges′ (value m) (length out)
-        (own-graph-is-sound b fixed laid ts nodes counts edges nodes′ counts′ edges′ made generates refl)
-        (subst (λ (k : ℕ). value m < k) (sym n-from-graph) below) long
+        sound (subst (λ (k : ℕ). value m < k) (sym n-from-graph) below) long
 
     shape : tilingShape (take 4 graphAnswer′) (length m) (length answerM) ≡ 0
     shape =
@@ -183,31 +188,21 @@ module _ (width height : ℕ) (marks tiles : List ℕ) (small : Small marks) (fr
       words = list-words (length nodes′) counts′ edges′ (take 4 graphAnswer′) m out answerM out′ answerM′ r call shape one (listFor (value m)) gives;
     }
 
-    same-list : Demand.cuttingIn b fixed laid ts free joined boardsA countsA boardsB countsB boardsA′ countsA′ boardsB′ countsB′ (K.Number n) counts-n
-        nodes counts edges nodes′ counts′ edges′ made generates n refl refl out′ tiling ≡ markedPieces nodes′ (take (getD answerM′ 0 0) out′)
-    unfolding valueOr
-    same-list =
-        ap (λ (k : ℕ). markedPieces nodes′ (take k out′))
-        (sym (list-number (length nodes′) counts′ edges′ (take 4 graphAnswer′) m out answerM out′ answerM′ r call shape one (listFor (value m)) gives))
-
     -- it is not refused,
     pub call-returns : r ≡ 0
     call-returns = list-returned (length nodes′) counts′ edges′ (take 4 graphAnswer′) m out answerM out′ answerM′ r call shape one (listFor (value m)) gives
 
     -- gives the list of 01's walk,
     pub call-walk : take (getD answerM′ 0 0) out′ ≡ listFor (value m)
-    unfolding valueOr
     call-walk =
         ap (λ (k : ℕ). take k out′) (list-number (length nodes′) counts′ edges′ (take 4 graphAnswer′) m out answerM out′ answerM′ r call shape one (listFor (value m)) gives)
-        ∙ Demand.by-the-walk b fixed laid ts free joined boardsA countsA boardsB countsB boardsA′ countsA′ boardsB′ countsB′ (K.Number n) counts-n
-        nodes counts edges nodes′ counts′ edges′ made generates n refl refl (value m) below out out′ tiling long numbered-call
+        ∙ list-read (resultIn (take 4 graphAnswer′)) nodes′ counts′ edges′ (value m) out out′ tiling numbered-call sound
+        (subst (λ (k : ℕ). value m < k) (sym n-from-graph) below) long .1
 
     -- and gives a cutting
     pub call-cutting : IsCutting (boardOf b) (pathsIn ts) (markedPieces nodes′ (take (getD answerM′ 0 0) out′))
     call-cutting =
-        subst (IsCutting (boardOf b) (pathsIn ts)) same-list
-        (Demand.gives-a-cutting b fixed laid ts free joined boardsA countsA boardsB countsB boardsA′ countsA′ boardsB′ countsB′ (K.Number n) counts-n
-        nodes counts edges nodes′ counts′ edges′ made generates n refl refl (value m) below out out′ tiling long numbered-call)
+        subst (λ (list : List ℕ). IsCutting (boardOf b) (pathsIn ts) (markedPieces nodes′ list)) (sym call-walk) (numbering .each (value m) below)
 
   pub calls-differ : (m k : List ℕ) → length m ≡ 2 → length k ≡ 2 → value m < n → value k < n
       → (outM answerM outM′ answerM′ outK answerK outK′ answerK′ : List ℕ) (r s : ℕ)
@@ -215,12 +210,10 @@ module _ (width height : ℕ) (marks tiles : List ℕ) (small : Small marks) (fr
       → Call m outM answerM outM′ answerM′ r → Call k outK answerK outK′ answerK′ s
       → markedPieces nodes′ (take (getD answerM′ 0 0) outM′) ≡ markedPieces nodes′ (take (getD answerK′ 0 0) outK′) → value m ≡ value k
   calls-differ m k two two′ below below′ outM answerM outM′ answerM′ outK answerK outK′ answerK′ r s room room′ one one′ call call′ e =
-      Demand.different-cuttings b fixed laid ts free joined boardsA countsA boardsB countsB boardsA′ countsA′ boardsB′ countsB′ (K.Number n) counts-n
-      nodes counts edges nodes′ counts′ edges′ made generates n refl refl (value m) (value k) below below′
-      outM outM′ (T.Length (length (listFor (value m)))) outK outK′ (T.Length (length (listFor (value k))))
-      room room′
-      (numbered-call m two below outM answerM outM′ answerM′ r room one call) (numbered-call k two′ below′ outK answerK outK′ answerK′ s room′ one′ call′)
-      (same-list m two below outM answerM outM′ answerM′ r room one call ∙ e ∙ sym (same-list k two′ below′ outK answerK outK′ answerK′ s room′ one′ call′))
+      numbering .once (value m) (value k) below below′
+      (ap (markedPieces nodes′) (sym (call-walk m two below outM answerM outM′ answerM′ r room one call))
+      ∙ e
+      ∙ ap (markedPieces nodes′) (call-walk k two′ below′ outK answerK outK′ answerK′ s room′ one′ call′))
 
   -- every cutting has its number, two words
   pub calls-all : (X : ℕ → Bool) → IsCutting (boardOf b) (pathsIn ts) X
@@ -228,19 +221,16 @@ module _ (width height : ℕ) (marks tiles : List ℕ) (small : Small marks) (fr
       → length (listFor (value m)) ≤ length out → 1 ≤ length answerM → Call m out answerM out′ answerM′ r
       → markedPieces nodes′ (take (getD answerM′ 0 0) out′) ≡ X)
   calls-all X cutting =
-      let a = Demand.every-cutting-has-its-number b fixed laid ts free joined boardsA countsA boardsB countsB boardsA′ countsA′ boardsB′ countsB′ (K.Number n) counts-n
-      nodes counts edges nodes′ counts′ edges′ made generates n refl refl X cutting
-      in
-      let m : List ℕ = a .0 ∷ 0 ∷ [] in
-      let below : value m < n = subst (λ (k : ℕ). k < n) (sym (value-low (a .0))) (a .1) in (
+      let a = numbering .all X cutting in
+      let m : List ℕ = wordsBelow 2 (a .0) in
+      let is : value m ≡ a .0 = value-two (a .0) (lt-trans (a .1) (n-small width height marks tiles small boardsA countsA boardsB countsB answer boardsA′ countsA′ boardsB′ countsB′ answer′ countTold)) in
+      let below : value m < n = subst (λ (k : ℕ). k < n) (sym is) (a .1) in (
         m,
-        refl,
-        low-small (a .0) n (a .1) (n-small width height marks tiles small boardsA countsA boardsB countsB answer boardsA′ countsA′ boardsB′ countsB′ answer′ countTold),
+        two-words (a .0),
+        two-small (a .0),
         below,
         λ out answerM out′ answerM′ r room one call.
-            sym (same-list m refl below out answerM out′ answerM′ r room one call)
-            ∙ a .2 out out′ (T.Length (length (listFor (value m))))
-            (subst (λ (k : ℕ). length (listFor k) ≤ length out) (value-low (a .0)) room)
-            (subst (λ (k : ℕ). GivesTiling (resultIn (take 4 graphAnswer′)) nodes′ counts′ edges′ k out out′ (T.Length (length (listFor (value m))))) (value-low (a .0))
-            (numbered-call m refl below out answerM out′ answerM′ r room one call)),
+            ap (markedPieces nodes′) (call-walk m (two-words (a .0)) below out answerM out′ answerM′ r room one call)
+            ∙ ap (λ (k : ℕ). markedPieces nodes′ (listFor k)) is
+            ∙ a .2,
       )

@@ -10,21 +10,26 @@ use lib.ListN.{length, replicate, take}
 use Rattle.refusal.specs.Refusal.{Answer, refused, given, mapAnswer, refusalOf, valueOr}
 use Rattle.direction.specs.Direction.{step, rotate, reflect}
 use Rattle.tile.specs.Path.{cellCount}
-use Rattle.tile.specs.Stored.{pathsIn}
+use Rattle.tiles.specs.Stored.{pathsIn}
 use Rattle.tile.specs.EdgeTest.{edgeJoined, edgeJoined-iff}
-use Rattle.board.specs.Board.{boardOf, isFree, freeCount}
+use Rattle.board.specs.Board.{boardOf}
+use Rattle.rectangle.specs.Board.{isFree}
 use Rattle.covers.specs.Cuttings.{Exactly}
 use Rattle.graph.specs.Rooms.{layerRoom}
+use Rattle.path_count.specs.PathCounts.{countsFor}
 use Rattle.graph.specs.Graph.{numbersFor, edgesFor}
 use Rattle.cells.specs.Lists.{wordsFor}
 use Rattle.cells.specs.Arrays.{listOf}
 use Rattle.cells.specs.Words.{number, value, wordsBelow, Small}
-use Rattle.tiler.specs.Counting.{Graph}
-use Rattle.tiler.specs.Cuttings.{IsCutting, HasFreeCell, AllEdgeJoined}
+use Rattle.tiler.specs.Graphs.{Graph}
+use Rattle.expansion.specs.Cuttings.{IsCutting, HasFreeCell, AllEdgeJoined}
 use Rattle.known_plots.specs.KnownPlots.{map-at}
 use Rattle.plot_file.specs.PlotFile.{Plot, noPlot}
-use Rattle.exports.specs.Layout.{boardIn, boardWords, tilesIn, bytesFor, resultWords}
-use Rattle.exports.specs.Calls.{placed, counted, AnswersCount, generated, AnswersGraph, searched, numbered, orbitFor, readFile, AnswersPlot}
+use Rattle.host_words.specs.Layout.{boardIn, boardWords, resultWords}
+use Rattle.host_tiles.specs.TileBytes.{tilesIn, bytesFor}
+use Rattle.host_plots.specs.Calls.{placed, orbitFor, readFile, AnswersPlot}
+use Rattle.host_counts.specs.Calls.{counted, AnswersCount, generated, AnswersGraph}
+use Rattle.host_tilings.specs.Calls.{searched, numbered}
 use Rattle.hosts.specs.RefusedLaws.{zero-at}
 use Rattle.hosts.specs.HandedOnLaws.{words-given}
 use Rattle.hosts.specs.Theorems.{read-plot-returns, countTold, cuttingLeft, NumberedCall, number-of-cuttings, gives-a-cutting}
@@ -137,8 +142,8 @@ edgeWords = 0 ∷ 1 ∷ 0 ∷ 2 ∷ 1 ∷ 3 ∷ 2 ∷ 3 ∷ []
 abbrev result : List ℕ
 result = 4 ∷ 4 ∷ 1 ∷ 3 ∷ []
 
-graph-words : (wordsFor (twoByTwo .nodes) 16 ≡ nodeWords) × (numbersFor (twoByTwo .counts) 4 ≡ countWords) × (edgesFor (twoByTwo .edges) 8 ≡ edgeWords)
-unfolding wordsFor numbersFor edgesFor
+graph-words : (wordsFor (twoByTwo .nodes) 16 ≡ nodeWords) × (countsFor (twoByTwo .counts) 4 ≡ countWords) × (edgesFor (twoByTwo .edges) 8 ≡ edgeWords)
+unfolding wordsFor countsFor edgesFor
 graph-words = (refl, refl, refl)
 
 result-four-words : numbersFor (resultWords 4 4 (some 3)) 4 ≡ result
@@ -221,7 +226,7 @@ count-call =
     record { answered = record { number = refl; words = refl }; zeroBoardsA = refl; zeroCountsA = refl; zeroBoardsB = refl; zeroCountsB = refl }
 
 graph-call : AnswersGraph (generated 2 2 noMarks dominoes 16 4 8 4) (lent 16) (lent 4) (lent 8) (lent 4) nodeWords countWords edgeWords result 0
-unfolding refusalOf mapAnswer valueOr wordsFor numbersFor edgesFor resultWords
+unfolding refusalOf mapAnswer valueOr wordsFor numbersFor countsFor edgesFor resultWords
 graph-call =
     subst (λ (a : Answer Graph). AnswersGraph a (lent 16) (lent 4) (lent 8) (lent 4) nodeWords countWords edgeWords result 0) (sym its-graph)
     record { answered = record { number = refl; words = refl }; nodesLeft = refl; countsLeft = refl; edgesLeft = refl }

@@ -1,7 +1,6 @@
 -- Laws of calls that returned 0: what the call below gave, that the shapes were right, and what stands in the words; and so what another call that is handed
 -- those words reads from them. Rests on `ReturnLaws` and `ReadBackLaws`. Assumes nothing.
 use mathlib.Core.Path.{_≡_, refl, sym, ap, _∙_, subst}
-use mathlib.Core.Bool.{So}
 use mathlib.Core.List.{List, [], _∷_}
 use Prim.Native.Nat.{ℕ, _*_, _%_, _^_, _≤_, _<_}
 use native.Mathlib.Omega.{arith}
@@ -11,25 +10,34 @@ use Rattle.cells.specs.Words.{wordsBelow}
 use Rattle.cells.specs.Lists.{wordsFor}
 use Rattle.refusal.specs.declared.Verdict.the-variants as Verdicts
 use Rattle.refusal.specs.Refusal.{Answer, given, mapAnswer, refusalOf, valueOr}
-use Rattle.refusal.specs.RefusalLaws.{given-inj, map-given}
-use Rattle.tile.specs.declared.Tile.{Tile}
-use Rattle.tile.specs.Path.{Path, codesOk, orbit}
-use Rattle.tile.specs.Stored.{pathIn, readTile, readTiles}
-use Rattle.tile.specs.StoredLaws.{readTile-accepted, readTile-given, length-pathIn, readTiles-orbit}
-use Rattle.tile.specs.OrbitLaws.{orbit-length-le}
+use Rattle.refusal.specs.RefusalLaws.{map-given}
+use Rattle.tile.specs.Path.{Path}
+use Rattle.tiles.specs.Paths.{orbit}
+use Rattle.tile.specs.Stored.{readTile}
+use Rattle.tiles.specs.Stored.{readTiles}
+use Rattle.tiles.specs.StoredLaws.{readTiles-orbit}
+use Rattle.tiles.specs.OrbitLaws.{orbit-length-le}
 use Rattle.board.specs.Board.{readBoard}
+use Rattle.path_count.specs.PathCounts.{countsFor}
 use Rattle.graph.specs.Graph.{numbersFor, edgesFor}
 use Rattle.graph.specs.GraphLaws.{length-numbersFor}
 use Rattle.graph.specs.Rooms.{layerRoom}
-use Rattle.graph.specs.Tilings.{completeNode}
-use Rattle.tiler.specs.declared.Count.the-variants as K
+use Rattle.graph.specs.Result.{completeNode}
+use Rattle.layers.specs.LayerCounts.{countTilings}
 use Rattle.tiler.specs.declared.MadeGraph.{MadeGraph}
-use Rattle.tiler.specs.Counting.{Graph, noGraph, countTilings, CountsTilings, generateGraph, GeneratesGraph}
+use Rattle.tiler.specs.Graphs.{Graph, noGraph, generateGraph, GeneratesGraph}
 use Rattle.plot_file.specs.PlotFile.{Plot, noPlot, plotIn}
 use Rattle.plot_file.specs.Theorems.{accepted-plot, accepted-fixed}
-use Rattle.exports.specs.Layout.{boardIn, boardWords, tileIn, tilesIn, bytesFor, resultIn, resultWords, plotShape, tilingShape, orbitShape, fileShape}
-use Rattle.exports.specs.Calls.{AnswersWords, counted, AnswersCount, generated, AnswersGraph, orbitFor, AnswersTiles, readFile, AnswersPlot}
-use Rattle.hosts.specs.ReturnLaws.{zero-given, unless-given, plot-shape, plot-right, tiling-shape, orbit-shape, file-shape, counted-refuses, generated-refuses, orbitFor-refuses, read-refuses}
+use Rattle.host_words.specs.Layout.{boardIn, boardWords, resultIn, resultWords, plotShape}
+use Rattle.host_words.specs.Answers.{AnswersWords}
+use Rattle.host_words.specs.LayoutLaws.{plot-right}
+use Rattle.host_tiles.specs.TileBytes.{tileIn, tilesIn, bytesFor}
+use Rattle.host_plots.specs.Calls.{orbitShape, fileShape, orbitFor, AnswersTiles, readFile, AnswersPlot}
+use Rattle.host_plots.specs.CallLaws.{read-path}
+use Rattle.host_counts.specs.Calls.{counted, AnswersCount, generated, AnswersGraph}
+use Rattle.host_tilings.specs.Calls.{tilingShape}
+use Rattle.host_tilings.specs.CallLaws.{tiling-right}
+use Rattle.hosts.specs.ReturnLaws.{zero-given, unless-given, plot-shape, orbit-shape, file-shape, counted-refuses, generated-refuses, orbitFor-refuses, read-refuses}
 use Rattle.hosts.specs.ReadBackLaws.{number-at, board-back, tiles-stored, tiles-back, bytes-length, result-left, result-nodes, result-edges, result-length, result-complete, result-flag}
 
 -- the words of a value
@@ -38,13 +46,6 @@ unfolding mapAnswer valueOr
 words-given {A} f a x old new r e t = t .words ∙ ap (λ (y : Answer A). numbersFor (valueOr [] (mapAnswer f y)) (length old)) e
 
 -- ---- `cuttings_orbit`
-
-read-path : (t : Tile) (p : Path) → readTile t ≡ given p → (length p ≤ 32) × So (codesOk p)
-unfolding refusalOf
-read-path t p e =
-    let ok = readTile-accepted t (sym (ap refusalOf e)) in
-    let is : p ≡ pathIn t = given-inj p (pathIn t) (sym e ∙ readTile-given t (ok .0) (ok .1)) in
-    (subst (λ (q : Path). length q ≤ 32) (sym is) (omega (arith, length-pathIn t, ok .0)), subst (λ (q : Path). So (codesOk q)) (sym is) (ok .1))
 
 module _ (tile tiles answer tiles′ answer′ : List ℕ) (told : AnswersTiles (orbitFor tile (length tiles) (length answer)) tiles answer tiles′ answer′ 0) where
   tiles-told : (ps : List Path) × (orbitFor tile (length tiles) (length answer) ≡ given ps)
@@ -137,7 +138,7 @@ module _ (file board tiles answer board′ tiles′ answer′ : List ℕ)
 
   pub plot-shapes : (needed words : ℕ) → needed ≤ words → plotShape needed (length (take 8 (drop 2 board′))) (length (take (33 * getD answer′ 0 0) tiles′)) words ≡ 0
   plot-shapes needed words h =
-      plot-right needed (length (take 8 (drop 2 board′))) (length (take (33 * getD answer′ 0 0) tiles′)) words (plot-shaped .0) (whole (getD answer′ 0 0) _ (plot-shaped .1)) h
+      sym (plot-right needed (length (take 8 (drop 2 board′))) (length (take (33 * getD answer′ 0 0) tiles′)) words (plot-shaped .0) (whole (getD answer′ 0 0) _ (plot-shaped .1)) h)
     where
       whole : (k n : ℕ) → n ≡ 33 * k → n % 33 ≡ 0
       whole k n e = omega arith
@@ -164,17 +165,6 @@ module _ (width height : ℕ) (marks tiles boardsA countsA boardsB countsB answe
       plot-shape 2 (length marks) (length tiles) (length answer) (count-parts .0) .2,
       words-given (wordsBelow 2) (counted width height marks tiles room (length answer)) (count-told .0) answer answer′ 0 (count-told .1) (told .answered),
     )
-
-    -- what `count_tilings` answers and leaves
-    pub count-below : (n : ℕ) → countTilings (boardIn width height marks) (tilesIn tiles) room ≡ given n
-        → CountsTilings (boardIn width height marks) (tilesIn tiles) boardsA countsA boardsB countsB boardsA′ countsA′ boardsB′ countsB′ (K.Number n)
-    count-below n e = record {
-      answer = sym e;
-      zeroBoardsA = told .zeroBoardsA;
-      zeroCountsA = told .zeroCountsA;
-      zeroBoardsB = told .zeroBoardsB;
-      zeroCountsB = told .zeroCountsB;
-    }
 
 -- ---- `cuttings_generate_graph`
 
@@ -223,8 +213,8 @@ module _ (width height : ℕ) (marks tiles nodes counts edges answer nodes′ co
     ap (λ (ws : List ℕ). completeNode (resultIn ws .complete)) words-left ∙ result-complete (length (graph .nodes)) (length (graph .edges)) (graph .complete),
     λ words h.
         ap (λ (ws : List ℕ). tilingShape ws 2 words) words-left
-        ∙ tiling-shape (resultOf graph) 2 words (result-length (length (graph .nodes)) (length (graph .edges)) (graph .complete))
-        (result-flag (length (graph .nodes)) (length (graph .edges)) (graph .complete)) refl h,
+        ∙ sym (tiling-right (resultOf graph) 2 words (result-length (length (graph .nodes)) (length (graph .edges)) (graph .complete))
+        (result-flag (length (graph .nodes)) (length (graph .edges)) (graph .complete)) refl h),
   )
 
   -- what `generate_graph` answers and leaves
@@ -238,6 +228,6 @@ module _ (width height : ℕ) (marks tiles nodes counts edges answer nodes′ co
         edgeNumber = result-read .3 ∙ sym (ap (λ (a : Answer Graph). length (valueOr noGraph a .edges)) e);
         complete = result-read .4 ∙ sym (ap (λ (a : Answer Graph). valueOr noGraph a .complete) e);
         nodes = told .nodesLeft ∙ ap (λ (a : Answer Graph). wordsFor (valueOr noGraph a .nodes) (length nodes)) same;
-        counts = told .countsLeft ∙ ap (λ (a : Answer Graph). numbersFor (valueOr noGraph a .counts) (length counts)) same;
+        counts = told .countsLeft ∙ ap (λ (a : Answer Graph). countsFor (valueOr noGraph a .counts) (length counts)) same;
         edges = told .edgesLeft ∙ ap (λ (a : Answer Graph). edgesFor (valueOr noGraph a .edges) (length edges)) same;
       }

@@ -2,32 +2,36 @@
 -- count's two words. Rests on cells' `WordLaws` and `ArrayLaws`, tile's `StoredLaws` and graph's `GraphLaws`. Assumes nothing.
 use mathlib.Core.Path.{_≡_, refl, sym, ap, ap₂, _∙_, subst}
 use mathlib.Core.Bool.{Bool, true, false, cond}
-use mathlib.Core.List.{List, [], _∷_}
+use mathlib.Core.List.{List, []}
 use mathlib.Core.Option.{Option, none, some}
-use Prim.Native.Nat.{ℕ, _+_, _-_, _*_, _/_, _%_, _^_, _≤_, _<_}
+use Prim.Native.Nat.{ℕ, zero, suc, _+_, _-_, _*_, _/_, _%_, _^_, _≤_, _<_}
+use native.Mathlib.Nat.{lt-of-lt-of-le}
 use native.Mathlib.Decide.{decLt}
 use native.Mathlib.Omega.{arith}
-use lib.Dec.{eqb, lit<}
+use lib.Dec.{eqb, lit<, lit≤}
 use lib.ListN.{length, getD, take, drop, List·getD-eq-default}
 use lib.Seq.{getD-take, getD-drop, length-take-le}
 use borrow.Author.Tests.{ne-eqb}
 use Rattle.cells.specs.declared.Cells.{Cells}
-use Rattle.cells.specs.Words.{value, wordsBelow, wordsOf, number}
-use Rattle.cells.specs.WordLaws.{value-wordsOf}
+use Rattle.cells.specs.Words.{value, wordsBelow, wordsOf, Small, number}
+use Rattle.cells.specs.WordLaws.{value-wordsBelow, value-wordsOf}
 use Rattle.cells.specs.Arrays.{listOf}
 use Rattle.cells.specs.ArrayLaws.{length-listOf, getD-listOf, listOf-ext}
 use Rattle.tile.specs.Path.{Path}
-use Rattle.tile.specs.Stored.{Storable, readTiles, tilesOf}
-use Rattle.tile.specs.StoredLaws.{readTiles-tilesOf}
+use Rattle.tiles.specs.Stored.{Storable, readTiles, tilesOf}
+use Rattle.tiles.specs.StoredLaws.{readTiles-tilesOf}
 use Rattle.refusal.specs.Refusal.{given}
 use Rattle.board.specs.declared.RectangularBoard.{RectangularBoard}
-use Rattle.board.specs.Board.{Board, boardOf, valid, readBoard}
+use Rattle.rectangle.specs.Board.{Board, valid}
+use Rattle.board.specs.Board.{boardOf, readBoard}
 use Rattle.board.specs.BoardLaws.{readBoard-given}
 use Rattle.covers.specs.Counts.{atNode}
+use Rattle.path_count.specs.PathCounts.{countLimit}
 use Rattle.graph.specs.Graph.{numbersFor}
 use Rattle.graph.specs.GraphLaws.{take-numbersFor}
-use Rattle.graph.specs.Tilings.{completeNode}
-use Rattle.exports.specs.Layout.{boardIn, boardWords, tilesIn, byteOf, bytesFor, completeIn, resultIn, hasNode, resultWords}
+use Rattle.graph.specs.Result.{completeNode}
+use Rattle.host_words.specs.Layout.{boardIn, boardWords, completeIn, resultIn, hasNode, resultWords}
+use Rattle.host_tiles.specs.TileBytes.{tilesIn, byteOf, bytesFor}
 
 -- ---- words in order
 
@@ -208,23 +212,27 @@ result-flag nodes edges complete = flag-small complete
 
 -- ---- a count
 
-two-words : (n : ℕ) → length (wordsBelow 2 n) ≡ 2
+pub two-words : (n : ℕ) → length (wordsBelow 2 n) ≡ 2
 unfolding wordsBelow
 two-words n = refl
 
-pub value-two : (n : ℕ) → n < 2 ^ 64 → value (wordsBelow 2 n) ≡ n
-unfolding value wordsBelow
-value-two n h = let q : n / 2 ^ 64 ≡ 0 = omega arith in let m : n % 2 ^ 64 ≡ n = omega arith in let z : (n / 2 ^ 64) % 2 ^ 64 ≡ 0 = omega arith in rw (z, m) (omega arith)
+word-below : (n : ℕ) → n % 2 ^ 64 < 2 ^ 64
+word-below n = omega arith
 
--- the two words of a count that has 64 bits are read as the count
-pub count-back : (n count : ℕ) → n < 2 ^ 64 → 2 ≤ count → (ws : List ℕ) → ws ≡ numbersFor (wordsBelow 2 n) count → value (take 2 ws) ≡ n
+-- each of 64 bits
+pub two-small : (n : ℕ) → Small (wordsBelow 2 n)
+unfolding wordsBelow
+two-small n zero = word-below n
+two-small n (suc zero) = word-below (n / 2 ^ 64)
+two-small n (suc (suc i)) = lit< tt
+
+pub value-two : (n : ℕ) → n < countLimit → value (wordsBelow 2 n) ≡ n
+value-two n h = value-wordsBelow 2 n (lt-of-lt-of-le h (lit≤ tt))
+
+-- the two words of a count are read as the count
+pub count-back : (n count : ℕ) → n < countLimit → 2 ≤ count → (ws : List ℕ) → ws ≡ numbersFor (wordsBelow 2 n) count → value (take 2 ws) ≡ n
 count-back n count h l ws e =
     ap value
     (ap (take 2) e
     ∙ subst (λ (k : ℕ). take k (numbersFor (wordsBelow 2 n) count) ≡ wordsBelow 2 n) (two-words n) (take-numbersFor (wordsBelow 2 n) count (subst (λ (k : ℕ). k ≤ count) (sym (two-words n)) l)))
     ∙ value-two n h
-
--- a number of 64 bits and a high word 0
-pub value-low : (n : ℕ) → value (n ∷ 0 ∷ []) ≡ n
-unfolding value
-value-low n = omega arith

@@ -1,21 +1,24 @@
--- Laws of calls that returned a refusal's number: every lent word and byte is zero. Rests on `ReturnLaws`, `ReadBackLaws` and cells' `ArrayLaws`. Assumes
--- nothing.
+-- Laws of calls that returned a refusal's number: every lent word and byte is zero. Rests on `ReturnLaws`, `ReadBackLaws`, cells' `ArrayLaws`
+-- and `ListLaws`, and path_count's `PathCountLaws`. Assumes nothing.
 use mathlib.Core.Path.{_≡_, refl, sym, ap, _∙_, subst}
 use mathlib.Core.Bool.{Bool, true, false, cond}
 use mathlib.Core.List.{List, []}
 use Prim.Native.Nat.{ℕ, zero, suc, _/_, _%_, _<_}
 use native.Mathlib.Omega.{arith}
 use lib.Dec.{eqb}
-use lib.ListN.{length, getD, replicate}
+use lib.ListN.{length, getD, replicate, length-replicate}
 use Rattle.cells.specs.Arrays.{listOf}
 use Rattle.cells.specs.ArrayLaws.{listOf-ext, replicate-listOf}
 use Rattle.cells.specs.Lists.{wordsFor, wordAt}
-use Rattle.cells.specs.ListLaws.{wordAt-past}
+use Rattle.cells.specs.ListLaws.{wordAt-past, cleared-all}
 use Rattle.refusal.specs.Refusal.{Answer, refused, given, mapAnswer, refusalOf, valueOr}
-use Rattle.board.specs.Board.{noBoard}
+use Rattle.rectangle.specs.Board.{noBoard}
+use Rattle.path_count.specs.PathCounts.{countsFor}
+use Rattle.path_count.specs.PathCountLaws.{cleared-countsFor}
 use Rattle.graph.specs.Graph.{numbersFor, edgeWord, edgesFor}
-use Rattle.exports.specs.Layout.{boardWords, byteOf, bytesFor}
-use Rattle.exports.specs.Calls.{AnswersWords}
+use Rattle.host_words.specs.Layout.{boardWords}
+use Rattle.host_words.specs.Answers.{AnswersWords}
+use Rattle.host_tiles.specs.TileBytes.{byteOf, bytesFor}
 use Rattle.hosts.specs.ReturnLaws.{map-number}
 use Rattle.hosts.specs.ReadBackLaws.{byte-past}
 
@@ -31,6 +34,15 @@ no-numbers n = zeros (λ k. getD [] k 0) n (λ k. refl)
 pub no-sets : (n : ℕ) → wordsFor [] n ≡ replicate n 0
 unfolding wordsFor
 no-sets n = zeros (wordAt []) n (λ k. wordAt-past [] k (omega arith))
+
+pub no-counts : (n : ℕ) → countsFor [] n ≡ replicate n 0
+no-counts n =
+    let long : length (replicate {A = ℕ} n 0) ≡ n = length-replicate n 0 in
+    ap (countsFor []) (sym long)
+    ∙ sym (cleared-countsFor (replicate n 0))
+    ∙ cleared-all (replicate n 0)
+    ∙ no-sets (length (replicate {A = ℕ} n 0))
+    ∙ ap (λ (k : ℕ). replicate k 0) long
 
 pub no-edges : (n : ℕ) → edgesFor [] n ≡ replicate n 0
 unfolding edgesFor edgeWord

@@ -1,5 +1,5 @@
 -- Laws of the number that is returned: it is 0 exactly if the answer is a value, since no definition refuses by 0; and then the shapes are right. Rests on
--- refusal's `RefusalLaws` and plot_file's `Theorems`. Assumes nothing.
+-- refusal's `RefusalLaws`, tile's `StoredLaws` and plot_file's `Theorems`. Assumes nothing.
 use mathlib.Core.Path.{_≡_, refl, sym, ap, _∙_}
 use mathlib.Core.Logic.{_↔_}
 use mathlib.Core.Bool.{Bool, true, false, cond, _&&_}
@@ -7,31 +7,43 @@ use mathlib.Core.List.{List}
 use Prim.Native.Nat.{ℕ, zero, suc, _+_, _/_, _%_, _≤_, _<_}
 use native.Mathlib.Omega.{arith}
 use lib.Dec.{eqb, leb, ltb, lit<}
-use lib.ListN.{length, getD}
-use borrow.Author.Tests.{eq-eqb, eqb-true, eqb-false, leb-true, le-leb}
+use lib.ListN.{length}
+use borrow.Author.Tests.{eqb-true, eqb-false, leb-true}
 use Rattle.cells.specs.Words.{value}
 use Rattle.refusal.specs.Refusal.{Answer, refused, given, mapAnswer, refusalOf}
 use Rattle.refusal.specs.RefusalLaws.{refused-given}
 use Rattle.tile.specs.declared.Tile.{Tile}
-use Rattle.tile.specs.declared.Tiles.{Tiles}
-use Rattle.tile.specs.Path.{Path, codesOk, equalCounts, orbit}
-use Rattle.tile.specs.Stored.{pathIn, pathsIn, soundAt, readTile, readTiles, readEqualTiles}
+use Rattle.tiles.specs.declared.Tiles.{Tiles}
+use Rattle.tile.specs.Path.{Path}
+use Rattle.tiles.specs.Paths.{equalCounts, orbit}
+use Rattle.tile.specs.Stored.{readTile}
+use Rattle.tile.specs.StoredLaws.{readTile-refuses}
+use Rattle.tiles.specs.Stored.{pathsIn, soundAt, readTiles, readEqualTiles}
 use Rattle.cells.specs.Arrays.{allBelow}
 use Rattle.board.specs.declared.RectangularBoard.{RectangularBoard}
-use Rattle.board.specs.Board.{boardOf, marks as marksOf, valid, freeCount, readBoard}
-use Rattle.board.specs.Children.{children, childrenOf, placeTile}
+use Rattle.board.specs.Board.{boardOf, readBoard}
+use Rattle.rectangle.specs.Board.{Board, marks as marksOf, valid, acceptBoard, freeCount}
+use Rattle.children.specs.Children.{children, childrenOf, placeTile}
 use Rattle.covers.specs.Cuttings.{Setting}
 use Rattle.covers.specs.Counts.{Entry, counts, layerOf, layerCount}
 use Rattle.graph.specs.declared.GraphResult.{GraphResult}
 use Rattle.graph.specs.Rooms.{nodeRoom, edgeRoom}
-use Rattle.graph.specs.Tilings.{completeNode, badGraph, countFromGraph, nodeList, tilingByNumber}
-use Rattle.tiler.specs.Boards.{setting}
-use Rattle.tiler.specs.Counting.{Graph, tooLarge, readPlot, judgeLayer, judgeLayers, layersAnswer, countTilings, graphOf, judgeGraph, generateGraph}
+use Rattle.graph.specs.Result.{completeNode, countFromGraph}
+use Rattle.numbered_tilings.specs.Tilings.{badGraph, nodeList, tilingByNumber}
+use Rattle.expansion.specs.Boards.{setting}
+use Rattle.tiler.specs.Graphs.{Graph, graphOf, judgeGraph, generateGraph}
+use Rattle.layers.specs.LayerCounts.{tooLarge, judgeLayer, judgeLayers, layersAnswer, countTilings}
+use Rattle.expansion.specs.Plots.{readPlot}
 use Rattle.single_tiling.specs.SingleTiling.{readSearch}
 use Rattle.plot_file.specs.PlotFile.{plotIn}
 use Rattle.plot_file.specs.Theorems.{refusal-listed}
-use Rattle.exports.specs.Layout.{boardIn, tileIn, tilesIn, resultIn, unless, plotShape, tilingShape, orbitShape, fileShape}
-use Rattle.exports.specs.Calls.{AnswersWords, placed, counted, generated, searched, numbered, orbitFor, readFile}
+use Rattle.host_words.specs.Layout.{boardIn, resultIn, plotShape}
+use Rattle.host_words.specs.Answers.{unless, AnswersWords}
+use Rattle.host_words.specs.AnswerLaws.{unless-right}
+use Rattle.host_tiles.specs.TileBytes.{tileIn, tilesIn}
+use Rattle.host_plots.specs.Calls.{orbitShape, fileShape, placed, orbitFor, readFile}
+use Rattle.host_counts.specs.Calls.{counted, generated}
+use Rattle.host_tilings.specs.Calls.{tilingShape, searched, numbered}
 use Rattle.refusal.specs.RefusalLaws.{Refuses, refuses-one, refuses-none, refuses-cond, refuses-bind, refuses-map}
 
 -- ---- no definition refuses by 0
@@ -46,9 +58,13 @@ one k h = refuses-one Positive k h
 test : {A : Type 0} (t : Bool) (x : A) (k : ℕ) → 0 < k → Refuses Positive (cond t (given x) (refused k))
 test t x k h = refuses-cond Positive t (given x) (refused k) (refuses-none Positive x) (one k h)
 
+accept-refuses : (b : Board) → Refuses Positive (acceptBoard b)
+unfolding acceptBoard
+accept-refuses b = test (valid b) b 4 (lit< tt)
+
 board-refuses : (b : RectangularBoard) → Refuses Positive (readBoard b)
 unfolding readBoard
-board-refuses b = test (valid (boardOf b)) (boardOf b) 4 (lit< tt)
+board-refuses b = accept-refuses (boardOf b)
 
 tiles-refuses : (ts : Tiles) → Refuses Positive (readTiles ts)
 unfolding readTiles
@@ -59,11 +75,11 @@ equal-refuses : (ts : Tiles) → Refuses Positive (readEqualTiles ts)
 unfolding readEqualTiles
 equal-refuses ts = refuses-bind Positive (readTiles ts) _ (tiles-refuses ts) (λ paths. test (equalCounts paths) paths 7 (lit< tt))
 
-pub place-refuses : (b : RectangularBoard) (ts : Tiles) (room : ℕ) → Refuses Positive (placeTile b ts room)
+pub place-refuses : (b : Board) (ts : Tiles) (room : ℕ) → Refuses Positive (placeTile b ts room)
 unfolding placeTile childrenOf
 place-refuses b ts room =
     refuses-bind Positive (childrenOf b ts) _
-    (refuses-bind Positive (readBoard b) _ (board-refuses b) (λ board. refuses-map Positive (children board) (readTiles ts) (tiles-refuses ts)))
+    (refuses-bind Positive (acceptBoard b) _ (accept-refuses b) (λ board. refuses-map Positive (children board) (readTiles ts) (tiles-refuses ts)))
     (λ ns. test (leb (length ns) (room / 4)) ns 8 (lit< tt))
 
 plot-refuses : (b : RectangularBoard) (ts : Tiles) → Refuses Positive (readPlot b ts)
@@ -119,8 +135,7 @@ tiling-refuses r nodeWords counts edges m room =
     (test (leb (length (nodeList r counts edges m)) room) (nodeList r counts edges m) 8 (lit< tt)) (one 12 (lit< tt)))
 
 pub orbit-refuses : (t : Tile) → Refuses Positive (mapAnswer orbit (readTile t))
-unfolding readTile
-orbit-refuses t = refuses-map Positive orbit (readTile t) (test (leb (t .len) 32 && codesOk (pathIn t)) (pathIn t) 5 (lit< tt))
+orbit-refuses t = refuses-map Positive orbit (readTile t) (readTile-refuses t Positive (lit< tt))
 
 pub file-refuses : (file : List ℕ) → Refuses Positive (plotIn file)
 file-refuses file n e = refusal-listed file n e .0
@@ -142,11 +157,6 @@ unless-given {A} n a x e = go (eqb n 0) refl e
     go : (t : Bool) → eqb n 0 ≡ t → cond t a (refused n) ≡ given x → (n ≡ 0) × (a ≡ given x)
     go true q h = (eqb-true n 0 q, h)
     go false q h = absurd (refused-given n x h)
-
--- where the shapes are right, the call below answers
-pub unless-right : {A : Type 0} (n : ℕ) (a : Answer A) → n ≡ 0 → unless n a ≡ a
-unfolding unless
-unless-right n a e = rw (eq-eqb n 0 e)
 
 -- where something is given, it is what the call below gives
 pub unless-same : {A : Type 0} (n : ℕ) (a : Answer A) → ((x : A) × (unless n a ≡ given x)) → unless n a ≡ a
@@ -187,14 +197,6 @@ plot-shape needed marks tiles answer e = go (eqb marks 8) refl (eqb (tiles % 33)
     go true p false q u w h = absurd (omega (arith, h))
     go false p t q u w h = absurd (omega (arith, h))
 
-pub plot-right : (needed marks tiles answer : ℕ) → marks ≡ 8 → tiles % 33 ≡ 0 → needed ≤ answer → plotShape needed marks tiles answer ≡ 0
-unfolding plotShape
-plot-right needed marks tiles answer e f l = rw (eq-eqb marks 8 e, eq-eqb (tiles % 33) 0 f, le-leb needed answer l)
-
-pub tiling-shape : (graph : List ℕ) (m answer : ℕ) → length graph ≡ 4 → getD graph 2 0 ≤ 1 → m ≡ 2 → 1 ≤ answer → tilingShape graph m answer ≡ 0
-unfolding tilingShape
-tiling-shape graph m answer e l f a = rw (eq-eqb (length graph) 4 e, le-leb (getD graph 2 0) 1 l, eq-eqb m 2 f, le-leb 1 answer a)
-
 pub orbit-shape : (tile tiles answer : ℕ) → orbitShape tile tiles answer ≡ 0 → (tile ≡ 33) × (264 ≤ tiles) × (1 ≤ answer)
 unfolding orbitShape
 orbit-shape tile tiles answer e = go (eqb tile 33) refl (leb 264 tiles) refl (leb 1 answer) refl e
@@ -222,7 +224,7 @@ file-shape board tiles answer e = go (leb 10 board) refl (leb 2112 tiles) refl (
 module _ (width height : ℕ) (marks tiles : List ℕ) (words : ℕ) where
   pub placed-refuses : (room : ℕ) → Refuses Positive (placed width height marks tiles room words)
   unfolding placed
-  placed-refuses room = unless-refuses (plotShape 1 (length marks) (length tiles) words) _ (place-refuses (boardIn width height marks) (tilesIn tiles) room)
+  placed-refuses room = unless-refuses (plotShape 1 (length marks) (length tiles) words) _ (place-refuses (boardOf (boardIn width height marks)) (tilesIn tiles) room)
 
   pub counted-refuses : (room : ℕ) → Refuses Positive (counted width height marks tiles room words)
   unfolding counted

@@ -1,6 +1,6 @@
 -- What the exported functions mean for a host: the theorem page. When 0 is returned; that the answer is then that of the call below; that nothing is left
 -- after a refusal; what the words and bytes that one call leaves are to the next call; and demand 3, over the words that the C calls leave. What each
--- function returns and leaves, for every input, is said by the records of `Calls`, and each statement here is of calls of which they hold. What stands in
+-- function returns and leaves, for every input, is said by the records of `Calls` of `host_plots`, `host_counts` and `host_tilings`, and each statement here is of calls of which they hold. What stands in
 -- quotation marks is demand 3's. Rests on `ReturnLaws`, `RefusedLaws`, `HandedOnLaws` and `CuttingLaws`. Assumes nothing.
 use mathlib.Core.Path.{_≡_, refl, ap, _∙_}
 use mathlib.Core.Logic.{_↔_}
@@ -11,22 +11,31 @@ use lib.ListN.{length, getD, take, drop, replicate}
 use Rattle.cells.specs.Words.{Small, value}
 use Rattle.cells.specs.Lists.{wordsFor}
 use Rattle.refusal.specs.Refusal.{Answer, given, mapAnswer}
-use Rattle.tile.specs.Path.{Path, orbit}
-use Rattle.tile.specs.Stored.{pathsIn, readTile, readTiles}
-use Rattle.board.specs.Board.{Board, boardOf, freeCount, readBoard}
-use Rattle.board.specs.Children.{placeTile}
+use Rattle.tile.specs.Path.{Path}
+use Rattle.tiles.specs.Paths.{orbit}
+use Rattle.tiles.specs.Stored.{pathsIn, readTiles}
+use Rattle.tile.specs.Stored.{readTile}
+use Rattle.rectangle.specs.Board.{Board, freeCount}
+use Rattle.board.specs.Board.{boardOf, readBoard}
+use Rattle.children.specs.Children.{placeTile}
 use Rattle.covers.specs.Cuttings.{Exactly}
+use Rattle.path_count.specs.PathCounts.{countsFor}
 use Rattle.graph.specs.Graph.{numbersFor, edgesFor}
 use Rattle.graph.specs.Rooms.{layerRoom}
-use Rattle.graph.specs.Tilings.{completeNode, countFromGraph, nodeList, markedPieces, tilingByNumber}
-use Rattle.tiler.specs.Counting.{Graph, noGraph, countTilings, generateGraph}
-use Rattle.tiler.specs.Cuttings.{IsCutting, HasFreeCell, AllEdgeJoined}
+use Rattle.graph.specs.Result.{completeNode, countFromGraph, markedPieces}
+use Rattle.numbered_tilings.specs.Tilings.{nodeList, tilingByNumber}
+use Rattle.tiler.specs.Graphs.{Graph, noGraph, generateGraph}
+use Rattle.layers.specs.LayerCounts.{countTilings}
+use Rattle.expansion.specs.Cuttings.{IsCutting, HasFreeCell, AllEdgeJoined}
 use Rattle.single_tiling.specs.SingleTiling.{readSearch, boardsFound}
 use Rattle.plot_file.specs.PlotFile.{Plot, noPlot, plotIn}
-use Rattle.exports.specs.Layout.{boardIn, boardWords, tileIn, tilesIn, bytesFor, resultIn, plotShape, tilingShape, orbitShape, fileShape}
-use Rattle.exports.specs.Calls.{placed, AnswersChildren, counted, AnswersCount, generated, AnswersGraph, searched, AnswersSingle, numbered, AnswersList, orbitFor, AnswersTiles, readFile, AnswersPlot}
+use Rattle.host_words.specs.Layout.{boardIn, boardWords, resultIn, plotShape}
+use Rattle.host_tiles.specs.TileBytes.{tileIn, tilesIn, bytesFor}
+use Rattle.host_plots.specs.Calls.{orbitShape, fileShape, placed, AnswersChildren, orbitFor, AnswersTiles, readFile, AnswersPlot}
+use Rattle.host_counts.specs.Calls.{counted, AnswersCount, generated, AnswersGraph}
+use Rattle.host_tilings.specs.Calls.{tilingShape, searched, AnswersSingle, numbered, AnswersList}
 use Rattle.hosts.specs.ReturnLaws.{zero-given, unless-same, placed-refuses, counted-refuses, generated-refuses, searched-refuses, numbered-refuses, orbitFor-refuses, read-refuses}
-use Rattle.hosts.specs.RefusedLaws.{no-numbers, no-sets, no-edges, no-tiles, no-board, nothing-put, was-refused, words-zero, none-left}
+use Rattle.hosts.specs.RefusedLaws.{no-numbers, no-counts, no-sets, no-edges, no-tiles, no-board, nothing-put, was-refused, words-zero, none-left}
 use Rattle.hosts.specs.HandedOnLaws as HandedOn
 use Rattle.hosts.specs.CuttingLaws as Cutting
 
@@ -43,10 +52,10 @@ module _ (width height : ℕ) (marks tiles : List ℕ) where
 
   pub place-tile-below : (out answer out′ answer′ : List ℕ)
       → AnswersChildren (placed width height marks tiles (length out) (length answer)) out answer out′ answer′ 0
-      → placed width height marks tiles (length out) (length answer) ≡ placeTile (boardIn width height marks) (tilesIn tiles) (length out)
+      → placed width height marks tiles (length out) (length answer) ≡ placeTile (boardOf (boardIn width height marks)) (tilesIn tiles) (length out)
   unfolding placed
   place-tile-below out answer out′ answer′ told =
-      unless-same (plotShape 1 (length marks) (length tiles) (length answer)) (placeTile (boardIn width height marks) (tilesIn tiles) (length out))
+      unless-same (plotShape 1 (length marks) (length tiles) (length answer)) (placeTile (boardOf (boardIn width height marks)) (tilesIn tiles) (length out))
       (place-tile-returns out answer out′ answer′ 0 told .0 refl)
 
   -- `cuttings_count_tilings`: the layer count is given.
@@ -170,7 +179,7 @@ pub generate-graph-refused : (a : Answer Graph) (nodes counts edges answer nodes
 generate-graph-refused a nodes counts edges answer nodes′ counts′ edges′ answer′ r told h =
     let refuses = was-refused _ a answer answer′ r (told .answered) h in (
       none-left a refuses noGraph (λ g. wordsFor (g .nodes) (length nodes)) (told .nodesLeft) ∙ no-sets (length nodes),
-      none-left a refuses noGraph (λ g. numbersFor (g .counts) (length counts)) (told .countsLeft) ∙ no-numbers (length counts),
+      none-left a refuses noGraph (λ g. countsFor (g .counts) (length counts)) (told .countsLeft) ∙ no-counts (length counts),
       none-left a refuses noGraph (λ g. edgesFor (g .edges) (length edges)) (told .edgesLeft) ∙ no-edges (length edges),
       words-zero _ a answer answer′ r (told .answered) h,
     )

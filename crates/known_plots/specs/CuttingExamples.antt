@@ -13,34 +13,40 @@ use Rattle.cells.specs.Words.{number, Sound}
 use Rattle.cells.specs.Firsts.{holds}
 use Rattle.cells.specs.FirstsLaws.{mem-getD}
 use Rattle.cells.specs.Lists.{wordsFor}
-use Rattle.tile.specs.declared.Tiles.{Tiles}
+use Rattle.tiles.specs.declared.Tiles.{Tiles}
 use Rattle.refusal.specs.declared.Verdict.the-variants as Verdicts
 use Rattle.refusal.specs.Refusal.{Answer, given, mapAnswer, bindAnswer, valueOr, refusalOf}
 use Rattle.direction.specs.Direction.{step}
 use Rattle.tile.specs.Path.{Path, cellCount}
 use Rattle.tile.specs.EdgeTest.{edgeJoined, edgeJoined-iff}
-use Rattle.tile.specs.Stored.{pathsIn, tilesOf}
-use Rattle.tile.specs.EqualLaws.{readEqualTiles-given}
+use Rattle.tiles.specs.Stored.{pathsIn, tilesOf}
+use Rattle.tiles.specs.EqualLaws.{readEqualTiles-given}
 use Rattle.board.specs.declared.RectangularBoard.{RectangularBoard}
-use Rattle.board.specs.Board.{Board, boardOf, boardAt, marks, isFree, isFull, valid, newBoard}
+use Rattle.rectangle.specs.Board.{Board, boardAt, marks, isFree, isFull, valid}
+use Rattle.board.specs.Board.{boardOf, newBoard}
 use Rattle.covers.specs.Cuttings.{Exactly}
 use Rattle.covers.specs.Theorems.{number-unique, numbering-carried, full-has-one}
 use Rattle.graph.specs.declared.Complete.the-variants as N
-use Rattle.graph.specs.declared.Tiling.{Tiling}
-use Rattle.graph.specs.declared.Tiling.the-variants as T
+use Rattle.numbered_tilings.specs.declared.Tiling.{Tiling}
+use Rattle.numbered_tilings.specs.declared.Tiling.the-variants as T
 use Rattle.graph.specs.Rooms.{layerRoom, nodeRoom, edgeRoom, plotBoards, plotNodes, plotEdges}
+use Rattle.path_count.specs.declared.PathCount.{PathCount}
+use Rattle.path_count.specs.PathCounts.{countValue, countRoom, countsFor}
 use Rattle.graph.specs.Graph.{numbersFor, edgesFor}
-use Rattle.graph.specs.Tilings.{nodeList, markedPieces, tilingByNumber, tilingAnswer, GivesTiling}
-use Rattle.tiler.specs.declared.Count.the-variants as C
+use Rattle.numbered_tilings.specs.Tilings.{nodeList, tilingByNumber, tilingAnswer, GivesTiling}
+use Rattle.graph.specs.Result.{markedPieces}
+use Rattle.layers.specs.declared.Count.the-variants as C
 use Rattle.tiler.specs.declared.MadeGraph.{MadeGraph}
-use Rattle.tiler.specs.Counting.{readPlot, layersOf, countTilings, CountsTilings, Graph, graphFor, generateGraph, Makes, GeneratesGraph}
-use Rattle.tiler.specs.Cuttings.{IsCutting, HasFreeCell, AllEdgeJoined}
-use Rattle.tiler.specs.Boards.{setting}
-use Rattle.tiler.specs.SettingLaws.{setting-laws, start-ok}
-use Rattle.tiler.specs.CuttingLaws.{cutting-start}
-use Rattle.tiler.specs.NumberLaws.{count-cuttings}
+use Rattle.expansion.specs.Plots.{readPlot}
+use Rattle.layers.specs.LayerCounts.{layersOf, countTilings, countAnswer, CountsTilings}
+use Rattle.tiler.specs.Graphs.{Graph, graphFor, generateGraph, Makes, GeneratesGraph, countOfGraph}
+use Rattle.expansion.specs.Cuttings.{IsCutting, HasFreeCell, AllEdgeJoined}
+use Rattle.expansion.specs.Boards.{setting}
+use Rattle.expansion.specs.SettingLaws.{setting-laws, start-ok}
+use Rattle.expansion.specs.CuttingLaws.{cutting-start}
+use Rattle.layers.specs.CountLaws.{count-cuttings}
 use Rattle.tiler.specs.CuttingTheorems.{number-of-cuttings, gives-a-cutting, different-cuttings, every-cutting-has-its-number}
-use Rattle.known_plots.specs.KnownPlots.{Row, D as dominoes, slanted, rows, graphCountIn, map-at, known-tiles-read, known-plots-counted, fourByTwo, one-slanted-cutting}
+use Rattle.known_plots.specs.KnownPlots.{Row, D as dominoes, slanted, rows, map-at, known-tiles-read, known-plots-counted, fourByTwo, one-slanted-cutting}
 use Rattle.known_plots.specs.Examples.{board, full-start, full-start-graph, set, rectangle, dominoes-read, two-by-two-counted, two-by-two-given, no-marks}
 
 -- ---- 2 by 2 with dominoes meets the conditions
@@ -71,10 +77,18 @@ stored-joined = subst AllEdgeJoined stored-dominoes dominoes-joined
 abbrev lent : ℕ → List ℕ
 lent n = replicate n 0
 
+-- the path count 2
+abbrev two : PathCount
+two = record { word = 2 }
+
 -- with layers of two boards the count is 2
-counted : CountsTilings (rectangle 2 2) (tilesOf dominoes) (lent 8) (lent 2) (lent 8) (lent 2) (lent 8) (lent 2) (lent 8) (lent 2) (C.Number 2)
-unfolding layerRoom
+counted : CountsTilings (rectangle 2 2) (tilesOf dominoes) (lent 8) (lent 2) (lent 8) (lent 2) (lent 8) (lent 2) (lent 8) (lent 2) (C.Number two)
+unfolding layerRoom countRoom countValue
 counted = record { answer = sym two-by-two-counted; zeroBoardsA = refl; zeroCountsA = refl; zeroBoardsB = refl; zeroCountsB = refl }
+
+told : countAnswer (C.Number two) ≡ given 2
+unfolding countValue
+told = refl
 
 -- with words for four nodes and four edges there is the graph `twoByTwo`
 abbrev made : MadeGraph
@@ -90,7 +104,7 @@ abbrev edgeWords : List ℕ
 edgeWords = 0 ∷ 1 ∷ 0 ∷ 2 ∷ 1 ∷ 3 ∷ 2 ∷ 3 ∷ []
 
 generated : GeneratesGraph (rectangle 2 2) (tilesOf dominoes) (lent 16) (lent 4) (lent 8) nodeWords countWords edgeWords made
-unfolding refusalOf valueOr wordsFor numbersFor edgesFor
+unfolding refusalOf valueOr wordsFor countsFor edgesFor
 generated =
     subst (λ (a : Answer Graph). Makes a 16 4 8 nodeWords countWords edgeWords made) (sym two-by-two-given)
     record { verdict = refl; nodeNumber = refl; edgeNumber = refl; complete = refl; nodes = refl; counts = refl; edges = refl }
@@ -152,16 +166,16 @@ Cuts = IsCutting (boardOf (rectangle 2 2)) (pathsIn (tilesOf dominoes))
 two-cuttings : Exactly 2 Cuts
 two-cuttings =
     number-of-cuttings (rectangle 2 2) no-marks no-marks (tilesOf dominoes) has-free-cell stored-joined
-    (lent 8) (lent 2) (lent 8) (lent 2) (lent 8) (lent 2) (lent 8) (lent 2) (C.Number 2) counted
-    (lent 16) (lent 4) (lent 8) nodeWords countWords edgeWords made generated 2 refl refl
+    (lent 8) (lent 2) (lent 8) (lent 2) (lent 8) (lent 2) (lent 8) (lent 2) (C.Number two) counted
+    (lent 16) (lent 4) (lent 8) nodeWords countWords edgeWords made generated 2 told refl
 
 -- each number's call gives one,
 call-gives-cutting : (m : ℕ) → m < 2 → (list : List ℕ) → Long m → Numbered m list → Cuts (marked (take 3 list))
 unfolding valueOr
 call-gives-cutting m below list long call =
     gives-a-cutting (rectangle 2 2) no-marks no-marks (tilesOf dominoes) has-free-cell stored-joined
-    (lent 8) (lent 2) (lent 8) (lent 2) (lent 8) (lent 2) (lent 8) (lent 2) (C.Number 2) counted
-    (lent 16) (lent 4) (lent 8) nodeWords countWords edgeWords made generated 2 refl refl
+    (lent 8) (lent 2) (lent 8) (lent 2) (lent 8) (lent 2) (lent 8) (lent 2) (C.Number two) counted
+    (lent 16) (lent 4) (lent 8) nodeWords countWords edgeWords made generated 2 told refl
     m below (lent 3) list (T.Length 3) long call
 
 lying-cuts : Cuts lying
@@ -176,8 +190,8 @@ unfolding valueOr
 lying-not-standing e =
     let z =
     different-cuttings (rectangle 2 2) no-marks no-marks (tilesOf dominoes) has-free-cell stored-joined
-    (lent 8) (lent 2) (lent 8) (lent 2) (lent 8) (lent 2) (lent 8) (lent 2) (C.Number 2) counted
-    (lent 16) (lent 4) (lent 8) nodeWords countWords edgeWords made generated 2 refl refl
+    (lent 8) (lent 2) (lent 8) (lent 2) (lent 8) (lent 2) (lent 8) (lent 2) (C.Number two) counted
+    (lent 16) (lent 4) (lent 8) nodeWords countWords edgeWords made generated 2 told refl
     0 1 (lit< tt) (lit< tt) (lent 3) (0 ∷ 1 ∷ 3 ∷ []) (T.Length 3) (lent 3) (0 ∷ 2 ∷ 3 ∷ []) (T.Length 3) long-0 long-1 call-0 call-1
     (marked-0 ∙ e ∙ sym marked-1) in
     absurd (omega arith)
@@ -195,8 +209,8 @@ lying-or-standing X cuts = go (r .0) (r .1) (r .2)
     r : (m : ℕ) × (m < 2) × GivenBy X m
     r =
         every-cutting-has-its-number (rectangle 2 2) no-marks no-marks (tilesOf dominoes) has-free-cell stored-joined
-        (lent 8) (lent 2) (lent 8) (lent 2) (lent 8) (lent 2) (lent 8) (lent 2) (C.Number 2) counted
-        (lent 16) (lent 4) (lent 8) nodeWords countWords edgeWords made generated 2 refl refl X cuts
+        (lent 8) (lent 2) (lent 8) (lent 2) (lent 8) (lent 2) (lent 8) (lent 2) (C.Number two) counted
+        (lent 16) (lent 4) (lent 8) nodeWords countWords edgeWords made generated 2 told refl X cuts
 
     go : (m : ℕ) → m < 2 → GivenBy X m → (X ≡ lying) ⊎ (X ≡ standing)
     go zero h k = inl (sym (k (lent 3) (0 ∷ 1 ∷ 3 ∷ []) (T.Length 3) long-0 call-0) ∙ marked-0)
@@ -222,11 +236,11 @@ full-board-counted : countTilings fullBoard (tilesOf dominoes) 1 ≡ given 0
 unfolding countTilings layersOf bindAnswer
 full-board-counted = ap (λ (a : Answer (Board × List Path)). bindAnswer a (λ p. layersOf (p .0) (p .1) 1)) full-board-read ∙ full-start
 
-full-board-graph : mapAnswer graphCountIn (generateGraph fullBoard (tilesOf dominoes) 4 1 0) ≡ given 0
-unfolding generateGraph graphFor bindAnswer mapAnswer graphCountIn
+full-board-graph : mapAnswer countOfGraph (generateGraph fullBoard (tilesOf dominoes) 4 1 0) ≡ given 0
+unfolding generateGraph graphFor bindAnswer mapAnswer countOfGraph
 full-board-graph =
-    ap (λ (a : Answer (Board × List Path)). mapAnswer graphCountIn (bindAnswer a (λ p. graphFor (p .0) (p .1) (nodeRoom 4 1) (edgeRoom 0)))) full-board-read
-    ∙ ap (mapAnswer graphCountIn) full-start-graph
+    ap (λ (a : Answer (Board × List Path)). mapAnswer countOfGraph (bindAnswer a (λ p. graphFor (p .0) (p .1) (nodeRoom 4 1) (edgeRoom 0)))) full-board-read
+    ∙ ap (mapAnswer countOfGraph) full-start-graph
 
 full-board-valid : So (valid (board 2 1 1 2))
 unfolding valid
@@ -272,7 +286,7 @@ slanted-row = mem-getD rows 11 slantedRow (lit< tt)
 
 -- neither count is refused: both are 0
 slanted-counted : (countTilings (rectangle 4 2) (tilesOf slanted) plotBoards ≡ given 0)
-    × (mapAnswer graphCountIn (generateGraph (rectangle 4 2) (tilesOf slanted) (4 * plotNodes) plotNodes (2 * plotEdges)) ≡ given 0)
+    × (mapAnswer countOfGraph (generateGraph (rectangle 4 2) (tilesOf slanted) (4 * plotNodes) plotNodes (2 * plotEdges)) ≡ given 0)
 unfolding number newBoard
 slanted-counted = known-plots-counted slantedRow slanted-row (rectangle 4 2) (tilesOf slanted) refl (known-tiles-read slantedRow slanted-row)
 

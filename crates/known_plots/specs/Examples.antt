@@ -11,17 +11,20 @@ use Rattle.cells.specs.declared.Cells.{Cells}
 use Rattle.cells.specs.Words.{number, Sound}
 use Rattle.refusal.specs.Refusal.{Answer, refused, given, mapAnswer, bindAnswer}
 use Rattle.direction.specs.Direction.{step}
-use Rattle.tile.specs.Path.{Path, codesOk, equalCounts}
-use Rattle.tile.specs.Stored.{Storable, tilesOf, readEqualTiles}
-use Rattle.tile.specs.StoredLaws.{readTiles-tilesOf, readTiles-orbit}
-use Rattle.tile.specs.EqualLaws.{readEqualTiles-equal, readEqualTiles-unequal}
+use Rattle.tile.specs.Path.{Path, codesOk}
+use Rattle.tiles.specs.Paths.{equalCounts}
+use Rattle.tiles.specs.Stored.{Storable, tilesOf, readEqualTiles}
+use Rattle.tiles.specs.StoredLaws.{readTiles-tilesOf, readTiles-orbit}
+use Rattle.tiles.specs.EqualLaws.{readEqualTiles-equal, readEqualTiles-unequal}
 use Rattle.board.specs.declared.RectangularBoard.{RectangularBoard}
-use Rattle.board.specs.Board.{Board, boardOf, readBoard}
+use Rattle.rectangle.specs.Board.{Board}
+use Rattle.board.specs.Board.{boardOf, readBoard}
 use Rattle.covers.specs.Cuttings.{Exactly}
 use Rattle.covers.specs.Counts.{Entry}
 use Rattle.graph.specs.Rooms.{layerRoom, nodeRoom, edgeRoom}
-use Rattle.graph.specs.Tilings.{countFromGraph}
-use Rattle.tiler.specs.Counting.{readPlot, judgeLayer, judgeLayers, layersOf, countTilings, Graph, judgeGraph, graphFor, generateGraph}
+use Rattle.expansion.specs.Plots.{readPlot}
+use Rattle.layers.specs.LayerCounts.{judgeLayer, judgeLayers, layersOf, countTilings}
+use Rattle.tiler.specs.Graphs.{Graph, countOfGraph, judgeGraph, graphFor, generateGraph}
 use Rattle.known_plots.specs.KnownPlots.{D as dominoes}
 use Rattle.tiler.specs.Theorems.{Reaches, path-count-is-number-of-sequences, counts-agree}
 
@@ -208,5 +211,5 @@ two-sequences : Exactly 2 (Reaches (rectangle 2 2) no-marks no-marks (tilesOf do
 two-sequences = path-count-is-number-of-sequences (rectangle 2 2) no-marks no-marks (tilesOf dominoes) 16 4 8 twoByTwo two-by-two-given 3 (lit< tt)
 
 -- both counts are 2
-both-counts : countFromGraph (twoByTwo .complete) (twoByTwo .counts) ≡ 2
+both-counts : countOfGraph twoByTwo ≡ 2
 both-counts = counts-agree (rectangle 2 2) no-marks no-marks (tilesOf dominoes) 2 2 two-by-two-counted 16 4 8 twoByTwo two-by-two-given

@@ -11,28 +11,32 @@ use lib.ListN.{getD}
 use Rattle.cells.specs.Firsts.{holds}
 use Rattle.cells.specs.FirstsLaws.{so-eq, holds-iff}
 use Rattle.cells.specs.MemberLaws.{eqb-tells}
-use Rattle.tile.specs.declared.Tiles.{Tiles}
+use Rattle.tiles.specs.declared.Tiles.{Tiles}
 use Rattle.refusal.specs.Refusal.{Answer, given, mapAnswer, bindAnswer}
 use Rattle.refusal.specs.RefusalLaws.{given-inj}
 use Rattle.direction.specs.Direction.{step, rotate, reflect}
-use Rattle.tile.specs.Path.{Path, orbit, lPath, tPath}
-use Rattle.tile.specs.Stored.{tilesOf, readEqualTiles}
+use Rattle.tile.specs.Path.{Path, lPath, tPath}
+use Rattle.tiles.specs.Paths.{orbit}
+use Rattle.tiles.specs.Stored.{tilesOf, readEqualTiles}
 use Rattle.board.specs.declared.RectangularBoard.{RectangularBoard}
-use Rattle.board.specs.Board.{Board, boardOf, boardAt, marks, isFull, valid, readBoard, newBoard, lBoard, tBoard}
-use Rattle.board.specs.Children.{pieces}
-use Rattle.board.specs.BoardLaws.{valid-width, valid-height, readBoard-given}
-use Rattle.board.specs.PieceLaws.{mem-pieces}
-use Rattle.board.specs.FreeLaws.{piece-free, piece-iff, piece-some}
+use Rattle.rectangle.specs.Board.{Board, boardAt, marks, isFull, valid}
+use Rattle.board.specs.Board.{boardOf, readBoard, newBoard, lBoard, tBoard}
+use Rattle.fit.specs.Fit.{pieces}
+use Rattle.rectangle.specs.BoardLaws.{valid-width, valid-height}
+use Rattle.board.specs.BoardLaws.{readBoard-given}
+use Rattle.fit.specs.PieceLaws.{mem-pieces}
+use Rattle.fit.specs.LayLaws.{piece-free, piece-iff, piece-some}
 use Rattle.covers.specs.Cuttings.{Exactly, CuttingOf}
 use Rattle.covers.specs.NumberingLaws.{exactly-one, one-is, one-only}
 use Rattle.covers.specs.SequenceLaws.{cutting-add, sequence-cutting}
 use Rattle.graph.specs.Rooms.{nodeRoom, edgeRoom, plotBoards, plotNodes, plotEdges}
-use Rattle.graph.specs.Tilings.{countFromGraph}
-use Rattle.tiler.specs.Boards.{From, setting}
-use Rattle.tiler.specs.Counting.{readPlot, layersOf, countTilings, Graph, graphFor, generateGraph}
-use Rattle.tiler.specs.Cuttings.{IsCutting}
-use Rattle.tiler.specs.SettingLaws.{fits-piece, lay-adds, lay-from, setting-laws, start-ok}
-use Rattle.tiler.specs.CuttingLaws.{cutting-start}
+use Rattle.expansion.specs.Boards.{From, setting}
+use Rattle.expansion.specs.Plots.{readPlot}
+use Rattle.layers.specs.LayerCounts.{layersOf, countTilings}
+use Rattle.tiler.specs.Graphs.{graphFor, generateGraph, countOfGraph}
+use Rattle.expansion.specs.Cuttings.{IsCutting}
+use Rattle.expansion.specs.SettingLaws.{fits-piece, lay-adds, lay-from, setting-laws, start-ok}
+use Rattle.expansion.specs.CuttingLaws.{cutting-start}
 
 -- ---- the table
 
@@ -83,17 +87,12 @@ rows =
 
 -- ---- both counts, with the rooms that the program `plot` lends: "512 boards a layer, 1,024 nodes, 4,096 edges"
 
--- the graph count of a graph
-unfoldable pub graphCountIn : Graph → ℕ
-unfolding countFromGraph
-graphCountIn g = countFromGraph (g .complete) (g .counts)
-
 -- the layer count and the graph count of a row
 unfoldable pub countsOf : Row → Answer ℕ × Answer ℕ
-unfolding bindAnswer mapAnswer graphCountIn layersOf graphFor
+unfolding bindAnswer mapAnswer countOfGraph layersOf graphFor
 countsOf r = (
   bindAnswer (r .board) (λ b. layersOf b (r .tiles) plotBoards),
-  bindAnswer (r .board) (λ b. mapAnswer graphCountIn (graphFor b (r .tiles) plotNodes plotEdges)),
+  bindAnswer (r .board) (λ b. mapAnswer countOfGraph (graphFor b (r .tiles) plotNodes plotEdges)),
 )
 
 -- The known plots: neither count of a row is refused, and both are the row's.
@@ -144,7 +143,7 @@ module _ (b : RectangularBoard) (ts : Tiles) (board : Board) (paths : List Path)
 -- For a board that is made as the row says and tiles that are read as the row's, what the contracts say that `count_tilings` with layers of 512 boards and
 -- `generate_graph` with 4,096 node words, 1,024 count words and 8,192 edge words (four a node and two an edge) answer is the row's count.
 pub known-plots-counted : (r : Row) → Mem r rows → (b : RectangularBoard) (ts : Tiles) → given (boardOf b) ≡ r .board → readEqualTiles ts ≡ given (r .tiles)
-    → (countTilings b ts plotBoards ≡ given (r .count)) × (mapAnswer graphCountIn (generateGraph b ts (4 * plotNodes) plotNodes (2 * plotEdges)) ≡ given (r .count))
+    → (countTilings b ts plotBoards ≡ given (r .count)) × (mapAnswer countOfGraph (generateGraph b ts (4 * plotNodes) plotNodes (2 * plotEdges)) ≡ given (r .count))
 unfolding countsOf bindAnswer
 known-plots-counted r m b ts made read =
     let same = readBoard-given b (known-board-accepted r m (boardOf b) made) in
@@ -152,8 +151,8 @@ known-plots-counted r m b ts made read =
       layers-called b ts (boardOf b) (r .tiles) same read
           ∙ ap (λ (a : Answer Board). bindAnswer a (λ c. layersOf c (r .tiles) plotBoards)) made
           ∙ ap (λ (c : Answer ℕ × Answer ℕ). c .0) both,
-      ap (mapAnswer graphCountIn) (graph-called b ts (boardOf b) (r .tiles) same read)
-          ∙ ap (λ (a : Answer Board). bindAnswer a (λ c. mapAnswer graphCountIn (graphFor c (r .tiles) plotNodes plotEdges))) made
+      ap (mapAnswer countOfGraph) (graph-called b ts (boardOf b) (r .tiles) same read)
+          ∙ ap (λ (a : Answer Board). bindAnswer a (λ c. mapAnswer countOfGraph (graphFor c (r .tiles) plotNodes plotEdges))) made
           ∙ ap (λ (c : Answer ℕ × Answer ℕ). c .1) both,
     )
 

@@ -13,16 +13,20 @@ use Rattle.cells.specs.Words.{number}
 use Rattle.refusal.specs.Refusal.{Answer, refused, given, mapAnswer, bindAnswer, valueOr}
 use Rattle.refusal.specs.RefusalLaws.{given-inj}
 use Rattle.direction.specs.Direction.{step}
-use Rattle.tile.specs.declared.Tiles.{Tiles}
-use Rattle.tile.specs.Path.{Path, codesOk, cellCount, equalCounts}
-use Rattle.tile.specs.Stored.{Storable, tilesOf, pathsIn, readTiles}
-use Rattle.tile.specs.StoredLaws.{readTiles-tilesOf}
-use Rattle.tile.specs.EqualLaws.{readTiles-sound, readEqualTiles-equal}
+use Rattle.tiles.specs.declared.Tiles.{Tiles}
+use Rattle.tile.specs.Path.{Path, codesOk, cellCount}
+use Rattle.tiles.specs.Paths.{equalCounts}
+use Rattle.tiles.specs.Stored.{Storable, tilesOf, pathsIn, readTiles}
+use Rattle.tiles.specs.StoredLaws.{readTiles-tilesOf}
+use Rattle.tiles.specs.ReadLaws.{readTiles-sound}
+use Rattle.tiles.specs.EqualLaws.{readEqualTiles-equal}
 use Rattle.tile.specs.EdgeTest.{edgeJoined, edgeJoined-iff}
-use Rattle.board.specs.Board.{Board, boardOf, marks, isFree, freeCount, isFull, readBoard}
-use Rattle.board.specs.Children.{children}
-use Rattle.tiler.specs.Counting.{readPlot, layersOf, countTilings}
-use Rattle.tiler.specs.Cuttings.{IsCutting, AllEdgeJoined}
+use Rattle.rectangle.specs.Board.{Board, marks, isFree, freeCount, isFull}
+use Rattle.board.specs.Board.{boardOf, readBoard}
+use Rattle.children.specs.Children.{children}
+use Rattle.expansion.specs.Plots.{readPlot}
+use Rattle.layers.specs.LayerCounts.{layersOf, countTilings}
+use Rattle.expansion.specs.Cuttings.{IsCutting, AllEdgeJoined}
 use Rattle.known_plots.specs.Examples.{board, rectangle, no-marks}
 use Rattle.single_tiling.specs.declared.SingleTiling.{SingleTiling}
 use Rattle.single_tiling.specs.declared.SingleTiling.the-variants as S

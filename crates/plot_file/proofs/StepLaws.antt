@@ -7,7 +7,7 @@ use Prim.Native.Nat.{ℕ, _+_, _*_, _≤_, _<_}
 use native.Mathlib.Omega.{arith}
 use lib.ListN.{length, getD, drop}
 use Rattle.cells.specs.Set.{fromBits, setOf}
-use Rattle.tile.specs.declared.Tiles.{Tiles}
+use Rattle.tiles.specs.declared.Tiles.{Tiles}
 use Rattle.tile.specs.declared.MadeTile.{MadeTile}
 use Rattle.refusal.specs.declared.Refusal.{Refusal}
 use Rattle.refusal.specs.declared.Refusal.the-variants as R
@@ -16,12 +16,15 @@ use Rattle.refusal.specs.declared.Verdict.the-variants as Verdicts
 use Rattle.refusal.specs.Refusal.{Answer, refused, given, mapAnswer, refusalNumber, refusalOf, valueOr, verdictNumber}
 use Rattle.refusal.specs.RefusalLaws.{refusalNumber-pos, map-map}
 use Rattle.tile.specs.Path.{Path, codesOk}
-use Rattle.tile.specs.Stored.{pathIn, readPath, tileOf, pathsIn, tilesOf, MakesTile}
+use Rattle.tile.specs.Stored.{pathIn, readPath, tileOf, MakesTile}
+use Rattle.tiles.specs.Stored.{pathsIn, tilesOf}
 use Rattle.tile.specs.StoredLaws.{pathIn-tileOf, clean-tileOf, readPath-is, readPath-refused}
 use Rattle.tile.specs.Inner.{CleanTile}
 use Rattle.board.specs.declared.RectangularBoard.{RectangularBoard}
 use Rattle.board.specs.declared.MadeBoard.{MadeBoard}
-use Rattle.board.specs.Board.{Board, boardOf, noBoard, sizeOk, below, inside, shapeMark, shaped, newBoard, lBoard, tBoard, MakesBoard}
+use Rattle.rectangle.specs.Board.{Board, noBoard, sizeOk, inside}
+use Rattle.board.specs.Board.{boardOf, shapeMark, shaped, newBoard, lBoard, tBoard, MakesBoard}
+use Rattle.rectangle.specs.Board.{below}
 use Rattle.plot_file.specs.declared.marks.Mark.{Mark}
 use Rattle.plot_file.specs.declared.marks.Mark.the-variants.{RB, LB, TB, TI, OR, EN}
 use Rattle.plot_file.specs.declared.MadePlot.{MadePlot}

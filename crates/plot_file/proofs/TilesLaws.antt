@@ -11,14 +11,18 @@ use lib.Seq.{take-suc, take-all, getD-append-seam}
 use Rattle.cells.specs.ArrayLaws.{length-listOf, getD-snoc}
 use Rattle.cells.specs.FirstsLaws.{mem-getD}
 use Rattle.tile.specs.declared.Tile.{Tile}
-use Rattle.tile.specs.declared.Tiles.{Tiles}
-use Rattle.tile.specs.declared.MadeTiles.{MadeTiles}
+use Rattle.tiles.specs.declared.Tiles.{Tiles}
+use Rattle.tiles.specs.declared.MadeTiles.{MadeTiles}
 use Rattle.refusal.specs.Refusal.{mapAnswer, valueOr}
-use Rattle.tile.specs.Path.{Path, codesOk, orbit}
-use Rattle.tile.specs.Stored.{pathIn, readTile, tileOf, pathAt, pathsIn, tilesOf, tileAt, MakesTiles, AddsTile}
-use Rattle.tile.specs.Inner.{CleanTile, Clean, Short}
-use Rattle.tile.specs.OrbitLaws.{orbit-length-le, orbit-length-path}
-use Rattle.tile.specs.StoredLaws.{pathIn-tileOf, clean-tileOf, pathsIn-tilesOf, clean-tilesOf, readTile-given, withTile-given, appended-clean, tileAt-tilesOf, short-pathsIn}
+use Rattle.tile.specs.Path.{Path, codesOk}
+use Rattle.tiles.specs.Paths.{orbit}
+use Rattle.tile.specs.Stored.{pathIn, readTile, tileOf}
+use Rattle.tiles.specs.Stored.{pathAt, pathsIn, tilesOf, tileAt, MakesTiles, AddsTile}
+use Rattle.tile.specs.Inner.{CleanTile}
+use Rattle.tiles.specs.Inner.{Clean, Short}
+use Rattle.tiles.specs.OrbitLaws.{orbit-length-le, orbit-length-path}
+use Rattle.tile.specs.StoredLaws.{pathIn-tileOf, clean-tileOf, readTile-given}
+use Rattle.tiles.specs.StoredLaws.{pathsIn-tilesOf, clean-tilesOf, withTile-given, appended-clean, tileAt-tilesOf, short-pathsIn}
 use Rattle.plot_file.specs.Inner.{tilesFor}
 
 -- ---- short paths

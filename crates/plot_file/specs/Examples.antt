@@ -5,7 +5,7 @@ use Prim.Native.Nat.{ℕ}
 use lib.ListN.{replicate}
 use Rattle.refusal.specs.Refusal.{refused, given}
 use Rattle.direction.specs.Direction.{rotate, reflect}
-use Rattle.tile.specs.Path.{orbit}
+use Rattle.tiles.specs.Paths.{orbit}
 use Rattle.plot_file.specs.Ascii.{ascii}
 use Rattle.plot_file.specs.PlotFile.{plotIn}
 

@@ -15,10 +15,12 @@ use Rattle.cells.specs.MemberLaws.{mem-flatMap}
 use Rattle.refusal.specs.Refusal.{Answer, refused, given, mapAnswer, bindAnswer}
 use Rattle.refusal.specs.RefusalLaws.{refused-given, given-inj, map-given, bind-given}
 use Rattle.tile.specs.Path.{Path, codesOk}
-use Rattle.tile.specs.OrbitLaws.{orbit-length-path, orbit-codesOk}
-use Rattle.tile.specs.Stored.{Storable}
-use Rattle.board.specs.Board.{Board, sizeOk, shapeMark, shaped, valid, newBoard, lBoard, tBoard}
-use Rattle.board.specs.BoardLaws.{shaped-valid, setOf-lt}
+use Rattle.tiles.specs.OrbitLaws.{orbit-length-path, orbit-codesOk}
+use Rattle.tiles.specs.Stored.{Storable}
+use Rattle.rectangle.specs.Board.{Board, sizeOk, valid}
+use Rattle.board.specs.Board.{shapeMark, shaped, newBoard, lBoard, tBoard}
+use Rattle.board.specs.BoardLaws.{shaped-valid}
+use Rattle.cells.specs.SetLaws.{setOf-lt}
 use Rattle.plot_file.specs.declared.marks.Mark.{Mark}
 use Rattle.plot_file.specs.declared.marks.Mark.the-variants.{RB, LB, TB, TI, OR, EN}
 use Rattle.plot_file.specs.PlotFile.{Plot, letters, readMark, readPair, Step, more, ended, boardBody, firstRecord, addTiles, laterRecord, onward, records, plotIn}

@@ -7,10 +7,14 @@ use lib.ListN.{length, drop}
 use Rattle.refusal.specs.declared.Verdict.{Verdict}
 use Rattle.refusal.specs.declared.Verdict.the-variants as Verdicts
 use Rattle.refusal.specs.Refusal.{Answer, refused, given, mapAnswer, refusalNumber}
-use Rattle.tile.specs.Path.{Path, orbit}
-use Rattle.tile.specs.Stored.{pathIn, pathsIn}
-use Rattle.tile.specs.Inner.{CleanTile, Clean}
-use Rattle.board.specs.Board.{Board, boardOf, newBoard, lBoard, tBoard}
+use Rattle.tile.specs.Path.{Path}
+use Rattle.tiles.specs.Paths.{orbit}
+use Rattle.tile.specs.Stored.{pathIn}
+use Rattle.tiles.specs.Stored.{pathsIn}
+use Rattle.tile.specs.Inner.{CleanTile}
+use Rattle.tiles.specs.Inner.{Clean}
+use Rattle.rectangle.specs.Board.{Board}
+use Rattle.board.specs.Board.{boardOf, newBoard, lBoard, tBoard}
 use Rattle.plot_file.specs.declared.marks.Mark.{Mark}
 use Rattle.plot_file.specs.declared.marks.Mark.the-variants.{RB, LB, TB, TI, OR, EN}
 use Rattle.plot_file.specs.declared.marks.Marked.{Marked}

@@ -6,19 +6,17 @@ use Prim.Native.Nat.{ℕ, zero, suc, _+_, _*_, _≤_}
 use native.Mathlib.Omega.{arith}
 use lib.ListN.{length, replicate, length-append, length-replicate}
 use Rattle.refusal.specs.Refusal.{given}
-use Rattle.tile.specs.Path.{Path, codesOk, orbit}
-use Rattle.tile.specs.OrbitLaws.{orbit-self}
+use Rattle.tile.specs.Path.{Path, codesOk}
+use Rattle.tiles.specs.Paths.{orbit}
+use Rattle.tiles.specs.OrbitLaws.{orbit-self}
 use Rattle.board.specs.Board.{newBoard}
 use Rattle.plot_file.specs.declared.marks.Mark.the-variants.{EN}
 use Rattle.plot_file.specs.PlotFile.{Plot, letters, plotIn}
-use Rattle.plot_file.specs.Records.{BoardRecord, rb, lb, tb, TileRecord, ti, or, boardBytes, tileBytes, fileOf, boardHeld, tilesHeld, Holds}
+use Rattle.plot_file.specs.Records.{BoardRecord, rb, lb, tb, TileRecord, ti, or, boardBytes, tileBytes, fileOf, boardHeld, tilesHeld, Holds, longestFile}
 use Rattle.plot_file.specs.RecordLaws.{length-letters, length-tileBytes}
 use Rattle.plot_file.specs.FileLaws.{plotOf, Fine, fileOf-is, accepted-iff}
 
 -- ---- how long an accepted file can be: a board's record, 64 tiles' records of 35 bytes, and EN
-
-abbrev pub longestFile : ℕ
-longestFile = 2246
 
 orbit-some : (p : Path) → 1 ≤ length (orbit p)
 orbit-some p = go (orbit p) (orbit-self p)

@@ -7,9 +7,12 @@ use Prim.Native.Nat.{ℕ, zero, suc}
 use lib.Dec.{eqb, leb}
 use lib.ListN.{length, getD, take, drop}
 use Rattle.refusal.specs.Refusal.{Answer, refused, given, mapAnswer, bindAnswer, refusalOf, valueOr, verdictNumber}
-use Rattle.tile.specs.Path.{Path, orbit}
-use Rattle.tile.specs.Stored.{readPath, tilesOf}
-use Rattle.board.specs.Board.{Board, boardOf, noBoard, newBoard, lBoard, tBoard}
+use Rattle.tile.specs.Path.{Path}
+use Rattle.tiles.specs.Paths.{orbit}
+use Rattle.tile.specs.Stored.{readPath}
+use Rattle.tiles.specs.Stored.{tilesOf}
+use Rattle.rectangle.specs.Board.{Board, noBoard}
+use Rattle.board.specs.Board.{boardOf, newBoard, lBoard, tBoard}
 use Rattle.plot_file.specs.declared.marks.Mark.{Mark}
 use Rattle.plot_file.specs.declared.marks.Mark.the-variants.{RB, LB, TB, TI, OR, EN}
 use Rattle.plot_file.specs.declared.MadePlot.{MadePlot}

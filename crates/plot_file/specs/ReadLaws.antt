@@ -12,7 +12,7 @@ use lib.Seq.{drop-cons, drop-drop}
 use Rattle.refusal.specs.Refusal.{Answer, refused, given, mapAnswer, bindAnswer}
 use Rattle.tile.specs.Path.{Path}
 use Rattle.tile.specs.Stored.{readPath}
-use Rattle.board.specs.Board.{Board}
+use Rattle.rectangle.specs.Board.{Board}
 use Rattle.plot_file.specs.declared.marks.Mark.{Mark}
 use Rattle.plot_file.specs.declared.marks.Mark.the-variants.{RB, LB, TB, TI, OR, EN}
 use Rattle.plot_file.specs.PlotFile.{allMarks, Plot, letters, spells, markAmong, readMark, readPair, readBody, more, ended, boardBody, firstRecord, addTiles, tileBody, endBody, laterBody, laterRecord, onward, records, plotIn}

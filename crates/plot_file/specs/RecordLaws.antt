@@ -12,10 +12,12 @@ use lib.ListN.{length, getD, take, drop, take-append-drop, length-append}
 use lib.Seq.{length-take-le, take-append-seam, drop-append-seam}
 use Rattle.refusal.specs.Refusal.{Answer, refused, given, mapAnswer, bindAnswer}
 use Rattle.refusal.specs.RefusalLaws.{refused-given, refused-inj, given-inj, map-given, bind-given, Refuses, refuses-one, refuses-none, refuses-cond, refuses-bind, refuses-map}
-use Rattle.tile.specs.Path.{Path, codesOk, orbit}
+use Rattle.tile.specs.Path.{Path, codesOk}
+use Rattle.tiles.specs.Paths.{orbit}
 use Rattle.tile.specs.Stored.{readPath}
 use Rattle.tile.specs.StoredLaws.{readPath-is, readPath-given}
-use Rattle.board.specs.Board.{Board, sizeOk, shaped, newBoard, lBoard, tBoard}
+use Rattle.rectangle.specs.Board.{Board, sizeOk}
+use Rattle.board.specs.Board.{shaped, newBoard, lBoard, tBoard}
 use Rattle.plot_file.specs.declared.marks.Mark.{Mark}
 use Rattle.plot_file.specs.declared.marks.Mark.the-variants.{RB, LB, TB, TI, OR, EN}
 use Rattle.plot_file.specs.PlotFile.{allMarks, Plot, letters, spells, markAmong, readMark, readPair, readBody, Step, more, ended, boardBody, firstRecord, addTiles, tileBody, endBody, laterBody, laterRecord, onward, records, plotIn}

@@ -7,8 +7,10 @@ use mathlib.Core.List.{List, [], _∷_, _++_, flatMap, List·Memᴰ as Mem}
 use Prim.Native.Nat.{ℕ, _≤_}
 use lib.ListN.{length}
 use Rattle.refusal.specs.Refusal.{Answer, given}
-use Rattle.tile.specs.Path.{Path, codesOk, orbit}
-use Rattle.board.specs.Board.{Board, newBoard, lBoard, tBoard}
+use Rattle.tile.specs.Path.{Path, codesOk}
+use Rattle.tiles.specs.Paths.{orbit}
+use Rattle.rectangle.specs.Board.{Board}
+use Rattle.board.specs.Board.{newBoard, lBoard, tBoard}
 use Rattle.plot_file.specs.Ascii.{ascii}
 use Rattle.plot_file.specs.PlotFile.{Plot}
 
@@ -65,3 +67,13 @@ pub record Holds (board : BoardRecord) (tiles : List TileRecord) (plot : Plot) :
   pub paths : (t : TileRecord) → Mem t tiles → (length (directions t) ≤ 32) × So (codesOk (directions t))
   pub few : length (plot .tiles) ≤ 64
   pub all : plot .tiles ≡ flatMap tilesHeld tiles
+
+-- ---- how long files are
+
+-- the bytes of the longest accepted file: 4 of the board's record, 35 of each of 64 tiles' records, and 2 of EN
+abbrev pub longestFile : ℕ
+longestFile = 2246
+
+-- the bytes that settle any file: those of the longest file, with the first 35 of a further record in the place of EN
+abbrev pub settledBy : ℕ
+settledBy = 2279

@@ -1,4 +1,4 @@
--- A file's answer is settled by its first 2,279 bytes: 4 of the board's record, at most 64 records of tiles that are accepted, of at most 35 bytes each, and
+-- A file's answer is settled by its first `settledBy` bytes: 4 of the board's record, at most 64 records of tiles that are accepted, of at most 35 bytes each, and
 -- the 35 bytes that decide the next one. Fewer are not enough. Rests on `RecordLaws`, `FileLaws` and `LengthLaws`. Assumes nothing.
 use mathlib.Core.Path.{_≡_, refl, sym, ap, _∙_, subst}
 use mathlib.Core.Bool.{Bool, true, false, cond}
@@ -12,20 +12,19 @@ use lib.ListN.{length, take, drop, length-append, length-take}
 use lib.Seq.{take-take, take-nil, length-take-le, take-append-add}
 use Rattle.refusal.specs.Refusal.{Answer, refused, given, mapAnswer, bindAnswer}
 use Rattle.refusal.specs.RefusalLaws.{refused-inj, map-map}
-use Rattle.tile.specs.Path.{Path, orbit}
+use Rattle.tile.specs.Path.{Path}
+use Rattle.tiles.specs.Paths.{orbit}
 use Rattle.tile.specs.Stored.{readPath}
 use Rattle.tile.specs.StoredLaws.{readPath-is}
-use Rattle.board.specs.Board.{Board, newBoard, lBoard, tBoard}
+use Rattle.rectangle.specs.Board.{Board}
+use Rattle.board.specs.Board.{newBoard, lBoard, tBoard}
 use Rattle.plot_file.specs.declared.marks.Mark.{Mark}
 use Rattle.plot_file.specs.declared.marks.Mark.the-variants.{RB, LB, TB, TI, OR, EN}
 use Rattle.plot_file.specs.PlotFile.{allMarks, Plot, letters, markAmong, readMark, readPair, readBody, Step, more, ended, boardBody, firstRecord, addTiles, tileBody, endBody, laterBody, laterRecord, onward, records, plotIn}
-use Rattle.plot_file.specs.Records.{rb, TileRecord, ti, boardBytes, tileBytes, boardHeld, tilesHeld}
+use Rattle.plot_file.specs.Records.{rb, TileRecord, ti, boardBytes, tileBytes, boardHeld, tilesHeld, settledBy}
 use Rattle.plot_file.specs.RecordLaws.{readBody-is, readBody-path, laterRecord-left, laterRecord-mark, records-same, records-step}
 use Rattle.plot_file.specs.FileLaws.{plotOf, Fine, addTiles-is, firstRecord-given, plotIn-records}
 use Rattle.plot_file.specs.LengthLaws.{tilesHeld-some, length-boardBytes, longPath, copies, copies-bytes, copies-held, copies-all, longPath-fine}
-
-abbrev pub settledBy : ℕ
-settledBy = 2279
 
 -- ---- answers
 

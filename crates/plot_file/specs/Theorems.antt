@@ -9,13 +9,14 @@ use Prim.Native.Nat.{ℕ, _^_, _≤_, _<_}
 use native.Mathlib.Omega.{arith}
 use lib.ListN.{length, take}
 use Rattle.refusal.specs.Refusal.{refused, given, refusalOf, valueOr, verdictNumber}
-use Rattle.tile.specs.Stored.{Storable, tilesOf, readTiles}
-use Rattle.tile.specs.StoredLaws.{readTiles-tilesOf}
-use Rattle.board.specs.Board.{boardOf, noBoard, valid, readBoard}
+use Rattle.tiles.specs.Stored.{Storable, tilesOf, readTiles}
+use Rattle.tiles.specs.StoredLaws.{readTiles-tilesOf}
+use Rattle.board.specs.Board.{boardOf, readBoard}
+use Rattle.rectangle.specs.Board.{noBoard, valid}
 use Rattle.board.specs.BoardLaws.{readBoard-given}
 use Rattle.plot_file.specs.declared.MadePlot.{MadePlot}
 use Rattle.plot_file.specs.PlotFile.{Plot, noPlot, plotIn, ReadsPlot}
-use Rattle.plot_file.specs.Records.{BoardRecord, TileRecord, fileOf, Holds}
+use Rattle.plot_file.specs.Records.{BoardRecord, TileRecord, fileOf, Holds, longestFile, settledBy}
 use Rattle.plot_file.specs.RecordLaws as Record
 use Rattle.plot_file.specs.FileLaws as File
 use Rattle.plot_file.specs.LengthLaws as Length
@@ -30,18 +31,18 @@ accepted-iff = File.accepted-iff
 pub file-once : (b c : BoardRecord) (ts us : List TileRecord) → fileOf b ts ≡ fileOf c us → (b ≡ c) × (ts ≡ us)
 file-once = File.file-once
 
--- An accepted file has at most 2,246 bytes, 4 + 64 × 35 + 2, and no smaller bound holds.
-pub accepted-length : (file : List ℕ) (plot : Plot) → plotIn file ≡ given plot → length file ≤ 2246
+-- An accepted file has at most `longestFile` bytes, and no smaller bound holds.
+pub accepted-length : (file : List ℕ) (plot : Plot) → plotIn file ≡ given plot → length file ≤ longestFile
 accepted-length = Length.accepted-length
 
-pub accepted-length-least : (n : ℕ) → ((file : List ℕ) (plot : Plot) → plotIn file ≡ given plot → length file ≤ n) → 2246 ≤ n
+pub accepted-length-least : (n : ℕ) → ((file : List ℕ) (plot : Plot) → plotIn file ≡ given plot → length file ≤ n) → longestFile ≤ n
 accepted-length-least = Length.longestFile-least
 
--- A file's answer, accepted or refused, is settled by its first 2,279 bytes, 4 + 64 × 35 + 35, and not by fewer.
-pub settled : (file : List ℕ) (n : ℕ) → 2279 ≤ n → plotIn (take n file) ≡ plotIn file
+-- A file's answer, accepted or refused, is settled by its first `settledBy` bytes, and not by fewer.
+pub settled : (file : List ℕ) (n : ℕ) → settledBy ≤ n → plotIn (take n file) ≡ plotIn file
 settled = Settled.settled
 
-pub settled-least : (n : ℕ) → ((file : List ℕ) → plotIn (take n file) ≡ plotIn file) → 2279 ≤ n
+pub settled-least : (n : ℕ) → ((file : List ℕ) → plotIn (take n file) ≡ plotIn file) → settledBy ≤ n
 settled-least = Settled.settledBy-least
 
 -- 01: "4,096 bytes are enough to settle any file"

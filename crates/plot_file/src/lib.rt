@@ -10,7 +10,7 @@ use records::Next;
 use records::Plot;
 use refusal::Refusal;
 use refusal::Verdict;
-use tile::Tiles;
+use tiles::Tiles;
 ghost use Prim.Native.Nat.{_≤_, _<_};
 ghost use lib.ListN.{length, drop};
 ghost use Rattle.refusal.specs.Refusal.{refused, given, refusalNumber};

@@ -14,7 +14,7 @@ use board::RectangularBoard;
 use refusal::Refusal;
 use refusal::Verdict;
 use tile::Tile;
-use tile::Tiles;
+use tiles::Tiles;
 ghost use mathlib.Core.Path.{_≡_};
 ghost use mathlib.Core.Bool.{So};
 ghost use mathlib.Core.List.{[], _∷_, _++_};
@@ -22,8 +22,10 @@ ghost use Prim.Native.Nat.{_+_, _≤_, _<_};
 ghost use lib.ListN.{length, drop};
 ghost use Rattle.refusal.specs.Refusal.{mapAnswer};
 ghost use Rattle.tile.specs.Path.{codesOk};
-ghost use Rattle.tile.specs.Stored.{pathIn, pathsIn, tilesOf};
-ghost use Rattle.tile.specs.Inner.{CleanTile, Clean};
+ghost use Rattle.tile.specs.Stored.{pathIn};
+ghost use Rattle.tiles.specs.Stored.{pathsIn, tilesOf};
+ghost use Rattle.tile.specs.Inner.{CleanTile};
+ghost use Rattle.tiles.specs.Inner.{Clean};
 ghost use Rattle.board.specs.Board.{boardOf};
 ghost use Rattle.plot_file.specs.PlotFile.{noPlot, boardBody, firstRecord, addTiles, tileBody, endBody, laterBody, laterRecord};
 ghost use Rattle.plot_file.specs.Inner.{answerOf, tilesFor, plotOf, Kept, Reads, boardOnly, startAt, StepsTo, recordAt};
@@ -185,7 +187,7 @@ fn tiles_for(tile: Tile, whole: bool) -> Tiles
     ensures { λ r. ⌜ r ≡ tilesOf (tilesFor whole (pathIn tile)) ⌝ }
 {
     if whole {
-        let all = tile.orbit();
+        let all = Tiles::orbit(tile);
         return all.tiles;
     }
     let one = Tiles::new().with_tile(tile);

@@ -6,14 +6,13 @@ use Prim.Native.Nat.{ℕ, _≤_, _<_}
 use native.Mathlib.Omega.{arith}
 use lib.ListN.{length}
 use Rattle.cells.specs.Words.{Sound}
-use Rattle.tile.specs.declared.Tiles.{Tiles}
+use Rattle.tiles.specs.declared.Tiles.{Tiles}
 use Rattle.refusal.specs.Refusal.{given, refusalOf, valueOr}
 use Rattle.board.specs.declared.RectangularBoard.{RectangularBoard}
 use Rattle.board.specs.Board.{boardOf}
-use Rattle.board.specs.FreeLaws.{free-le}
-use Rattle.graph.specs.Tilings.{countFromGraph}
+use Rattle.rectangle.specs.FreeLaws.{free-le}
 use Rattle.tiler.specs.declared.MadeGraph.{MadeGraph}
-use Rattle.tiler.specs.Counting.{Graph, nodeListOf, generateGraph, GeneratesGraph}
+use Rattle.tiler.specs.Graphs.{Graph, countOfGraph, nodeListOf, generateGraph, GeneratesGraph}
 use Rattle.tiler.specs.GivenLaws.{graph-stored}
 use Rattle.tiler.specs.NumberLaws.{list-length, count-read, list-same}
 use Rattle.tiler.specs.Theorems.{own-graph-is-sound}
@@ -21,7 +20,7 @@ use Rattle.report.specs.Inner.{Built}
 
 module _ (b : RectangularBoard) (fixed : Sound (b .fixed)) (laid : Sound (b .laid)) (ts : Tiles) where
   pub list-short : (nodeWords countWords edgeWords : ℕ) (g : Graph) → generateGraph b ts nodeWords countWords edgeWords ≡ given g
-      → (m : ℕ) → m < countFromGraph (g .complete) (g .counts) → length (nodeListOf g m) ≤ 257
+      → (m : ℕ) → m < countOfGraph g → length (nodeListOf g m) ≤ 257
   list-short nodeWords countWords edgeWords g made m below =
       omega (arith, list-length b fixed laid ts nodeWords countWords edgeWords g made m below, free-le (boardOf b))
 

@@ -1,18 +1,23 @@
--- Laws of the answers of a count: which refusals a layer count and a graph have. Assumes nothing.
+-- Laws of the answers of a count: which refusals a layer count and a graph have; and that a count is its low word, and a word the count of itself.
+-- Assumes nothing.
 use mathlib.Core.Path.{_≡_}
+use mathlib.Core.Bool.{true, false}
 use mathlib.Core.List.{List}
-use Prim.Native.Nat.{ℕ, zero, suc, _≤_}
+use Prim.Native.Nat.{ℕ, zero, suc, _+_, _-_, _*_, _%_, _^_, _≤_, _<_, min}
 use native.Mathlib.Omega.{arith}
-use lib.Dec.{leb}
+use borrow.Author.Tests.{ltb-true, ltb-false}
+use lib.Dec.{ltb, leb}
 use lib.ListN.{length}
 use Rattle.refusal.specs.Refusal.{refused}
 use Rattle.refusal.specs.RefusalLaws.{Refuses, refuses-one, refuses-none, refuses-cond, refuses-bind, refuses-map}
-use Rattle.tile.specs.Path.{equalCounts}
-use Rattle.board.specs.Board.{marks}
+use Rattle.tiles.specs.Paths.{equalCounts}
+use Rattle.rectangle.specs.Board.{marks}
 use Rattle.covers.specs.Counts.{Entry, counts, layerOf}
 use Rattle.graph.specs.Rooms.{plotBoards, plotNodes, plotEdges}
-use Rattle.tiler.specs.Boards.{setting}
-use Rattle.tiler.specs.Counting.{tooLarge, judgeLayer, judgeLayers, layersAnswer, graphOf, judgeGraph}
+use Rattle.path_count.specs.PathCounts.{countLimit}
+use Rattle.expansion.specs.Boards.{setting}
+use Rattle.layers.specs.LayerCounts.{tooLarge, judgeLayer, judgeLayers, layersAnswer}
+use Rattle.tiler.specs.Graphs.{graphOf, judgeGraph}
 use Rattle.plot_file.specs.PlotFile.{Plot}
 use Rattle.report.specs.Report.{withEqualTiles, plotLayers, plotGraph}
 
@@ -57,3 +62,19 @@ graph-refusals plot =
     (refuses-one Graphs 10 (omega arith, omega arith)))
     (refuses-one Graphs 8 (omega arith, omega arith)))
     (refuses-one Graphs 7 (omega arith, omega arith))
+
+-- ---- the words of a count
+
+pub low-is : (n : ℕ) → n < countLimit → (low : ℕ) → low ≡ n % 2 ^ 64 → low ≡ n
+low-is n h low e = omega arith
+
+pub word-is : (m r : ℕ) → m < 2 ^ 64 → r ≡ min (m + 2 ^ 64 * 0) (countLimit - 1) → r ≡ m
+word-is m r h e = omega arith
+
+-- whether the count of a small number is below a count, which is told
+module _ (m r count : ℕ) (small : m ≤ 16) (e : r ≡ min (m + 2 ^ 64 * 0) (countLimit - 1)) where
+  pub not-below : ltb r count ≡ false → count ≤ m
+  not-below t = omega (arith, word-is m r (omega arith) e, ltb-false r count t)
+
+  pub is-below : ltb r count ≡ true → m < count
+  is-below t = omega (arith, word-is m r (omega arith) e, ltb-true r count t)

@@ -12,11 +12,10 @@ use Rattle.cells.specs.Arrays.{listOf}
 use Rattle.cells.specs.ArrayLaws.{length-listOf}
 use Rattle.cells.specs.MemberLaws.{mem-listOf}
 use Rattle.refusal.specs.Refusal.{Answer, refused, given}
-use Rattle.board.specs.Board.{freeCount}
-use Rattle.board.specs.FreeLaws.{free-le}
-use Rattle.board.specs.BoardLaws.{valid-width, valid-height}
-use Rattle.graph.specs.Tilings.{countFromGraph}
-use Rattle.tiler.specs.Counting.{Graph, nodeListOf}
+use Rattle.rectangle.specs.Board.{freeCount}
+use Rattle.rectangle.specs.FreeLaws.{free-le}
+use Rattle.rectangle.specs.BoardLaws.{valid-width, valid-height}
+use Rattle.tiler.specs.Graphs.{Graph, countOfGraph, nodeListOf}
 use Rattle.tiler.specs.NumberLaws.{graph-count-small, list-below}
 use Rattle.plot_file.specs.Ascii.{ascii}
 use Rattle.plot_file.specs.PlotFile.{Plot}
@@ -85,13 +84,13 @@ module _ (plot : Plot) (ok : AcceptedPlot plot) (g : Graph) (e : plotGraph plot 
       simp length-append
       (omega (
         arith,
-        field-length "graph " 19 (countFromGraph (g .complete) (g .counts)) (lt-of-lt-of-le (of-graph plot ok g e (λ b f l ts x y z made. graph-count-small b f l ts x y z g made)) (lit≤ tt)),
+        field-length "graph " 19 (countOfGraph g) (lt-of-lt-of-le (of-graph plot ok g e (λ b f l ts x y z made. graph-count-small b f l ts x y z g made)) (lit≤ tt)),
         field-length " nodes " 3 (length (g .nodes)) (omega arith),
         field-length " edges " 3 (length (g .edges)) (omega arith),
       ))
 
   -- a node of a list has at most four digits
-  list-length : (m : ℕ) → m < countFromGraph (g .complete) (g .counts) → length (flatMap (field " ") (nodeListOf g m)) ≤ 1285
+  list-length : (m : ℕ) → m < countOfGraph g → length (flatMap (field " ") (nodeListOf g m)) ≤ 1285
   unfolding ascii
   list-length m below =
       omega (
@@ -131,10 +130,15 @@ graphs-length plot ok = go (plotGraph plot) refl
 
 -- ---- the text of a plot
 
-four-parts : (a b c d : List ℕ) → length a ≤ 21 → length b ≤ 9 → length c ≤ 28 → length d ≤ 20785 → length (a ++ b ++ c ++ d) ≤ 20843
+-- no text has more bytes: the board's line has at most 21, the tiles' 9, the layers' 28, the graph's 49, and each of 16 tiling lines 1,296
+-- ("tiling ", two digits, ":", 257 times a blank and four digits, and the line feed)
+abbrev pub longestText : ℕ
+longestText = 20843
+
+four-parts : (a b c d : List ℕ) → length a ≤ 21 → length b ≤ 9 → length c ≤ 28 → length d ≤ 20785 → length (a ++ b ++ c ++ d) ≤ longestText
 four-parts a b c d p q r s = simp length-append (omega arith)
 
-pub plot-length : (plot : Plot) → AcceptedPlot plot → length (plotLines plot) ≤ 20843
+pub plot-length : (plot : Plot) → AcceptedPlot plot → length (plotLines plot) ≤ longestText
 unfolding plotLines
 plot-length plot ok =
     four-parts (boardLine plot) (tilesLine plot) (layersLine (plotLayers plot)) (graphLines (plotGraph plot)) (board-length plot ok) (tiles-length plot ok)

@@ -6,17 +6,22 @@ use mathlib.Core.List.{List}
 use Prim.Native.Nat.{ℕ, _*_}
 use lib.ListN.{length}
 use Rattle.cells.specs.ArrayLaws.{length-listOf}
-use Rattle.tile.specs.declared.Tiles.{Tiles}
+use Rattle.tiles.specs.declared.Tiles.{Tiles}
 use Rattle.refusal.specs.Refusal.{Answer, refused, given, mapAnswer, bindAnswer, valueOr}
 use Rattle.refusal.specs.RefusalLaws.{refused-given, given-inj}
-use Rattle.tile.specs.Path.{Path, equalCounts}
-use Rattle.tile.specs.Stored.{pathAt, pathsIn}
-use Rattle.tile.specs.EqualLaws.{readTiles-sound, readEqualTiles-equal, readEqualTiles-unequal}
+use Rattle.tile.specs.Path.{Path}
+use Rattle.tiles.specs.Paths.{equalCounts}
+use Rattle.tiles.specs.Stored.{pathAt, pathsIn}
+use Rattle.tiles.specs.ReadLaws.{readTiles-sound}
+use Rattle.tiles.specs.EqualLaws.{readEqualTiles-equal, readEqualTiles-unequal}
 use Rattle.board.specs.declared.RectangularBoard.{RectangularBoard}
-use Rattle.board.specs.Board.{Board, boardOf, freeCount, valid, readBoard}
+use Rattle.rectangle.specs.Board.{Board, freeCount, valid}
+use Rattle.board.specs.Board.{boardOf, readBoard}
 use Rattle.graph.specs.Rooms.{layerRoom, nodeRoom, edgeRoom, plotBoards, plotNodes, plotEdges}
-use Rattle.tiler.specs.declared.Count.{Count}
-use Rattle.tiler.specs.Counting.{readPlot, layersOf, countTilings, countAnswer, CountsTilings, Graph, graphFor, generateGraph}
+use Rattle.layers.specs.declared.Count.{Count}
+use Rattle.expansion.specs.Plots.{readPlot}
+use Rattle.layers.specs.LayerCounts.{layersOf, countTilings, countAnswer, CountsTilings}
+use Rattle.tiler.specs.Graphs.{Graph, graphFor, generateGraph}
 use Rattle.plot_file.specs.PlotFile.{Plot}
 use Rattle.report.specs.Report.{withEqualTiles, plotLayers, plotGraph}
 use Rattle.report.specs.Inner.{HoldsPlot}

@@ -4,14 +4,15 @@ use mathlib.Core.Bool.{false}
 use mathlib.Core.List.{List, _++_}
 use Prim.Native.Nat.{ℕ, _+_, _-_, _≤_, _<_, min}
 use lib.ListN.{length, take, drop}
-use Rattle.tile.specs.declared.Tiles.{Tiles}
+use Rattle.tiles.specs.declared.Tiles.{Tiles}
 use Rattle.refusal.specs.Refusal.{given}
-use Rattle.tile.specs.Stored.{readTiles}
+use Rattle.tiles.specs.Stored.{readTiles}
 use Rattle.board.specs.declared.RectangularBoard.{RectangularBoard}
 use Rattle.board.specs.Board.{readBoard}
 use Rattle.graph.specs.declared.GraphResult.{GraphResult}
-use Rattle.graph.specs.Tilings.{completeNode, countFromGraph, badGraph, nodeList}
-use Rattle.tiler.specs.Counting.{Graph, nodeListOf}
+use Rattle.graph.specs.Result.{completeNode, countFromGraph}
+use Rattle.numbered_tilings.specs.Tilings.{badGraph, nodeList}
+use Rattle.tiler.specs.Graphs.{Graph, countOfGraph, nodeListOf}
 use Rattle.plot_file.specs.PlotFile.{Plot}
 
 -- ---- text in lent bytes
@@ -36,7 +37,7 @@ pub record HoldsPlot (plot : Plot) (board : RectangularBoard) (tiles : Tiles) : 
 pub record Built (g : Graph) (r : GraphResult) (nodes counts edges : List ℕ) : Type 0 where
   pub nodeNumber : r .nodes ≡ length (g .nodes)
   pub edgeNumber : r .edges ≡ length (g .edges)
-  pub count : countFromGraph (completeNode (r .complete)) counts ≡ countFromGraph (g .complete) (g .counts)
+  pub count : countFromGraph (completeNode (r .complete)) counts ≡ countOfGraph g
   pub sound : badGraph r (length nodes) counts edges ≡ false
-  pub list : (m : ℕ) → m < countFromGraph (g .complete) (g .counts) → nodeList r counts edges m ≡ nodeListOf g m
-  pub short : (m : ℕ) → m < countFromGraph (g .complete) (g .counts) → length (nodeListOf g m) ≤ 257
+  pub list : (m : ℕ) → m < countOfGraph g → nodeList r counts edges m ≡ nodeListOf g m
+  pub short : (m : ℕ) → m < countOfGraph g → length (nodeListOf g m) ≤ 257

@@ -1,7 +1,7 @@
 -- Laws of the tilings that are listed: what `tiling_by_number` gives for a graph that is built is the graph's list, a list is not longer than the words
 -- lent for it, and the lines of the first tilings come one by one up to the last that is listed. Rests on `Inner`, `TextLaws` and graph's `TilingLaws`.
 -- Assumes nothing.
-use mathlib.Core.Path.{_≡_, sym, ap, _∙_}
+use mathlib.Core.Path.{_≡_, sym, ap, _∙_, subst}
 use mathlib.Core.List.{List, flatMap}
 use Prim.Native.Nat.{ℕ, _+_, _≤_, _<_, min}
 use native.Mathlib.Omega.{arith}
@@ -14,15 +14,20 @@ use Rattle.refusal.specs.declared.Refusal.{Refusal}
 use Rattle.refusal.specs.Refusal.{given, refusalNumber}
 use Rattle.refusal.specs.RefusalLaws.{refused-given, given-inj}
 use Rattle.graph.specs.declared.GraphResult.{GraphResult}
-use Rattle.graph.specs.declared.Tiling.{Tiling}
-use Rattle.graph.specs.declared.Tiling.the-variants as T
-use Rattle.graph.specs.Tilings.{countFromGraph, nodeList, tilingAnswer, GivesTiling}
+use Rattle.numbered_tilings.specs.declared.Tiling.{Tiling}
+use Rattle.numbered_tilings.specs.declared.Tiling.the-variants as T
+use Rattle.numbered_tilings.specs.Tilings.{nodeList, tilingAnswer, GivesTiling}
 use Rattle.graph.specs.GraphLaws.{length-numbersFor}
-use Rattle.graph.specs.TilingLaws.{told-tiling, list-read}
-use Rattle.tiler.specs.Counting.{Graph, nodeListOf}
+use Rattle.numbered_tilings.specs.TilingLaws.{told-tiling, list-read}
+use Rattle.tiler.specs.Graphs.{Graph, countOfGraph, nodeListOf}
 use Rattle.report.specs.Report.{listed, tilingLine}
 use Rattle.report.specs.Inner.{Puts, Built}
 use Rattle.report.specs.TextLaws.{puts-append, puts-as}
+
+-- what is given of equal numbers is the same
+pub gives-same : {r : GraphResult} {nodes counts edges : List ℕ} {k m : ℕ} {out out′ : List ℕ} {t : Tiling} → k ≡ m
+    → GivesTiling r nodes counts edges k out out′ t → GivesTiling r nodes counts edges m out out′ t
+gives-same {r} {nodes} {counts} {edges} {k} {m} {out} {out′} {t} e g = subst (λ (n : ℕ). GivesTiling r nodes counts edges n out out′ t) e g
 
 module _ {r : GraphResult} {nodes counts edges : List ℕ} {m : ℕ} {out out′ : List ℕ} {t : Tiling} (gives : GivesTiling r nodes counts edges m out out′ t) where
   -- a list that is given is not longer than the output,
@@ -36,7 +41,7 @@ module _ {r : GraphResult} {nodes counts edges : List ℕ} {m : ℕ} {out out′
   pub told-long : (n : ℕ) → t ≡ T.Length n → n ≡ length (take n out′)
   told-long n e = sym (length-take-le n out′ (told-short n e))
 
-  module _ {g : Graph} (built : Built g r nodes counts edges) (below : m < countFromGraph (g .complete) (g .counts)) (long : length out ≡ 257) where
+  module _ {g : Graph} (built : Built g r nodes counts edges) (below : m < countOfGraph g) (long : length out ≡ 257) where
     read-list : (tilingAnswer t ≡ given (length (nodeList r counts edges m))) × (take (length (nodeList r counts edges m)) out′ ≡ nodeList r counts edges m)
     read-list =
         list-read r nodes counts edges m out out′ t gives (built .sound) (omega (arith, built .count))
@@ -62,7 +67,7 @@ puts-tiling g m inside p l =
     puts-as (sym (ap (flatMap (tilingLine g)) (listOf-snoc (λ n. n) m) ∙ flatMap-snoc (tilingLine g) (listOf (λ n. n) m) m)) (puts-append inside p l)
 
 -- all that are listed
-pub puts-listed : (g : Graph) (m : ℕ) {out : List ℕ} {at : ℕ} {out′ : List ℕ} {r : ℕ} → m ≡ min 16 (countFromGraph (g .complete) (g .counts))
+pub puts-listed : (g : Graph) (m : ℕ) {out : List ℕ} {at : ℕ} {out′ : List ℕ} {r : ℕ} → m ≡ min 16 (countOfGraph g)
     → Puts out at (flatMap (tilingLine g) (listOf (λ n. n) m)) out′ r → Puts out at (flatMap (tilingLine g) (listOf (λ n. n) (listed g))) out′ r
 unfolding listed
 puts-listed g m e p = puts-as (ap (λ (k : ℕ). flatMap (tilingLine g) (listOf (λ n. n) k)) e) p

@@ -5,18 +5,19 @@ use mathlib.Core.List.{List, _++_}
 use Prim.Native.Nat.{ℕ, _*_}
 use lib.ListN.{length}
 use Rattle.cells.specs.Words.{Sound}
-use Rattle.tile.specs.declared.Tiles.{Tiles}
+use Rattle.tiles.specs.declared.Tiles.{Tiles}
 use Rattle.refusal.specs.declared.Refusal.{Refusal}
 use Rattle.refusal.specs.declared.Verdict.the-variants as Verdicts
 use Rattle.refusal.specs.Refusal.{refused, given, refusalNumber, verdictNumber, mapAnswer, valueOr}
 use Rattle.refusal.specs.RefusalLaws.{refused-of}
 use Rattle.board.specs.declared.RectangularBoard.{RectangularBoard}
-use Rattle.board.specs.Board.{Board, freeCount, readBoard}
+use Rattle.rectangle.specs.Board.{Board, freeCount}
+use Rattle.board.specs.Board.{readBoard}
 use Rattle.graph.specs.declared.GraphResult.{GraphResult}
 use Rattle.graph.specs.Rooms.{plotNodes, plotEdges}
-use Rattle.graph.specs.Tilings.{completeNode, countFromGraph}
+use Rattle.graph.specs.Result.{completeNode, countFromGraph}
 use Rattle.tiler.specs.declared.MadeGraph.{MadeGraph}
-use Rattle.tiler.specs.Counting.{Graph, generateGraph, GeneratesGraph}
+use Rattle.tiler.specs.Graphs.{Graph, generateGraph, GeneratesGraph}
 use Rattle.tiler.specs.AnswerLaws.{given-graph}
 use Rattle.plot_file.specs.PlotFile.{Plot}
 use Rattle.report.specs.Report.{plotGraph, field, feed, boardLine, tilesLine, graphLine}

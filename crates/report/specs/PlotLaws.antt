@@ -11,22 +11,25 @@ use lib.ListN.{length}
 use Rattle.cells.specs.declared.Cells.{Cells}
 use Rattle.cells.specs.Words.{Sound, wordsOf, number}
 use Rattle.cells.specs.WordLaws.{value-wordsOf}
-use Rattle.tile.specs.declared.Tiles.{Tiles}
+use Rattle.tiles.specs.declared.Tiles.{Tiles}
 use Rattle.refusal.specs.Refusal.{given}
 use Rattle.tile.specs.Path.{Path}
-use Rattle.tile.specs.Stored.{pathsIn, Storable, tilesOf}
-use Rattle.tile.specs.StoredLaws.{readTiles-tilesOf}
+use Rattle.tiles.specs.Stored.{pathsIn, Storable, tilesOf}
+use Rattle.tiles.specs.StoredLaws.{readTiles-tilesOf}
 use Rattle.board.specs.declared.RectangularBoard.{RectangularBoard}
-use Rattle.board.specs.Board.{Board, boardOf, valid}
+use Rattle.rectangle.specs.Board.{Board, valid}
+use Rattle.board.specs.Board.{boardOf}
 use Rattle.board.specs.BoardLaws.{readBoard-given}
 use Rattle.covers.specs.Cuttings.{Exactly, Numbering}
 use Rattle.graph.specs.Rooms.{nodeRoom, edgeRoom, plotBoards, plotNodes, plotEdges}
-use Rattle.graph.specs.Tilings.{countFromGraph}
-use Rattle.tiler.specs.SmallLaws.{layers-small}
-use Rattle.tiler.specs.Counting.{countLimit, countTilings, Graph, cuttingOf, generateGraph}
-use Rattle.tiler.specs.Cuttings.{IsCutting, HasFreeCell, AllEdgeJoined}
+use Rattle.layers.specs.CountLaws.{layers-small}
+use Rattle.path_count.specs.PathCounts.{countLimit}
+use Rattle.layers.specs.LayerCounts.{countTilings}
+use Rattle.tiler.specs.Graphs.{Graph, countOfGraph, cuttingOf, generateGraph}
+use Rattle.expansion.specs.Cuttings.{IsCutting, HasFreeCell, AllEdgeJoined}
 use Rattle.tiler.specs.GivenLaws.{graph-room}
-use Rattle.tiler.specs.NumberLaws.{count-cuttings, lists-number-cuttings}
+use Rattle.layers.specs.CountLaws.{count-cuttings}
+use Rattle.tiler.specs.NumberLaws.{lists-number-cuttings}
 use Rattle.tiler.specs.Theorems.{counts-agree}
 use Rattle.plot_file.specs.PlotFile.{Plot}
 use Rattle.report.specs.Report.{plotLayers, plotGraph}
@@ -132,11 +135,11 @@ module _ (plot : Plot) (ok : AcceptedPlot plot) where
     unfolding edgeRoom
     edges-few = graph-room b fixed laid ts (4 * plotNodes) plotNodes (2 * plotEdges) g made .edgesFit
 
-    pub counts-same : (n : ℕ) → plotLayers plot ≡ given n → countFromGraph (g .complete) (g .counts) ≡ n
+    pub counts-same : (n : ℕ) → plotLayers plot ≡ given n → countOfGraph g ≡ n
     counts-same n q = counts-agree b fixed laid ts plotBoards n (told n q) (4 * plotNodes) plotNodes (2 * plotEdges) g made
 
     pub lists-cuttings : HasFreeCell (plot .board) → AllEdgeJoined (plot .tiles)
-        → Numbering (IsCutting (plot .board) (plot .tiles)) (countFromGraph (g .complete) (g .counts)) (cuttingOf g)
+        → Numbering (IsCutting (plot .board) (plot .tiles)) (countOfGraph g) (cuttingOf g)
     lists-cuttings free joined =
-        of-plot (λ d paths. Numbering (IsCutting d paths) (countFromGraph (g .complete) (g .counts)) (cuttingOf g))
+        of-plot (λ d paths. Numbering (IsCutting d paths) (countOfGraph g) (cuttingOf g))
         (lists-number-cuttings b fixed laid ts (4 * plotNodes) plotNodes (2 * plotEdges) g made (free-struct free) (joined-struct joined))

@@ -9,11 +9,11 @@ use lib.Dec.{ltb}
 use lib.ListN.{length, take, drop}
 use Rattle.cells.specs.Arrays.{listOf}
 use Rattle.refusal.specs.Refusal.{Answer, refused, given}
-use Rattle.tile.specs.Path.{equalCounts}
-use Rattle.board.specs.Board.{freeCount}
+use Rattle.tiles.specs.Paths.{equalCounts}
+use Rattle.rectangle.specs.Board.{freeCount}
 use Rattle.graph.specs.Rooms.{plotBoards, plotNodes, plotEdges}
-use Rattle.graph.specs.Tilings.{countFromGraph}
-use Rattle.tiler.specs.Counting.{layersOf, Graph, graphFor, nodeListOf}
+use Rattle.layers.specs.LayerCounts.{layersOf}
+use Rattle.tiler.specs.Graphs.{Graph, countOfGraph, graphFor, nodeListOf}
 use Rattle.plot_file.specs.Ascii.{ascii}
 use Rattle.plot_file.specs.PlotFile.{Plot, plotIn}
 
@@ -36,8 +36,8 @@ plotGraph plot = withEqualTiles plot (graphFor (plot .board) (plot .tiles) plotN
 
 -- "and lists the first 16 tilings, or all if there are fewer": how many are listed
 unfoldable pub listed : Graph → ℕ
-unfolding countFromGraph
-listed g = min 16 (countFromGraph (g .complete) (g .counts))
+unfolding countOfGraph
+listed g = min 16 (countOfGraph g)
 
 -- ---- the parts of a line
 
@@ -87,9 +87,9 @@ layersLine (given n) = field "layers " n ++ feed
 
 -- "graph count, nodes, edges;"
 unfoldable pub graphLine : Graph → List ℕ
-unfolding field feed countFromGraph
+unfolding field feed countOfGraph
 graphLine g =
-    field "graph " (countFromGraph (g .complete) (g .counts)) ++ field " nodes " (length (g .nodes)) ++ field " edges " (length (g .edges)) ++ feed
+    field "graph " (countOfGraph g) ++ field " nodes " (length (g .nodes)) ++ field " edges " (length (g .edges)) ++ feed
 
 -- "number and node list"
 unfoldable pub tilingLine : Graph → ℕ → List ℕ

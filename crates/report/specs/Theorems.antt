@@ -11,9 +11,8 @@ use lib.Seq.{take-all, take-append-seam}
 use Rattle.refusal.specs.Refusal.{Answer, refused, given}
 use Rattle.covers.specs.Cuttings.{Exactly, Numbering}
 use Rattle.covers.specs.Counts.{Chain}
-use Rattle.graph.specs.Tilings.{countFromGraph}
-use Rattle.tiler.specs.Counting.{Graph, nodeListOf, cuttingOf}
-use Rattle.tiler.specs.Cuttings.{IsCutting, HasFreeCell, AllEdgeJoined}
+use Rattle.tiler.specs.Graphs.{Graph, countOfGraph, nodeListOf, cuttingOf}
+use Rattle.expansion.specs.Cuttings.{IsCutting, HasFreeCell, AllEdgeJoined}
 use Rattle.tiler.specs.NumberLaws.{list-chain, list-below}
 use Rattle.plot_file.specs.PlotFile.{Plot, plotIn}
 use Rattle.plot_file.specs.Theorems.{refusal-listed, accepted-plot, accepted-fixed, four-thousand-settle}
@@ -22,7 +21,7 @@ use Rattle.report.specs.CountLaws as Count
 use Rattle.report.specs.BuiltLaws.{list-short}
 use Rattle.report.specs.PlotLaws as P
 use Rattle.report.specs.PlotLaws.{AcceptedPlot}
-use Rattle.report.specs.FitLaws.{refused-length, plot-length}
+use Rattle.report.specs.FitLaws.{longestText, refused-length, plot-length}
 
 -- ---- 1. Refusals
 
@@ -35,7 +34,7 @@ pub graph-refused : (plot : Plot) (n : ℕ) → plotGraph plot ≡ refused n →
 graph-refused = Count.graph-refusals
 
 -- a number below the count, of which a tiling line is printed
-below-count : (g : Graph) (m : ℕ) → m < listed g → m < countFromGraph (g .complete) (g .counts)
+below-count : (g : Graph) (m : ℕ) → m < listed g → m < countOfGraph g
 unfolding listed
 below-count g m h = omega arith
 
@@ -44,7 +43,7 @@ chain-some R a b [] c = absurd c
 chain-some R a b (x ∷ xs) c = omega arith
 
 -- bytes that have room for a text hold all of it
-whole : (text out out′ : List ℕ) (r : ℕ) → length text ≤ 20843 → 20843 ≤ length out → r ≡ min (length out) (length text)
+whole : (text out out′ : List ℕ) (r : ℕ) → length text ≤ longestText → longestText ≤ length out → r ≡ min (length out) (length text)
     → out′ ≡ take (length out) text ++ drop (length text) out → (r ≡ length text) × (take r out′ ≡ text)
 whole text out out′ r fits room told is =
     let all : r ≡ length text = omega arith in (
@@ -60,18 +59,17 @@ accepted file plot is =
 
 -- ---- 2. The text
 
--- No text is longer than 20,843 bytes: the board's line has at most 21, the tiles' 9, the layers' 28, the graph's 49, and each of 16 tiling lines 1,296
--- ("tiling ", two digits, ":", 257 times a blank and four digits, and the line feed).
-pub report-fits : (file : List ℕ) → length (report file) ≤ 20843
+-- No text is longer than `longestText` bytes.
+pub report-fits : (file : List ℕ) → length (report file) ≤ longestText
 unfolding report linesFor
 report-fits file = go (plotIn file) refl
   where
-    go : (a : Answer Plot) → plotIn file ≡ a → length (linesFor a) ≤ 20843
+    go : (a : Answer Plot) → plotIn file ≡ a → length (linesFor a) ≤ longestText
     go (refused n) is = let few = refusal-listed file n is .1 in omega (arith, refused-length n (omega arith))
     go (given plot) is = plot-length plot (accepted file plot is)
 
 -- So a call with as many bytes leaves the whole text in front of them, and tells its length.
-pub report-whole : (file out out′ : List ℕ) (r : ℕ) → WritesReport file out out′ r → 20843 ≤ length out → (r ≡ length (report file)) × (take r out′ ≡ report file)
+pub report-whole : (file out out′ : List ℕ) (r : ℕ) → WritesReport file out out′ r → longestText ≤ length out → (r ≡ length (report file)) × (take r out′ ≡ report file)
 report-whole file out out′ r w room = whole (report file) out out′ r (report-fits file) room (w .length) (w .bytes)
 
 -- "4,096 bytes are enough to settle any file": the text is that of the first 4,096 bytes.
@@ -94,11 +92,11 @@ module _ (file : List ℕ) (plot : Plot) (is : plotIn file ≡ given plot) where
   module _ (g : Graph) (made : plotGraph plot ≡ given g) where
     -- and so is the number behind `graph`.
     pub graph-count-is-cuttings : HasFreeCell (plot .board) → AllEdgeJoined (plot .tiles)
-        → Exactly (countFromGraph (g .complete) (g .counts)) (IsCutting (plot .board) (plot .tiles))
+        → Exactly (countOfGraph g) (IsCutting (plot .board) (plot .tiles))
     graph-count-is-cuttings free joined = (cuttingOf g, P.lists-cuttings plot ok g made free joined)
 
     -- Both numbers agree where neither count is refused, whatever the board and the tiles.
-    pub counts-agree : (n : ℕ) → plotLayers plot ≡ given n → countFromGraph (g .complete) (g .counts) ≡ n
+    pub counts-agree : (n : ℕ) → plotLayers plot ≡ given n → countOfGraph g ≡ n
     counts-agree n e = P.counts-same plot ok g made n e
 
     -- ---- 4. The tiling lines
@@ -106,7 +104,7 @@ module _ (file : List ℕ) (plot : Plot) (is : plotIn file ≡ given plot) where
     -- The numbers below the graph's count number the cuttings: the pieces that the steps of the list of a number mark (`cuttingOf`) are a cutting, two numbers
     -- never give the same, and every cutting has its number. So the tiling lines are different cuttings, and all of them where there are at most 16.
     pub tilings-are-cuttings : HasFreeCell (plot .board) → AllEdgeJoined (plot .tiles)
-        → Numbering (IsCutting (plot .board) (plot .tiles)) (countFromGraph (g .complete) (g .counts)) (cuttingOf g)
+        → Numbering (IsCutting (plot .board) (plot .tiles)) (countOfGraph g) (cuttingOf g)
     tilings-are-cuttings = P.lists-cuttings plot ok g made
 
     module _ (m : ℕ) (line : m < listed g) where

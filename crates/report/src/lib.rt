@@ -4,19 +4,21 @@
 use board::FreeCells;
 use board::RectangularBoard;
 use graph::GraphResult;
-use graph::Tiling;
+use numbered_tilings::Tiling;
+use path_count::PathCount;
 use plot_file::MadePlot;
 use refusal::Verdict;
-use tile::Tiles;
+use tiles::Tiles;
 ghost use mathlib.Core.Path.{_≡_};
 ghost use mathlib.Core.List.{flatMap};
 ghost use Prim.Native.Nat.{_≤_, _<_};
 ghost use lib.ListN.{length};
 ghost use Rattle.cells.specs.Arrays.{listOf};
 ghost use Rattle.refusal.specs.Refusal.{given, mapAnswer, valueOr};
-ghost use Rattle.board.specs.Board.{freeCount, readBoard};
-ghost use Rattle.graph.specs.Tilings.{countFromGraph};
-ghost use Rattle.tiler.specs.Counting.{Graph};
+ghost use Rattle.rectangle.specs.Board.{freeCount};
+ghost use Rattle.board.specs.Board.{readBoard};
+ghost use Rattle.path_count.specs.PathCounts.{countValue};
+ghost use Rattle.tiler.specs.Graphs.{Graph, countOfGraph};
 ghost use Rattle.plot_file.specs.PlotFile.{Plot};
 ghost use Rattle.report.specs.Report.{listed, layersLine, plotLayers, graphLines, plotGraph, tilingLine, plotLines, WritesReport};
 ghost use Rattle.report.specs.Inner.{Puts, HoldsPlot, Built};
@@ -71,7 +73,7 @@ fn put_layers(out: &mut [u8], at: usize, board: RectangularBoard, tiles: Tiles) 
     let mut counts_a = [0u64; 512];
     let mut boards_b = [0u64; 2048];
     let mut counts_b = [0u64; 512];
-    let count = tiler::count_tilings(
+    let count = layers::count_tilings(
         board,
         tiles,
         &mut boards_a,
@@ -126,16 +128,16 @@ fn put_tilings(
     nodes: &[u64],
     counts: &[u64],
     edges: &[u64],
-    count: u64,
+    count: PathCount,
 ) -> usize
     requires { ⌜ at ≤ length (now out) ⌝ }
-    ensures text { λ r. ⌜ ((g : Graph) → Built g graph (now (nodes .entry)) (now (counts .entry)) (now (edges .entry)) → count ≡ countFromGraph (g .complete) (g .counts) → Puts (now (out .entry)) at (flatMap (tilingLine g) (listOf (λ n. n) (listed g))) (now (out .exit)) r) ⌝ }
+    ensures text { λ r. ⌜ ((g : Graph) → Built g graph (now (nodes .entry)) (now (counts .entry)) (now (edges .entry)) → countValue count ≡ countOfGraph g → Puts (now (out .entry)) at (flatMap (tilingLine g) (listOf (λ n. n) (listed g))) (now (out .exit)) r) ⌝ }
     ensures within { λ r. ⌜ r ≤ length (now (out .entry)) ⌝ }
 {
     let mut next = at;
     let mut m: u64 = 0;
     while m < 16 {
-        if count <= m {
+        if !PathCount::of_words(m, 0).less(count) {
             return next;
         }
         next = put_tiling(out, next, graph, nodes, counts, edges, m);
@@ -155,11 +157,12 @@ fn put_tiling(
     m: u64,
 ) -> usize
     requires { ⌜ at ≤ length (now out) ⌝ }
-    ensures text { λ r. ⌜ ((g : Graph) → Built g graph (now (nodes .entry)) (now (counts .entry)) (now (edges .entry)) → m < countFromGraph (g .complete) (g .counts) → Puts (now (out .entry)) at (tilingLine g m) (now (out .exit)) r) ⌝ }
+    ensures text { λ r. ⌜ ((g : Graph) → Built g graph (now (nodes .entry)) (now (counts .entry)) (now (edges .entry)) → m < countOfGraph g → Puts (now (out .entry)) at (tilingLine g m) (now (out .exit)) r) ⌝ }
     ensures within { λ r. ⌜ r ≤ length (now (out .entry)) ⌝ }
 {
     let mut list = [0u64; 257];
-    let tiling = graph::tiling_by_number(graph, nodes, counts, edges, m, &mut list);
+    let number = PathCount::of_words(m, 0);
+    let tiling = numbered_tilings::tiling_by_number(graph, nodes, counts, edges, number, &mut list);
     match tiling {
         Tiling::Length(n) => lines::put_list(out, at, m, &list[..n]),
         Tiling::Refused(_) => at,

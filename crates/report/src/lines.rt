@@ -1,14 +1,16 @@
 // The lines of the report, by the numbers that stand in them. Private helpers; they ask that a place
 // is in the bytes or at their end.
 use crate::text;
+use layers::Count;
+use path_count::PathCount;
 use refusal::Refusal;
-use tiler::Count;
 ghost use mathlib.Core.List.{_++_, flatMap};
 ghost use Prim.Native.Nat.{_≤_};
 ghost use lib.ListN.{length};
 ghost use Rattle.plot_file.specs.Ascii.{ascii};
 ghost use Rattle.refusal.specs.Refusal.{refusalNumber};
-ghost use Rattle.tiler.specs.Counting.{countAnswer};
+ghost use Rattle.path_count.specs.PathCounts.{countValue};
+ghost use Rattle.layers.specs.LayerCounts.{countAnswer};
 ghost use Rattle.report.specs.Report.{decimal, field, feed, refusedLine, layersLine};
 ghost use Rattle.report.specs.Inner.{Puts};
 
@@ -52,7 +54,10 @@ pub fn put_count(out: &mut [u8], at: usize, count: Count) -> usize
     ensures { λ r. ⌜ Puts (now (out .entry)) at (layersLine (countAnswer count)) (now (out .exit)) r ⌝ }
 {
     match count {
-        Count::Number(n) => text::put_last(out, at, b"layers ", n),
+        Count::Number(n) => {
+            let next = text::put_paths(out, at, b"layers ", n);
+            text::put_bytes(out, next, b"\n")
+        }
         Count::Refused(refusal) => put_refusal(out, at, b"layers refused ", refusal),
     }
 }
@@ -66,11 +71,11 @@ pub fn put_no_graph(out: &mut [u8], at: usize, refusal: Refusal) -> usize
 }
 
 // The graph count, and the numbers of nodes and edges.
-pub fn put_sizes(out: &mut [u8], at: usize, count: u64, nodes: usize, edges: usize) -> usize
+pub fn put_sizes(out: &mut [u8], at: usize, count: PathCount, nodes: usize, edges: usize) -> usize
     requires { ⌜ at ≤ length (now out) ⌝ }
-    ensures { λ r. ⌜ Puts (now (out .entry)) at (field "graph " count ++ field " nodes " nodes ++ field " edges " edges ++ feed) (now (out .exit)) r ⌝ }
+    ensures { λ r. ⌜ Puts (now (out .entry)) at (field "graph " (countValue count) ++ field " nodes " nodes ++ field " edges " edges ++ feed) (now (out .exit)) r ⌝ }
 {
-    let second = text::put_field(out, at, b"graph ", count);
+    let second = text::put_paths(out, at, b"graph ", count);
     let third = text::put_field(out, second, b" nodes ", nodes as u64);
     text::put_last(out, third, b" edges ", edges as u64)
 }

@@ -1,9 +1,11 @@
 // Text in lent bytes: a byte, some bytes, a number in decimal digits, put at a place as far as there
 // is room; the place behind what was put comes back. Private helpers; they ask that a place is in
 // the bytes or at their end.
+use path_count::PathCount;
 ghost use mathlib.Core.List.{[], _∷_, _++_};
 ghost use Prim.Native.Nat.{_≤_};
 ghost use lib.ListN.{length};
+ghost use Rattle.path_count.specs.PathCounts.{countValue};
 ghost use Rattle.report.specs.Report.{decimal, feed};
 ghost use Rattle.report.specs.Inner.{Puts};
 
@@ -51,7 +53,15 @@ pub fn put_field(out: &mut [u8], at: usize, words: &[u8], n: u64) -> usize
     put_decimal(out, next, n)
 }
 
-// The same as the end of a line.
+// Some words, and a path count behind them.
+pub fn put_paths(out: &mut [u8], at: usize, words: &[u8], count: PathCount) -> usize
+    requires { ⌜ at ≤ length (now out) ⌝ }
+    ensures { λ r. ⌜ Puts (now (out .entry)) at (now (words .entry) ++ decimal (countValue count)) (now (out .exit)) r ⌝ }
+{
+    put_field(out, at, words, count.low())
+}
+
+// Some words and a number as the end of a line.
 pub fn put_last(out: &mut [u8], at: usize, words: &[u8], n: u64) -> usize
     requires { ⌜ at ≤ length (now out) ⌝ }
     ensures { λ r. ⌜ Puts (now (out .entry)) at ((now (words .entry) ++ decimal n) ++ feed) (now (out .exit)) r ⌝ }

@@ -12,16 +12,18 @@ use Rattle.refusal.specs.declared.Verdict.{Verdict}
 use Rattle.refusal.specs.declared.Verdict.the-variants as Verdicts
 use Rattle.refusal.specs.Refusal.{Answer, refused, given, mapAnswer, bindAnswer, refusalOf, refusalNumber, verdictNumber}
 use Rattle.refusal.specs.RefusalLaws.{refused-of, refused-given, given-inj, refused-inj}
-use Rattle.tile.specs.declared.Tiles.{Tiles}
-use Rattle.tile.specs.declared.Contains.{Contains}
-use Rattle.tile.specs.declared.Contains.the-variants as H
-use Rattle.tile.specs.Path.{Path, containsSingle}
-use Rattle.tile.specs.Stored.{pathsIn, readTiles, containsAnswer}
-use Rattle.tile.specs.StoredLaws.{readTiles-accepted}
+use Rattle.tiles.specs.declared.Tiles.{Tiles}
+use Rattle.tiles.specs.declared.Contains.{Contains}
+use Rattle.tiles.specs.declared.Contains.the-variants as H
+use Rattle.tile.specs.Path.{Path}
+use Rattle.tiles.specs.Paths.{containsSingle}
+use Rattle.tiles.specs.Stored.{pathsIn, readTiles, containsAnswer}
+use Rattle.tiles.specs.ReadLaws.{readTiles-accepted}
 use Rattle.board.specs.declared.RectangularBoard.{RectangularBoard}
 use Rattle.board.specs.declared.FreeCells.{FreeCells}
 use Rattle.board.specs.declared.FreeCells.the-variants as F
-use Rattle.board.specs.Board.{Board, freeCount, readBoard, freeCellsAnswer}
+use Rattle.rectangle.specs.Board.{Board, freeCount}
+use Rattle.board.specs.Board.{readBoard, freeCellsAnswer}
 use Rattle.single_tiling.specs.SingleTiling.{readSearch}
 use Rattle.single_tiling.specs.Inner.{Read, judgeTiles}
 

@@ -14,20 +14,27 @@ use Rattle.cells.specs.ArrayLaws.{getD-listOf}
 use Rattle.refusal.specs.declared.Refusal.{Refusal}
 use Rattle.refusal.specs.Refusal.{given, mapAnswer, refusalNumber}
 use Rattle.refusal.specs.RefusalLaws.{refused-given, given-inj}
-use Rattle.tile.specs.Path.{Path, containsSingle}
-use Rattle.tile.specs.Stored.{pathAt, pathsIn}
+use Rattle.tile.specs.Path.{Path}
+use Rattle.tiles.specs.Paths.{containsSingle}
+use Rattle.tiles.specs.Stored.{pathAt, pathsIn}
 use Rattle.board.specs.declared.RectangularBoard.{RectangularBoard}
 use Rattle.board.specs.declared.AllMarked.{AllMarked}
 use Rattle.board.specs.declared.AllMarked.the-variants as M
-use Rattle.board.specs.declared.ChosenCell.{ChosenCell}
-use Rattle.board.specs.declared.ChosenCell.the-variants as H
-use Rattle.board.specs.declared.Fit.{Fit}
-use Rattle.board.specs.declared.Fit.the-variants as F
-use Rattle.board.specs.Board.{Board, boardOf, isFull, valid, readBoard, allMarkedAnswer}
-use Rattle.board.specs.Children.{countOf, chosen, pruned, withCount, chosenCount, chosenAnswer, fitFor, fitPieces}
-use Rattle.board.specs.BoardLaws.{readBoard-given, valid-width}
-use Rattle.board.specs.ChosenLaws.{pruned-chosen}
-use Rattle.board.proofs.PlacingLaws.{tile-sound, part-path}
+use Rattle.choice.specs.declared.ChosenCell.{ChosenCell}
+use Rattle.choice.specs.declared.ChosenCell.the-variants as H
+use Rattle.fit.specs.declared.Fit.{Fit}
+use Rattle.fit.specs.declared.Fit.the-variants as F
+use Rattle.rectangle.specs.Board.{Board, marks, isFull, valid}
+use Rattle.board.specs.Board.{boardOf, readBoard, allMarkedAnswer}
+use Rattle.choice.specs.Choice.{countOf, chosen, withCount, chosenCount, chosenAnswer}
+use Rattle.children.specs.Children.{pruned}
+use Rattle.fit.specs.Fit.{fitFor, fitIn, fitPieces}
+use Rattle.fit.specs.FitForLaws.{fitIn-is-fitFor}
+use Rattle.board.specs.BoardLaws.{readBoard-given}
+use Rattle.rectangle.specs.BoardLaws.{valid-width}
+use Rattle.children.specs.PruneLaws.{pruned-chosen}
+use Rattle.tiles.specs.ReadLaws.{sound-tile}
+use Rattle.children.proofs.PlacingLaws.{part-path}
 use Rattle.single_tiling.specs.declared.descent.Place.the-variants as P
 use Rattle.single_tiling.specs.Inner.{fitIndex, placeOf, placeFor, Read, tilesFrom}
 
@@ -109,15 +116,15 @@ module _ (count : ℕ) (lens codes : List ℕ) (i : ℕ) (h : i < 33 * count) wh
   index-short read =
       let few = read .0 in
       let less = index-below in
-      (tile-sound (tilesFrom count lens codes) (read .2) (i / 33) index-below .0, omega arith)
+      (sound-tile (tilesFrom count lens codes) (read .2) (i / 33) index-below .0, omega arith)
 
   -- the part of the codes that is lent is the path of the index's tile
-  pub index-fit : (b : Board) (cell : ℕ) (fits : List ℕ)
-      → fits ≡ fitFor b (take (32 * (i / 33) + getD lens (i / 33) 0 - 32 * (i / 33)) (drop (32 * (i / 33)) codes)) (i % 33) cell
+  pub index-fit : (b : Board) (m : ℕ) → m ≡ marks b → (cell : ℕ) (fits : List ℕ)
+      → fits ≡ fitIn (b .width) (b .height) m (take (32 * (i / 33) + getD lens (i / 33) 0 - 32 * (i / 33)) (drop (32 * (i / 33)) codes)) (i % 33) cell
       → fits ≡ fitIndex b (pathsIn (tilesFrom count lens codes)) cell i
   unfolding fitIndex
-  index-fit b cell fits e =
-      e ∙ ap (λ (path : List ℕ). fitFor b path (i % 33) cell) (part-path lens codes (i / 33) ∙ sym (getD-listOf (pathAt lens codes) count (i / 33) [] index-below))
+  index-fit b m marked cell fits e =
+      e ∙ fitIn-is-fitFor b m marked _ (i % 33) cell ∙ ap (λ (path : List ℕ). fitFor b path (i % 33) cell) (part-path lens codes (i / 33) ∙ sym (getD-listOf (pathAt lens codes) count (i / 33) [] index-below))
 
 -- ---- `is_piece`
 

@@ -16,14 +16,16 @@ use Rattle.cells.specs.ListLaws.{cleared-all}
 use Rattle.refusal.specs.declared.Refusal.{Refusal}
 use Rattle.refusal.specs.Refusal.{Answer, refused, given, mapAnswer, bindAnswer, refusalNumber, valueOr}
 use Rattle.refusal.specs.RefusalLaws.{refused-given, given-inj, map-refused}
-use Rattle.tile.specs.declared.Tiles.{Tiles}
-use Rattle.tile.specs.Path.{Path, cellCount, containsSingle}
-use Rattle.tile.specs.Stored.{pathsIn}
-use Rattle.tile.specs.EqualLaws.{readTiles-sound}
+use Rattle.tiles.specs.declared.Tiles.{Tiles}
+use Rattle.tile.specs.Path.{Path, cellCount}
+use Rattle.tiles.specs.Paths.{containsSingle}
+use Rattle.tiles.specs.Stored.{pathsIn}
+use Rattle.tiles.specs.ReadLaws.{readTiles-sound}
 use Rattle.board.specs.declared.RectangularBoard.{RectangularBoard}
-use Rattle.board.specs.Board.{Board, boardOf, freeCount, isFull, freeCellsAnswer}
+use Rattle.rectangle.specs.Board.{Board, freeCount, isFull}
+use Rattle.board.specs.Board.{boardOf, freeCellsAnswer}
 use Rattle.board.specs.BoardLaws.{readBoard-given}
-use Rattle.board.specs.FreeLaws.{free-le}
+use Rattle.rectangle.specs.FreeLaws.{free-le}
 use Rattle.graph.specs.GraphLaws.{cleared-nodes}
 use Rattle.single_tiling.specs.declared.SingleTiling.{SingleTiling}
 use Rattle.single_tiling.specs.declared.SingleTiling.the-variants as S

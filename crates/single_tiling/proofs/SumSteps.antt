@@ -1,83 +1,44 @@
--- The steps of the functions of `sums`: a tile of some accepted tiles is read as its path, its number of cells is told, an array of such numbers is
+-- The steps of the functions of `sums`: the number of cells of a tile of some accepted tiles is told, an array of such numbers is
 -- filled, one size more than a marked number, and the table in which the sums are marked. Rests on `Inner`, `SumLaws` and on the laws of `cells`,
 -- `refusal` and `tile`. Assumes nothing.
-use mathlib.Core.Path.{_≡_, refl, sym, ap, _∙_, subst}
+use mathlib.Core.Path.{_≡_, sym, ap, _∙_, subst}
 use mathlib.Core.Bool.{true, false, _&&_, and-false}
 use mathlib.Core.List.{List, [], map, List·Memᴰ as Mem}
-use Prim.Native.Nat.{ℕ, _+_, _-_, _*_, _≤_, _<_}
+use Prim.Native.Nat.{ℕ, _+_, _-_, _≤_, _<_}
 use native.Mathlib.Decide.{ℕ-discrete}
 use native.Mathlib.Omega.{arith}
 use borrow.Author.Tests.{le-leb, lt-leb, eq-eqb, ne-eqb}
 use lib.Dec.{eqb, leb}
-use lib.ListN.{length, getD, take, drop, set, length-drop, length-set}
-use lib.Seq.{ext-getD, getD-take, getD-drop, length-take-le, getD-set-same, getD-set-other}
+use lib.ListN.{length, getD, set, length-set}
+use lib.Seq.{getD-set-same, getD-set-other}
 use Rattle.cells.specs.Arrays.{listOf}
-use Rattle.cells.specs.ArrayLaws.{length-listOf, getD-listOf, allBelow-at}
+use Rattle.cells.specs.ArrayLaws.{getD-listOf}
 use Rattle.cells.specs.Firsts.{any}
 use Rattle.cells.specs.MemberLaws.{mem-listOf}
 use Rattle.refusal.specs.declared.Refusal.{Refusal}
-use Rattle.refusal.specs.Refusal.{given, mapAnswer, refusalNumber}
-use Rattle.refusal.specs.RefusalLaws.{refused-given, given-inj}
+use Rattle.refusal.specs.Refusal.{mapAnswer}
 use Rattle.tile.specs.declared.Tile.{Tile}
-use Rattle.tile.specs.declared.Tiles.{Tiles}
+use Rattle.tiles.specs.declared.Tiles.{Tiles}
 use Rattle.tile.specs.declared.CellCount.{CellCount}
 use Rattle.tile.specs.declared.CellCount.the-variants as C
-use Rattle.tile.specs.Path.{codesOk, cellCount}
-use Rattle.tile.specs.Stored.{pathIn, readTile, pathAt, soundAt, pathsIn, tileAt, cellCountAnswer}
-use Rattle.tile.specs.StoredLaws.{readTile-given}
-use Rattle.tile.specs.EqualLaws.{cellCount-pos, soundAt-path, readTiles-sound}
+use Rattle.tile.specs.Path.{cellCount}
+use Rattle.tile.specs.Stored.{readTile, cellCountAnswer}
+use Rattle.tiles.specs.Stored.{pathAt, pathsIn, tileAt}
+use Rattle.tile.specs.PathLaws.{cellCount-pos}
+use Rattle.tiles.specs.ReadLaws.{tile-count-is, tile-count-refused}
 use Rattle.single_tiling.specs.Inner.{Read, IsSum}
 use Rattle.single_tiling.specs.SumLaws.{Marked, marked-set, marked-skip, marked-end, sizes-listed}
 
 -- ---- `cells_of`
 
--- a part of 32 codes has the same first codes
-part-take : (codes : List ℕ) (from n : ℕ) → n ≤ 32 → from + 32 ≤ length codes → take n (listOf (λ j. getD codes (from + j) 0) 32) ≡ take n (drop from codes)
-part-take codes from n h l = ext-getD 0 (take n (listOf part 32)) (take n (drop from codes)) (long ∙ sym long′) each
-  where
-    part : ℕ → ℕ
-    part j = getD codes (from + j) 0
+module _ (ts : Tiles) (ok : Read ts) (i : ℕ) (h : i < ts .count)
+    (t : Tile) (at : t ≡ tileAt ts i) (a : CellCount) (e : cellCountAnswer a ≡ mapAnswer cellCount (readTile t)) where
+  pub count-is : (n : ℕ) → a ≡ C.Is n → n ≡ cellCount (getD (pathsIn ts) i [])
+  count-is n q =
+      tile-count-is ts (ok .1) (ok .2) i h t at a e n q ∙ ap cellCount (sym (getD-listOf (pathAt (ts .lens) (ts .codes)) (ts .count) i [] h))
 
-    long : length (take n (listOf part 32)) ≡ n
-    long = length-take-le n (listOf part 32) (omega (arith, length-listOf part 32))
-
-    long′ : length (take n (drop from codes)) ≡ n
-    long′ = length-take-le n (drop from codes) (omega (arith, length-drop from codes))
-
-    each : (k : ℕ) → k < length (take n (listOf part 32)) → getD (take n (listOf part 32)) k 0 ≡ getD (take n (drop from codes)) k 0
-    each k i =
-        let s : k < n = omega (arith, long) in
-        let b : k < 32 = omega arith in
-        getD-take n (listOf part 32) k 0 s ∙ getD-listOf part 32 k 0 b ∙ sym (getD-take n (drop from codes) k 0 s ∙ getD-drop from codes k 0)
-
-len-tileAt : (ts : Tiles) (i : ℕ) → tileAt ts i .len ≡ getD (ts .lens) i 0
-unfolding tileAt
-len-tileAt ts i = refl
-
-module _ (ts : Tiles) (ok : Read ts) (i : ℕ) (h : i < ts .count) where
-  path-tileAt : getD (ts .lens) i 0 ≤ 32 → pathIn (tileAt ts i) ≡ pathAt (ts .lens) (ts .codes) i
-  unfolding tileAt
-  path-tileAt l = part-take (ts .codes) (32 * i) (getD (ts .lens) i 0) l (omega (arith, ok .0, ok .1))
-
-  -- a tile of some accepted tiles is read as its path
-  read-tileAt : readTile (tileAt ts i) ≡ given (getD (pathsIn ts) i [])
-  read-tileAt =
-      let all = readTiles-sound ts (pathsIn ts) (ok .2) .1 in
-      let sound = soundAt-path (ts .lens) (ts .codes) i (allBelow-at (soundAt (ts .lens) (ts .codes)) (ts .count) i all h) in
-      let is = path-tileAt (sound .0) in
-      readTile-given (tileAt ts i) (subst (λ (n : ℕ). n ≤ 32) (sym (len-tileAt ts i)) (sound .0)) (ap codesOk is ∙ sound .1)
-      ∙ ap given (is ∙ sym (getD-listOf (pathAt (ts .lens) (ts .codes)) (ts .count) i [] h))
-
-  module _ (t : Tile) (at : t ≡ tileAt ts i) (a : CellCount) (e : cellCountAnswer a ≡ mapAnswer cellCount (readTile t)) where
-    count-answer : cellCountAnswer a ≡ given (cellCount (getD (pathsIn ts) i []))
-    unfolding mapAnswer
-    count-answer = e ∙ ap (mapAnswer cellCount) (ap readTile at ∙ read-tileAt)
-
-    pub count-is : (n : ℕ) → a ≡ C.Is n → n ≡ cellCount (getD (pathsIn ts) i [])
-    count-is n q = given-inj n (cellCount (getD (pathsIn ts) i [])) (sym (ap cellCountAnswer q) ∙ count-answer)
-
-    pub count-refused : (q : Refusal) → a ≡ C.Refused q → ⊥
-    count-refused q s = refused-given (refusalNumber q) (cellCount (getD (pathsIn ts) i [])) (sym (ap cellCountAnswer s) ∙ count-answer)
+  pub count-refused : (q : Refusal) → a ≡ C.Refused q → ⊥
+  count-refused = tile-count-refused ts (ok .1) (ok .2) i h t at a e
 
 -- ---- `cell_counts`: an array that has f's numbers below i
 

@@ -16,15 +16,17 @@ use Rattle.cells.specs.Arrays.{listOf}
 use Rattle.cells.specs.ArrayLaws.{length-listOf, getD-listOf, listOf-ext, listOf-snoc}
 use Rattle.cells.specs.Lists.{setAt, withSet}
 use Rattle.cells.specs.ListLaws.{length-withSet, setAt-same, setAt-other}
-use Rattle.tile.specs.declared.Tiles.{Tiles}
-use Rattle.tile.specs.Stored.{pathAt, pathsIn, Storable}
-use Rattle.tile.specs.EqualLaws.{readTiles-storable}
+use Rattle.tiles.specs.declared.Tiles.{Tiles}
+use Rattle.tiles.specs.Stored.{pathAt, pathsIn, Storable}
+use Rattle.tiles.specs.ReadLaws.{readTiles-storable}
 use Rattle.board.specs.declared.RectangularBoard.{RectangularBoard}
-use Rattle.board.specs.declared.Fit.{Fit}
-use Rattle.board.specs.declared.Fit.the-variants as Fits
-use Rattle.board.specs.Board.{Board, boardOf, marks, freeCount, isFull, valid}
-use Rattle.board.specs.Children.{fitPieces, lay}
-use Rattle.board.specs.BoardLaws.{marks-lt}
+use Rattle.fit.specs.declared.Fit.{Fit}
+use Rattle.fit.specs.declared.Fit.the-variants as Fits
+use Rattle.rectangle.specs.Board.{Board, marks, freeCount, isFull, valid}
+use Rattle.board.specs.Board.{boardOf}
+use Rattle.fit.specs.Fit.{fitPieces}
+use Rattle.rectangle.specs.Board.{lay}
+use Rattle.rectangle.specs.BoardLaws.{marks-lt}
 use Rattle.single_tiling.specs.declared.descent.Found.{Found}
 use Rattle.single_tiling.specs.declared.descent.Found.the-variants as F
 use Rattle.single_tiling.specs.declared.descent.Place.the-variants as P

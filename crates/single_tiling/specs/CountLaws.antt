@@ -7,13 +7,14 @@ use native.Mathlib.Omega.{arith}
 use Rattle.cells.specs.Words.{Sound}
 use Rattle.cells.specs.WordLaws.{number-lt}
 use Rattle.refusal.specs.Refusal.{given}
-use Rattle.tile.specs.declared.Tiles.{Tiles}
-use Rattle.tile.specs.Stored.{pathsIn}
+use Rattle.tiles.specs.declared.Tiles.{Tiles}
+use Rattle.tiles.specs.Stored.{pathsIn}
 use Rattle.board.specs.declared.RectangularBoard.{RectangularBoard}
-use Rattle.board.specs.Board.{boardOf, isFull, valid}
+use Rattle.board.specs.Board.{boardOf}
+use Rattle.rectangle.specs.Board.{isFull, valid}
 use Rattle.covers.specs.Cuttings.{Exactly}
-use Rattle.tiler.specs.Counting.{countTilings}
-use Rattle.tiler.specs.GivenLaws.{layers-count}
+use Rattle.layers.specs.LayerCounts.{countTilings}
+use Rattle.layers.specs.CountLaws.{layers-count}
 use Rattle.tiler.specs.Theorems.{Reaches, layer-count-is-number-of-sequences, layer-count-of-none, layer-count-of-full-start}
 use Rattle.single_tiling.specs.SingleTiling.{Tiling}
 use Rattle.single_tiling.specs.TilingLaws.{full-no-tiling, sequence-tiling}

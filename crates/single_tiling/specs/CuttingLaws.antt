@@ -7,17 +7,17 @@ use Prim.Native.Nat.{ℕ, _^_, _<_}
 use lib.Dec.{eqb}
 use Rattle.cells.specs.Firsts.{holds}
 use Rattle.tile.specs.Path.{Path, codesOk}
-use Rattle.board.specs.Board.{Board, marks, isFree, isFull, valid}
-use Rattle.board.specs.Children.{childrenAt}
+use Rattle.rectangle.specs.Board.{Board, marks, isFree, isFull, valid}
+use Rattle.children.specs.Children.{childrenAt}
 use Rattle.covers.specs.Cuttings.{childBoards}
 use Rattle.covers.specs.Counts.{ChildSequence, piecesOf}
 use Rattle.covers.specs.ChildLaws.{sequence-children, children-sequence}
 use Rattle.covers.specs.SequenceLaws.{free-not-full, sequence-cutting, cutting-sequence}
-use Rattle.graph.specs.Tilings.{stepPiece, markedBy}
-use Rattle.tiler.specs.Boards.{setting}
-use Rattle.tiler.specs.Cuttings.{IsCutting, HasFreeCell, AllEdgeJoined}
-use Rattle.tiler.specs.SettingLaws.{children-are, setting-laws, start-at, start-ok}
-use Rattle.tiler.specs.CuttingLaws.{sound-pruning, cutting-start}
+use Rattle.graph.specs.Result.{stepPiece, markedBy}
+use Rattle.expansion.specs.Boards.{setting}
+use Rattle.expansion.specs.Cuttings.{IsCutting, HasFreeCell, AllEdgeJoined}
+use Rattle.expansion.specs.SettingLaws.{children-are, setting-laws, start-at, start-ok}
+use Rattle.expansion.specs.CuttingLaws.{sound-pruning, cutting-start}
 use Rattle.single_tiling.specs.SingleTiling.{Tiling}
 use Rattle.single_tiling.specs.TilingLaws.{sequence-tiling}
 

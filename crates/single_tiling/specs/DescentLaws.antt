@@ -13,14 +13,18 @@ use lib.ListN.{length}
 use Rattle.cells.specs.Arrays.{listOf}
 use Rattle.cells.specs.SetLaws.{unionOf-lt}
 use Rattle.tile.specs.Path.{Path}
-use Rattle.tile.specs.Stored.{Storable}
-use Rattle.board.specs.Board.{Board, boardAt, marks, freeCount, isFull, valid}
-use Rattle.board.specs.Children.{IsPiece, chosen, pieces, lay, pruned, children, childrenAt}
-use Rattle.board.specs.PieceLaws.{pieces-are-pieces}
-use Rattle.board.specs.ChildLaws.{children-pruned, children-full, children-chosen, lay-valid}
+use Rattle.tiles.specs.Stored.{Storable}
+use Rattle.rectangle.specs.Board.{Board, boardAt, marks, freeCount, isFull, valid}
+use Rattle.fit.specs.Fit.{IsPiece, pieces}
+use Rattle.choice.specs.Choice.{chosen}
+use Rattle.rectangle.specs.Board.{lay}
+use Rattle.children.specs.Children.{pruned, children, childrenAt}
+use Rattle.fit.specs.PieceLaws.{pieces-are-pieces}
+use Rattle.children.specs.ChildLaws.{children-pruned, children-full, children-chosen}
+use Rattle.fit.specs.LayLaws.{lay-valid}
 use Rattle.covers.specs.Counts.{ChildSequence}
-use Rattle.tiler.specs.Boards.{From}
-use Rattle.tiler.specs.SettingLaws.{start-at, start-ok}
+use Rattle.expansion.specs.Boards.{From}
+use Rattle.expansion.specs.SettingLaws.{start-at, start-ok}
 use Rattle.single_tiling.specs.declared.descent.Place.the-variants as P
 use Rattle.single_tiling.specs.SingleTiling.{Finds}
 use Rattle.single_tiling.specs.Inner.{firstOf, inFront, firstTiling, firstTilingFrom, singleOf, fitIndex, placeOf, placeFor, New}

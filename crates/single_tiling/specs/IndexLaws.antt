@@ -11,17 +11,18 @@ use lib.ListN.{length, getD}
 use Rattle.cells.specs.Arrays.{listOf}
 use Rattle.cells.specs.FirstsLaws.{mem-getD}
 use Rattle.cells.specs.MemberLaws.{eqb-tells}
-use Rattle.refusal.specs.Refusal.{refusalOf}
-use Rattle.tile.specs.Path.{Path, codesOk}
-use Rattle.tile.specs.Stored.{Storable, readPath}
-use Rattle.tile.specs.StoredLaws.{readPath-given}
-use Rattle.tile.specs.EqualLaws.{cellCount-pos}
-use Rattle.board.specs.Board.{Board, positionOf, freeCount, sizeOk, valid}
-use Rattle.board.specs.Children.{offset, pointAt, IsPiece, fitAt, fitsOf, pieces, lay, fitFor}
-use Rattle.board.specs.BoardLaws.{valid-size}
-use Rattle.board.specs.PieceLaws.{fitAt-piece, fitFor-point, fitFor-fit}
-use Rattle.board.specs.ChildLaws.{lay-valid}
-use Rattle.board.specs.FreeLaws.{piece-iff, piece-size, lay-count}
+use Rattle.tile.specs.Path.{Path, codesOk, isPath}
+use Rattle.tiles.specs.Stored.{Storable}
+use Rattle.tile.specs.StoredLaws.{isPath-good}
+use Rattle.tile.specs.PathLaws.{cellCount-pos}
+use Rattle.rectangle.specs.Board.{Board, positionOf, freeCount, sizeOk, valid}
+use Rattle.fit.specs.Fit.{offset, pointAt, IsPiece, fitAt, fitsOf, pieces, fitFor}
+use Rattle.rectangle.specs.Board.{lay}
+use Rattle.rectangle.specs.BoardLaws.{valid-size}
+use Rattle.fit.specs.PieceLaws.{fitAt-piece}
+use Rattle.fit.specs.FitForLaws.{fitFor-point, fitFor-fit}
+use Rattle.fit.specs.LayLaws.{lay-valid}
+use Rattle.fit.specs.LayLaws.{piece-iff, piece-size, lay-count}
 use Rattle.single_tiling.specs.Inner.{orElse, firstOf, fitIndex}
 use Rattle.single_tiling.specs.FirstLaws.{firstOf-append, firstOf-flatMap, firstOf-firsts, first-join, first-ext, first-miss, first-short}
 
@@ -42,11 +43,11 @@ rest-remainder k = omega arith
 module _ {B : Type 0} (b : Board) (good : So (valid b)) (cell : ℕ) (f : ℕ → List B) where
   -- the fits of one tile
   one-tile : (path : Path) → length path ≤ 32 → So (codesOk path) → firstOf f (fitsOf b cell path) ≡ firstOf (λ j. firstOf f (fitFor b path j cell)) (listOf (λ j. j) 33)
-  unfolding fitsOf firstOf refusalOf
+  unfolding fitsOf firstOf
   one-tile path short ok =
       firstOf-flatMap f (λ j. fitAt b path j cell) (listOf (λ j. j) (length path + 1))
       ∙ first-short (λ j. firstOf f (fitAt b path j cell)) (λ j. firstOf f (fitFor b path j cell)) (length path + 1) 33 (omega arith)
-      (λ j h. ap (firstOf f) (sym (fitFor-fit b path j cell (valid-size b good) (ap refusalOf (sym (readPath-given path short ok))) (omega arith))))
+      (λ j h. ap (firstOf f) (sym (fitFor-fit b path j cell (valid-size b good) (isPath-good path short ok) (omega arith))))
       (λ j h k. ap (firstOf f) (fitFor-point b path j cell (omega arith)))
 
   -- those of the tiles in order
@@ -85,7 +86,7 @@ lay-fewer b good paths p piece =
 -- what fits, fits with the point on the cell
 fitFor-some : (b : Board) (path : Path) (j cell p : ℕ) → fitFor b path j cell ≡ p ∷ [] → fitAt b path j cell ≡ p ∷ []
 unfolding fitFor
-fitFor-some b path j cell p e = go (sizeOk (b .width) (b .height) && (eqb (refusalOf (readPath path)) 0 && leb j (length path))) e
+fitFor-some b path j cell p e = go (sizeOk (b .width) (b .height) && (isPath path && leb j (length path))) e
   where
     go : (t : Bool) → cond t (fitAt b path j cell) [] ≡ p ∷ [] → fitAt b path j cell ≡ p ∷ []
     go true e = e

@@ -9,12 +9,13 @@ use lib.Dec.{leb}
 use lib.ListN.{length}
 use Rattle.cells.specs.Lists.{wordsFor}
 use Rattle.refusal.specs.Refusal.{Answer, refused, given, mapAnswer, bindAnswer, refusalNumber, valueOr}
-use Rattle.tile.specs.declared.Tiles.{Tiles}
+use Rattle.tiles.specs.declared.Tiles.{Tiles}
 use Rattle.tile.specs.Path.{Path}
-use Rattle.tile.specs.Stored.{readTiles}
+use Rattle.tiles.specs.Stored.{readTiles}
 use Rattle.board.specs.declared.RectangularBoard.{RectangularBoard}
-use Rattle.board.specs.Board.{Board, boardAt, marks, freeCount, isFull, readBoard}
-use Rattle.board.specs.Children.{childrenAt}
+use Rattle.rectangle.specs.Board.{Board, boardAt, marks, freeCount, isFull}
+use Rattle.board.specs.Board.{readBoard}
+use Rattle.children.specs.Children.{childrenAt}
 use Rattle.covers.specs.Counts.{ChildSequence}
 use Rattle.single_tiling.specs.declared.SingleTiling.{SingleTiling}
 use Rattle.single_tiling.specs.declared.SingleTiling.the-variants as S

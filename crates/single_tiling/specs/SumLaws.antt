@@ -16,14 +16,14 @@ use Rattle.cells.specs.ArrayLaws.{length-listOf}
 use Rattle.cells.specs.Firsts.{any}
 use Rattle.cells.specs.FirstsLaws.{any-true}
 use Rattle.cells.specs.MemberLaws.{mem-place, mem-listOf}
-use Rattle.tile.specs.declared.Tiles.{Tiles}
+use Rattle.tiles.specs.declared.Tiles.{Tiles}
 use Rattle.tile.specs.Path.{Path, cellCount}
-use Rattle.tile.specs.Stored.{pathAt, pathsIn}
-use Rattle.board.specs.Board.{Board, boardAt, marks, freeCount, isFull, valid}
-use Rattle.board.specs.Children.{childrenAt}
+use Rattle.tiles.specs.Stored.{pathAt, pathsIn}
+use Rattle.rectangle.specs.Board.{Board, boardAt, marks, freeCount, isFull, valid}
+use Rattle.children.specs.Children.{childrenAt}
 use Rattle.covers.specs.Counts.{Steps, ChildSequence, sumOf}
-use Rattle.tiler.specs.Boards.{From}
-use Rattle.tiler.specs.SettingLaws.{start-at, start-ok}
+use Rattle.expansion.specs.Boards.{From}
+use Rattle.expansion.specs.SettingLaws.{start-at, start-ok}
 use Rattle.single_tiling.specs.SingleTiling.{Tiling}
 use Rattle.single_tiling.specs.Inner.{IsSum}
 use Rattle.single_tiling.specs.TilingLaws.{full-zero, child-from, child-tile}

@@ -15,15 +15,16 @@ use Rattle.cells.specs.Words.{Sound}
 use Rattle.cells.specs.WordLaws.{number-lt}
 use Rattle.refusal.specs.Refusal.{refused, given}
 use Rattle.refusal.specs.RefusalLaws.{given-inj, map-refused}
-use Rattle.tile.specs.declared.Tiles.{Tiles}
+use Rattle.tiles.specs.declared.Tiles.{Tiles}
 use Rattle.tile.specs.Path.{Path}
-use Rattle.tile.specs.Stored.{pathsIn}
-use Rattle.tile.specs.EqualLaws.{readTiles-storable}
+use Rattle.tiles.specs.Stored.{pathsIn}
+use Rattle.tiles.specs.ReadLaws.{readTiles-storable}
 use Rattle.board.specs.declared.RectangularBoard.{RectangularBoard}
-use Rattle.board.specs.Board.{Board, boardOf, freeCount, isFull, valid}
-use Rattle.graph.specs.Tilings.{markedBy}
-use Rattle.tiler.specs.Counting.{countTilings}
-use Rattle.tiler.specs.Cuttings.{IsCutting, HasFreeCell, AllEdgeJoined}
+use Rattle.rectangle.specs.Board.{Board, freeCount, isFull, valid}
+use Rattle.board.specs.Board.{boardOf}
+use Rattle.graph.specs.Result.{markedBy}
+use Rattle.layers.specs.LayerCounts.{countTilings}
+use Rattle.expansion.specs.Cuttings.{IsCutting, HasFreeCell, AllEdgeJoined}
 use Rattle.single_tiling.specs.declared.SingleTiling.{SingleTiling}
 use Rattle.single_tiling.specs.SingleTiling.{Tiling, readSearch, numberFound, singleAnswer, GetsSingleTiling}
 use Rattle.single_tiling.specs.TilingLaws.{tiling-length, tiling-small, full-no-tiling, search-read, finds-none, finds-some, finds-nothing, words-refused, answer-given, words-given, words-back, words-zero, no-cells-full}

@@ -9,29 +9,32 @@ use mathlib.Core.Option.{Option, none, some, Option·none-ne-some, Option·some-
 use Prim.Native.Nat.{ℕ, _+_, _*_, _/_, _^_, _≤_, _<_}
 use native.Mathlib.Omega.{arith}
 use borrow.Author.Tests.{eqb-true, leb-true}
-use lib.Dec.{leb}
+use lib.Dec.{lit<, leb}
 use lib.ListN.{length, getD, replicate}
 use Rattle.cells.specs.ArrayLaws.{listOf-ext, replicate-listOf}
 use Rattle.cells.specs.Lists.{setsIn, wordAt, wordsFor}
 use Rattle.cells.specs.ListLaws.{wordAt-past, setsIn-wordsFor}
 use Rattle.refusal.specs.Refusal.{Answer, refused, given, mapAnswer, bindAnswer, valueOr}
 use Rattle.refusal.specs.RefusalLaws.{refused-given, given-inj}
-use Rattle.tile.specs.declared.Tiles.{Tiles}
+use Rattle.tiles.specs.declared.Tiles.{Tiles}
 use Rattle.tile.specs.Path.{Path, cellCount}
-use Rattle.tile.specs.Stored.{pathsIn, readTiles}
-use Rattle.tile.specs.EqualLaws.{cellCount-pos, readTiles-sound}
+use Rattle.tiles.specs.Stored.{pathsIn, readTiles}
+use Rattle.tile.specs.PathLaws.{cellCount-pos}
+use Rattle.tiles.specs.ReadLaws.{readTiles-sound}
 use Rattle.board.specs.declared.RectangularBoard.{RectangularBoard}
-use Rattle.board.specs.Board.{Board, boardOf, boardAt, marks, freeCount, isFull, valid, readBoard}
-use Rattle.board.specs.Children.{IsPiece, childrenAt}
-use Rattle.board.specs.BoardLaws.{none-full}
-use Rattle.board.specs.ChosenLaws.{free-inside}
-use Rattle.board.specs.ChildLaws.{child-piece, full-children}
-use Rattle.board.specs.FreeLaws.{piece-iff, piece-size, lay-count}
+use Rattle.rectangle.specs.Board.{Board, boardAt, marks, freeCount, isFull, valid}
+use Rattle.board.specs.Board.{boardOf, readBoard}
+use Rattle.fit.specs.Fit.{IsPiece}
+use Rattle.children.specs.Children.{childrenAt}
+use Rattle.rectangle.specs.BoardLaws.{none-full}
+use Rattle.rectangle.specs.BoardLaws.{free-inside}
+use Rattle.children.specs.ChildLaws.{child-piece, full-children}
+use Rattle.fit.specs.LayLaws.{piece-iff, piece-size, lay-count}
 use Rattle.covers.specs.Counts.{Steps, ChildSequence}
 use Rattle.covers.specs.NodeLaws.{chain-good}
-use Rattle.tiler.specs.Boards.{From}
-use Rattle.tiler.specs.SettingLaws.{marks-at, lay-at, lay-from, start-at, start-ok}
-use Rattle.tiler.specs.AnswerLaws.{small-at}
+use Rattle.expansion.specs.Boards.{From}
+use Rattle.expansion.specs.SettingLaws.{marks-at, lay-at, lay-from, start-at, start-ok}
+use Rattle.expansion.specs.ExpansionLaws.{below-at}
 use Rattle.single_tiling.specs.declared.SingleTiling.{SingleTiling}
 use Rattle.single_tiling.specs.SingleTiling.{Tiling, Finds, readSearch, boardsFound, numberFound, singleAnswer, GetsSingleTiling}
 
@@ -91,7 +94,7 @@ module _ (b : Board) (good : So (valid b)) (paths : List Path) where
     -- each board is one of the start, a set of 256 cells
     pub tiling-small : (xs : List ℕ) → Tiling b paths xs → (i : ℕ) → getD xs i 0 < 2 ^ 256
     tiling-small xs t =
-        small-at xs
+        below-at (2 ^ 256) (lit< tt) xs
         (λ n m. chain-good (λ s u. Mem u (childrenAt b paths s)) (From b) child-from (marks b) (t .last) xs (start-ok b paths good fixedLt laidLt) (t .sequence) n m .small)
 
     -- a full start has no child, and so no tiling

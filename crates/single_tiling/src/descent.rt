@@ -2,21 +2,23 @@
 // its point i % 33, so that no level of the walk holds a list of children. Private helpers; they ask
 // that board and tiles have been tested. The tiles stand in two arrays that are lent to every level.
 use board::AllMarked;
-use board::ChosenCell;
-use board::Fit;
 use board::RectangularBoard;
 use cells::Cells;
 use cells::list;
+use choice::ChosenCell;
+use fit::Fit;
 ghost use mathlib.Core.Path.{_≡_};
 ghost use mathlib.Core.Bool.{So, true};
 ghost use mathlib.Core.List.{List, [], _∷_};
 ghost use Prim.Native.Nat.{ℕ, _+_, _*_, _/_, _<_};
 ghost use lib.ListN.{length};
 ghost use Rattle.cells.specs.Words.{number};
-ghost use Rattle.tile.specs.Path.{Path, containsSingle};
-ghost use Rattle.tile.specs.Stored.{pathsIn};
-ghost use Rattle.board.specs.Board.{boardOf, freeCount, isFull, valid};
-ghost use Rattle.board.specs.Children.{fitPieces};
+ghost use Rattle.tile.specs.Path.{Path};
+ghost use Rattle.tiles.specs.Paths.{containsSingle};
+ghost use Rattle.tiles.specs.Stored.{pathsIn};
+ghost use Rattle.board.specs.Board.{boardOf};
+ghost use Rattle.rectangle.specs.Board.{freeCount, isFull, valid};
+ghost use Rattle.fit.specs.Fit.{fitPieces};
 ghost use Rattle.single_tiling.specs.Inner.{firstTilingFrom, fitIndex, placeFor, tilesFrom, Read, Held, New, Walked};
 
 // The number of boards in the lent words, or nothing where no full board is reached.
@@ -79,7 +81,14 @@ fn fit_at(
     let tile = i / 33;
     let from = 32 * tile;
     let end = from + lens[tile];
-    here.tile_fits_at_position(&codes[from..end], i % 33, cell)
+    fit::tile_fits_at_position(
+        here.marks(),
+        here.width,
+        here.height,
+        &codes[from..end],
+        i % 33,
+        cell,
+    )
 }
 
 // Whether a fit is the given piece. The contract says what true means; where false were told

@@ -2,7 +2,7 @@
 // the number of free cells is no such sum, there is no tiling. Private helpers; they ask that the
 // tiles have been tested.
 use tile::CellCount;
-use tile::Tiles;
+use tiles::Tiles;
 ghost use mathlib.Core.Path.{_≡_};
 ghost use mathlib.Core.Bool.{true, _&&_};
 ghost use mathlib.Core.List.{[], map};
@@ -12,7 +12,7 @@ ghost use lib.ListN.{getD};
 ghost use Rattle.cells.specs.Arrays.{listOf};
 ghost use Rattle.cells.specs.Firsts.{any};
 ghost use Rattle.tile.specs.Path.{cellCount};
-ghost use Rattle.tile.specs.Stored.{pathsIn};
+ghost use Rattle.tiles.specs.Stored.{pathsIn};
 ghost use Rattle.single_tiling.specs.Inner.{Read, IsSum};
 
 // The number of cells of tile i.

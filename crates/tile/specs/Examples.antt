@@ -3,13 +3,13 @@ use mathlib.Core.Path.{_≡_, refl}
 use mathlib.Core.Bool.{true, false}
 use mathlib.Core.List.{[], _∷_}
 use lib.IntN.{pos, negsuc}
-use lib.ListN.{length}
+use lib.ListN.{length, replicate}
 use Rattle.direction.specs.declared.Axis.the-variants as A
 use Rattle.refusal.specs.Refusal.{refused, given}
 use Rattle.direction.specs.Position.{at, origin}
 use Rattle.direction.specs.Direction.{step, rotate, reflect, onCode}
-use Rattle.tile.specs.Path.{Path, points, cells, cellCount, EdgeJoined, sharedCount, equalCounts, orbit, lPath, tPath}
-use Rattle.tile.specs.Stored.{readTile, tileOf, readTiles, readEqualTiles, tilesOf, lTile, tTile}
+use Rattle.tile.specs.Path.{Path, isPath, points, cells, cellCount, EdgeJoined, tPath}
+use Rattle.tile.specs.Stored.{readTile, tileOf, lTile, tTile}
 use Rattle.tile.specs.EdgeTest.{edgeJoined, edgeJoined-iff}
 
 -- ---- directions
@@ -34,6 +34,24 @@ reflected-rows = refl
 reflected-cols : reflect A.Vertical 4 ≡ 5
 unfolding reflect
 reflected-cols = refl
+
+-- ---- paths: 32 codes and code 7 are one, 33 codes and code 8 are none
+
+longest : isPath (replicate 32 0) ≡ true
+unfolding isPath
+longest = refl
+
+too-long : isPath (replicate 33 0) ≡ false
+unfolding isPath
+too-long = refl
+
+last-code : isPath (7 ∷ []) ≡ true
+unfolding isPath
+last-code = refl
+
+code-eight : isPath (0 ∷ 8 ∷ []) ≡ false
+unfolding isPath
+code-eight = refl
 
 -- ---- cells: Right, Down, Left, Up comes back to where it began, so that five points are four cells
 
@@ -65,19 +83,6 @@ there-and-back : cellCount (3 ∷ 2 ∷ []) ≡ 2
 unfolding cellCount step
 there-and-back = refl
 
--- Right covers 2 cells and Right, Right covers 3; UpLeft and Left cover 2 each
-right-unequal : equalCounts ((3 ∷ []) ∷ (3 ∷ 3 ∷ []) ∷ []) ≡ false
-unfolding equalCounts step
-right-unequal = refl
-
-left-equal : equalCounts ((4 ∷ []) ∷ (2 ∷ []) ∷ []) ≡ true
-unfolding equalCounts step
-left-equal = refl
-
-left-shared : sharedCount ((4 ∷ []) ∷ (2 ∷ []) ∷ []) ≡ 2
-unfolding sharedCount step
-left-shared = refl
-
 -- ---- the Rust's tiles
 
 l-two : lTile 2 ≡ given (2 ∷ 0 ∷ [])
@@ -100,22 +105,6 @@ t-long : tTile 16 ≡ refused 5
 unfolding tTile
 t-long = refl
 
--- ---- orbits: of Right, 4 tiles; of `l_tile(2)` and of `t_tile(1)`, 8 each
-
-orbit-right : orbit (3 ∷ []) ≡ (3 ∷ []) ∷ (1 ∷ []) ∷ (2 ∷ []) ∷ (0 ∷ []) ∷ []
-unfolding orbit rotate reflect
-orbit-right = refl
-
-orbit-l : orbit (lPath 2)
-    ≡ (2 ∷ 0 ∷ []) ∷ (0 ∷ 3 ∷ []) ∷ (3 ∷ 1 ∷ []) ∷ (1 ∷ 2 ∷ []) ∷ (2 ∷ 1 ∷ []) ∷ (0 ∷ 2 ∷ []) ∷ (3 ∷ 0 ∷ []) ∷ (1 ∷ 3 ∷ []) ∷ []
-unfolding orbit lPath rotate reflect
-orbit-l = refl
-
-orbit-t : orbit (tPath 1)
-    ≡ (3 ∷ 0 ∷ 6 ∷ []) ∷ (1 ∷ 3 ∷ 7 ∷ []) ∷ (2 ∷ 1 ∷ 4 ∷ []) ∷ (0 ∷ 2 ∷ 5 ∷ []) ∷ (3 ∷ 1 ∷ 5 ∷ []) ∷ (1 ∷ 2 ∷ 6 ∷ []) ∷ (2 ∷ 0 ∷ 7 ∷ []) ∷ (0 ∷ 3 ∷ 4 ∷ []) ∷ []
-unfolding orbit tPath rotate reflect
-orbit-t = refl
-
 -- ---- edge-joined is about cells and not about steps: the T has a diagonal step and is; a diagonal pair is not
 
 t-joined : EdgeJoined (tPath 1)
@@ -136,19 +125,7 @@ stored-nine : readTile (tileOf (9 ∷ [])) ≡ refused 5
 unfolding readTile tileOf
 stored-nine = refl
 
--- 6 comes before 5: too many tiles, and a length over 32
-both-faults : readTiles (record { count = 65; lens = 33 ∷ []; codes = [] }) ≡ refused 6
-unfolding readTiles
-both-faults = refl
-
-bad-length : readTiles (record { count = 1; lens = 33 ∷ []; codes = [] }) ≡ refused 5
-unfolding readTiles
-bad-length = refl
-
-stored-unequal : readEqualTiles (tilesOf ((3 ∷ []) ∷ (3 ∷ 3 ∷ []) ∷ [])) ≡ refused 7
-unfolding readEqualTiles tilesOf step
-stored-unequal = refl
-
-stored-orbit : readTiles (tilesOf (orbit (3 ∷ []))) ≡ given ((3 ∷ []) ∷ (1 ∷ []) ∷ (2 ∷ []) ∷ (0 ∷ []) ∷ [])
-unfolding readTiles tilesOf orbit rotate reflect
-stored-orbit = refl
+-- a length over 32 is refused, though the 32 codes are a path
+length-over : readTile (record { len = 33; codes = replicate 32 0 }) ≡ refused 5
+unfolding readTile
+length-over = refl

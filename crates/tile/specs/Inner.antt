@@ -6,9 +6,8 @@ use mathlib.Core.List.{List, [], _∷_}
 use Prim.Native.Nat.{ℕ, _+_, _-_, _/_, _%_, _≤_}
 use lib.Dec.{leb, ltb}
 use lib.IntN.{pos, negsuc, _+ℤ_}
-use lib.ListN.{length, getD, take}
+use lib.ListN.{getD, take}
 use Rattle.tile.specs.declared.Tile.{Tile}
-use Rattle.tile.specs.declared.Tiles.{Tiles}
 use Rattle.tile.specs.declared.codes.Motion.{Motion}
 use Rattle.tile.specs.declared.codes.Motion.the-variants as M
 use Rattle.direction.specs.declared.Code.{Code}
@@ -17,13 +16,12 @@ use Rattle.tile.specs.declared.points.Keys.{Keys}
 use Rattle.direction.specs.Position.{Position, at}
 use Rattle.direction.specs.Direction.{rotate, reflect}
 use Rattle.tile.specs.Path.{Path}
-use Rattle.tile.specs.Stored.{pathIn, tileOf, pathsIn, tilesOf}
+use Rattle.tile.specs.Stored.{pathIn, tileOf}
 
 -- ---- codes in arrays
 
 -- the image of a code under a motion
 abbrev pub image : Motion → ℕ → ℕ
-image M.Keep code = code
 image M.Rotate code = rotate code
 image (M.Reflect axis) code = reflect axis code
 
@@ -42,16 +40,6 @@ run a b v f k = cond (leb a k && ltb k b) v (f k)
 pub record CleanTile (t : Tile) : Type 0 where
   pub short : t .len ≤ 32
   pub is : t ≡ tileOf (pathIn t)
-
--- tiles that are stored with zeros behind
-pub record Clean (ts : Tiles) : Type 0 where
-  pub few : ts .count ≤ 64
-  pub short : (i : ℕ) → getD (ts .lens) i 0 ≤ 32
-  pub is : ts ≡ tilesOf (pathsIn ts)
-
--- no path passes 32 codes
-abbrev pub Short : List Path → Type 0
-Short ps = (i : ℕ) → length (getD ps i []) ≤ 32
 
 -- ---- keys of positions
 

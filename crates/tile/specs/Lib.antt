@@ -1,11 +1,8 @@
--- Tiles. `Path` and `Stored` are what a reader must believe; `Inner` serves private contracts only;
--- the rest are laws.
+-- One tile. `Path` and `Stored` are what a reader must believe; `Inner` serves private contracts only; the rest are laws.
 pub mod Path
 pub mod Stored
 pub mod Inner
 pub mod PathLaws
-pub mod OrbitLaws
 pub mod StoredLaws
-pub mod EqualLaws
 pub mod EdgeTest
 pub mod Examples

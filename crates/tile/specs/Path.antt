@@ -1,14 +1,13 @@
--- Definitions: a tile is a path, a list of direction codes. Its points, its cells, its symmetries and its orbit; the conditions that demand 3
--- puts on tiles; and the paths of the Rust's `box_tile`, `l_tile` and `t_tile`. Assumes nothing.
+-- Definitions: a tile is a path, a list of direction codes. Its points, its cells and its symmetries; the condition that demand 3 puts on each
+-- tile; and the paths of the Rust's `box_tile`, `l_tile` and `t_tile`. Assumes nothing.
 use mathlib.Core.Path.{_≡_}
-use mathlib.Core.Bool.{Bool, true, false, not, _&&_}
+use mathlib.Core.Bool.{Bool, true, false, _&&_}
 use mathlib.Core.List.{List, [], _∷_, _++_, map, List·Memᴰ as Mem}
-use Prim.Native.Nat.{ℕ, zero, suc, _-_, _≤_, _<_}
-use lib.Dec.{eqb, ltb}
+use Prim.Native.Nat.{ℕ, _-_, _≤_, _<_}
+use lib.Dec.{leb, ltb}
 use lib.ListN.{length, replicate}
-use Rattle.cells.specs.Firsts.{any, firsts}
+use Rattle.cells.specs.Firsts.{firsts}
 use Rattle.direction.specs.declared.Axis.{Axis}
-use Rattle.direction.specs.declared.Axis.the-variants as A
 use Rattle.direction.specs.Position.{Position, origin, shift, samePosition}
 use Rattle.direction.specs.Direction.{step, rotate, reflect}
 
@@ -19,6 +18,11 @@ Path = List ℕ
 unfoldable pub codesOk : Path → Bool
 codesOk [] = true
 codesOk (code ∷ path) = ltb code 8 && codesOk path
+
+-- 01: "A tile is a path of 0 to 32 directions"; refusal 5 is for "a path over 32 or a code over 7"
+unfoldable pub isPath : List ℕ → Bool
+unfolding codesOk
+isPath codes = leb (length codes) 32 && codesOk codes
 
 -- ---- points and cells
 
@@ -43,26 +47,7 @@ unfoldable pub isSingle : Path → Bool
 isSingle [] = true
 isSingle (code ∷ path) = false
 
-unfoldable pub containsSingle : List Path → Bool
-unfolding isSingle any
-containsSingle paths = any isSingle paths
-
--- ---- demand 3's conditions on tiles
-
--- "tiles that all cover equally many cells"
-abbrev pub EqualCounts : List Path → Type 0
-EqualCounts tiles = (s t : Path) → Mem s tiles → Mem t tiles → cellCount s ≡ cellCount t
-
--- the number of cells that each tile covers, where all cover equally many: the first tile's, 0 with no tiles
-unfoldable pub sharedCount : List Path → ℕ
-unfolding cellCount
-sharedCount [] = 0
-sharedCount (path ∷ paths) = cellCount path
-
--- whether all tiles cover equally many cells
-unfoldable pub equalCounts : List Path → Bool
-unfolding cellCount sharedCount any
-equalCounts tiles = not (any (λ path. not (eqb (cellCount path) (sharedCount tiles))) tiles)
+-- ---- demand 3's condition on each tile
 
 -- two positions share an edge: one is a step Up, Down, Left or Right from the other
 abbrev pub Beside : Position → Position → Type 0
@@ -72,35 +57,15 @@ Beside p q = (code : ℕ) × (code < 4) × (q ≡ shift p (step code))
 abbrev pub EdgeJoined : Path → Type 0
 EdgeJoined path = 2 ≤ cellCount path → (p : Position) → Mem p (cells path) → (q : Position) × Mem q (cells path) × Beside p q
 
--- ---- symmetries and the orbit
+-- ---- symmetries
 
+-- the tile turned by 90 degrees clockwise
 unfoldable pub rotated : Path → Path
 rotated path = map rotate path
 
+-- the tile reflected about an axis
 unfoldable pub reflected : Axis → Path → Path
 reflected axis path = map (reflect axis) path
-
--- the tile and its first k - 1 clockwise turns
-unfoldable pub turns : ℕ → Path → List Path
-unfolding rotated
-turns zero path = []
-turns (suc k) path = path ∷ turns k (rotated path)
-
-unfoldable pub samePath : Path → Path → Bool
-samePath [] [] = true
-samePath [] (d ∷ ds) = false
-samePath (c ∷ cs) [] = false
-samePath (c ∷ cs) (d ∷ ds) = eqb c d && samePath cs ds
-
--- the eight images of a tile: the tile, its three clockwise turns, its Horizontal reflection and that one's turns
-unfoldable pub images : Path → List Path
-unfolding turns reflected
-images path = turns 4 path ++ turns 4 (reflected A.Horizontal path)
-
--- 01: "An orbit is the tile, its three clockwise turns, its Horizontal reflection and that one's turns, first appearances kept"
-unfoldable pub orbit : Path → List Path
-unfolding images samePath firsts
-orbit path = firsts samePath (images path)
 
 -- ---- the Rust's tiles: one cell; Left and then Up; Right, Up, DownRight and on to the right
 

@@ -1,22 +1,25 @@
 -- Laws of paths: a path from elsewhere has its points shifted; a symmetry of the plane takes points to points, so the number of cells and being
--- edge-joined are kept; a tile has one cell exactly if its path is empty. Rests on `PositionLaws` and `DirectionLaws`. Assumes nothing.
+-- edge-joined are kept; a tile has one cell exactly if its path is empty; turns and reflections are the symmetries of a square, and keep a path's
+-- length and codes. Rests on `PositionLaws` and `DirectionLaws`. Assumes nothing.
 use mathlib.Core.Path.{_≡_, refl, sym, ap, ap₂, _∙_, subst}
 use mathlib.Core.Logic.{_↔_}
 use mathlib.Core.Bool.{false, So, and-eq-true-iff}
-use mathlib.Core.List.{List, [], _∷_, map, List·Memᴰ as Mem, Memᴰ·map as mem-map, Memᴰ·of-map as of-map}
+use mathlib.Core.List.{List, [], _∷_, map, List·Memᴰ as Mem, Memᴰ·map as mem-map, Memᴰ·of-map as of-map, List·Memᴰ·head as here}
 use Prim.Native.Nat.{ℕ, zero, suc, _≤_, _<_}
 use native.Mathlib.Omega.{arith}
-use borrow.Author.Tests.{ltb-true}
+use borrow.Author.Tests.{ltb-true, lt-ltb}
 use lib.Dec.{ltb}
 use lib.ListN.{length, getD, length-map}
 use Rattle.cells.specs.Firsts.{holds, addNew, addFirsts, firsts}
-use Rattle.cells.specs.FirstsLaws.{firsts-map, length-addFirsts}
+use Rattle.cells.specs.FirstsLaws.{firsts-map, length-addFirsts, mem-firsts}
 use Rattle.direction.specs.declared.Axis.the-variants as A
 use Rattle.direction.specs.Position.{Position, origin, shift, turn, mirrorRows, samePosition}
 use Rattle.direction.specs.Direction.{step, rotate, reflect}
-use Rattle.tile.specs.Path.{Path, codesOk, points, cells, cellCount, EdgeJoined}
-use Rattle.direction.specs.PositionLaws.{samePosition-map, shift-shift, shift-inj, shift-origin, turn-inj, turn-shift, mirrorRows-inj, mirrorRows-shift}
-use Rattle.direction.specs.DirectionLaws.{by-code, step-rotate, step-reflect, rotate-edge, reflect-edge}
+use Rattle.tile.specs.Path.{Path, codesOk, points, cells, cellCount, EdgeJoined, rotated, reflected}
+use Rattle.direction.specs.PositionLaws.{samePosition-map, shift-shift, shift-inj, shift-origin, turn-inj, turn-shift, mirrorRows-inj, mirrorRows-shift, samePosition-iff}
+use Rattle.direction.specs.DirectionLaws.{by-code, step-rotate, step-reflect, rotate-edge, reflect-edge, rotate-four, reflect-reflect, reflect-rotate, reflect-vertical, rotate-lt, reflect-lt}
+use Rattle.cells.specs.MemberLaws.{mem-place}
+use Rattle.direction.specs.declared.Axis.{Axis}
 
 -- ---- a path from elsewhere
 
@@ -126,3 +129,68 @@ pub one-cell-iff : (path : Path) → So (codesOk path) → (cellCount path ≡ 1
 one-cell-iff [] h = (λ e. refl, λ e. cellCount-empty)
 one-cell-iff (code ∷ path) h =
     (λ e. absurd (omega (arith, cellCount-more code path (codesOk-cons code path h .0))), λ e. ap cellCount e ∙ cellCount-empty)
+
+-- ---- a tile has a cell, the origin
+
+points-origin : (path : Path) → Mem origin (points origin path)
+unfolding points
+points-origin [] = here refl
+points-origin (code ∷ path) = here refl
+
+pub cells-origin : (path : Path) → Mem origin (cells path)
+unfolding cells
+cells-origin path = mem-firsts samePosition samePosition-iff (points origin path) origin .1 (points-origin path)
+
+pub cellCount-pos : (path : Path) → 0 < cellCount path
+unfolding cellCount
+cellCount-pos path = let r = mem-place (cells path) origin origin (cells-origin path) in omega (arith, r .1)
+
+-- ---- the symmetries of a square, on paths
+
+pub rotated-four : (p : Path) → rotated (rotated (rotated (rotated p))) ≡ p
+unfolding rotated
+rotated-four [] = refl
+rotated-four (c ∷ p) = ap₂ _∷_ (rotate-four c) (rotated-four p)
+
+pub reflected-reflected : (p : Path) → reflected A.Horizontal (reflected A.Horizontal p) ≡ p
+unfolding reflected
+reflected-reflected [] = refl
+reflected-reflected (c ∷ p) = ap₂ _∷_ (reflect-reflect c) (reflected-reflected p)
+
+pub reflected-vertical : (p : Path) → reflected A.Vertical p ≡ rotated (rotated (reflected A.Horizontal p))
+unfolding reflected rotated
+reflected-vertical [] = refl
+reflected-vertical (c ∷ p) = ap₂ _∷_ (reflect-vertical c) (reflected-vertical p)
+
+turn-back : (p : Path) → rotated (reflected A.Horizontal (rotated p)) ≡ reflected A.Horizontal p
+unfolding reflected rotated
+turn-back [] = refl
+turn-back (c ∷ p) = ap₂ _∷_ (reflect-rotate c) (turn-back p)
+
+pub reflected-rotated : (p : Path) → reflected A.Horizontal (rotated p) ≡ rotated (rotated (rotated (reflected A.Horizontal p)))
+reflected-rotated p = sym (rotated-four (reflected A.Horizontal (rotated p))) ∙ ap (λ (q : Path). rotated (rotated (rotated q))) (turn-back p)
+
+-- ---- a path moved is as long, and of codes 0 to 7
+
+pub length-rotated : (p : Path) → length (rotated p) ≡ length p
+unfolding rotated
+length-rotated p = length-map p rotate
+
+pub length-reflected : (axis : Axis) (p : Path) → length (reflected axis p) ≡ length p
+unfolding reflected
+length-reflected axis p = length-map p (reflect axis)
+
+codesOk-map : (f : ℕ → ℕ) → ((c : ℕ) → c < 8 → f c < 8) → (p : Path) → So (codesOk p) → So (codesOk (map f p))
+unfolding codesOk
+codesOk-map f h [] e = refl
+codesOk-map f h (c ∷ p) e =
+    let k = codesOk-cons c p e in
+    and-eq-true-iff (ltb (f c) 8) (codesOk (map f p)) .1 (lt-ltb (f c) 8 (h c (k .0)), codesOk-map f h p (k .1))
+
+pub codesOk-rotated : (p : Path) → So (codesOk p) → So (codesOk (rotated p))
+unfolding rotated
+codesOk-rotated = codesOk-map rotate rotate-lt
+
+pub codesOk-reflected : (axis : Axis) (p : Path) → So (codesOk p) → So (codesOk (reflected axis p))
+unfolding reflected
+codesOk-reflected axis = codesOk-map (reflect axis) (reflect-lt axis)

@@ -5,10 +5,10 @@ use direction::Axis;
 use direction::Code;
 ghost use mathlib.Core.Path.{_≡_};
 ghost use mathlib.Core.List.{map};
-ghost use Prim.Native.Nat.{_+_, _≤_};
+ghost use Prim.Native.Nat.{_≤_};
 ghost use lib.ListN.{length, getD};
 ghost use Rattle.cells.specs.Arrays.{listOf};
-ghost use Rattle.tile.specs.Path.{codesOk, samePath};
+ghost use Rattle.tile.specs.Path.{codesOk};
 ghost use Rattle.tile.specs.Stored.{pathIn, tileOf};
 ghost use Rattle.tile.specs.Inner.{image, codeOf, run};
 
@@ -26,26 +26,8 @@ pub fn all_ok(path: &[u8]) -> bool
     true
 }
 
-// Whether two paths are the same.
-pub fn same(a: &[u8], b: &[u8]) -> bool
-    ensures { λ r. ⌜ r ≡ samePath (now (a .entry)) (now (b .entry)) ⌝ }
-{
-    if a.len() != b.len() {
-        return false;
-    }
-    let mut i = 0;
-    while i < a.len() {
-        if a[i] != b[i] {
-            return false;
-        }
-        i += 1;
-    }
-    true
-}
-
 // How a tile is moved.
 pub enum Motion {
-    Keep,
     Rotate,
     Reflect(Axis),
 }
@@ -65,7 +47,6 @@ pub fn image_of(code: u8, motion: Motion) -> u8
     ensures { λ r. ⌜ r ≡ image motion code ⌝ }
 {
     match motion {
-        Motion::Keep => code,
         Motion::Rotate => code_of(direction::rotate(code), code),
         Motion::Reflect(axis) => code_of(direction::reflect(code, axis), code),
     }
@@ -100,20 +81,6 @@ pub fn stored(path: &[u8]) -> Tile
         i += 1;
     }
     Tile { len, codes }
-}
-
-// The 32 codes from a place on.
-pub fn part(codes: &[u8], from: usize) -> [u8; 32]
-    requires { ⌜ from + 32 ≤ length (now codes) ⌝ }
-    ensures { λ r. ⌜ r ≡ listOf (λ j. getD (now (codes .entry)) (from + j) 0) 32 ⌝ }
-{
-    let mut out = [0u8; 32];
-    let mut j = 0;
-    while j < 32 {
-        out[j] = codes[from + j];
-        j += 1;
-    }
-    out
 }
 
 // The codes with one code at the places from to end - 1.

@@ -1,5 +1,5 @@
 -- A graph in lent words: what one edge more, one child more and one node expanded do to the words and to the state, and where the nodes found are
--- all nodes. Rests on `Inner`, `SettingLaws`, the laws of finding of `covers` and the laws of `graph` and `cells`. Assumes nothing.
+-- all nodes. Rests on `Inner`, expansion's `AcceptedLaws`, the laws of finding of `covers` and the laws of `graph` and `cells`. Assumes nothing.
 use mathlib.Core.Path.{_≡_, refl, sym, ap, ap₂, _∙_, subst}
 use mathlib.Core.Bool.{Bool, true, false, cond, false≢true}
 use mathlib.Core.List.{List, [], _∷_, _++_}
@@ -17,27 +17,29 @@ use Rattle.cells.specs.FirstsLaws.{addNew-old, addNew-new, holds-iff, mem-getD}
 use Rattle.cells.specs.MemberLaws.{eqb-tells}
 use Rattle.cells.specs.Arrays.{listOf, listFrom}
 use Rattle.cells.specs.ArrayLaws.{getD-listOf, listOf-ext, listOf-snoc}
-use Rattle.cells.specs.Lists.{setAt, withSet}
+use Rattle.cells.specs.Lists.{setAt, withSet, findSet, foundAnswer}
 use Rattle.cells.specs.ListLaws.{setAt-same, setAt-other}
-use Rattle.tile.specs.declared.Tiles.{Tiles}
-use Rattle.tile.specs.Stored.{pathsIn}
+use Rattle.tiles.specs.declared.Tiles.{Tiles}
+use Rattle.tiles.specs.Stored.{pathsIn}
 use Rattle.board.specs.declared.RectangularBoard.{RectangularBoard}
-use Rattle.board.specs.Board.{boardOf, marks}
-use Rattle.board.specs.BoardLaws.{marks-lt}
+use Rattle.board.specs.Board.{boardOf}
+use Rattle.rectangle.specs.Board.{marks}
+use Rattle.rectangle.specs.BoardLaws.{marks-lt}
 use Rattle.covers.specs.Cuttings.{Setting, childBoards, Laws, EqualSteps}
 use Rattle.covers.specs.Counts.{numberIn, nodesOf, graphEdges}
 use Rattle.covers.specs.NodeLaws.{number-right}
 use Rattle.covers.specs.SettingLaws.{node-ok, some-node}
 use Rattle.covers.specs.FindingLaws.{addChild, addChildren, addChildren-snoc, addChildren-longer, foundAt, edgesAt, found-zero, found-prefix, found-at, found-end, edges-zero, edges-all, expanded}
-use Rattle.graph.specs.declared.Found.{Found}
-use Rattle.graph.specs.declared.Found.the-variants as F
-use Rattle.graph.specs.Graph.{edgeAt, findNode, foundAnswer}
+use Rattle.cells.specs.declared.list.Found.{Found}
+use Rattle.cells.specs.declared.list.Found.the-variants as F
+use Rattle.graph.specs.Graph.{edgeAt}
 use Rattle.graph.specs.GraphLaws.{set-edge, found-held}
 use Rattle.tiler.specs.declared.building.Growth.{Growth}
 use Rattle.tiler.specs.declared.building.Growth.the-variants as G
-use Rattle.tiler.specs.Boards.{From, setting, settingOf, startOf}
-use Rattle.tiler.specs.Inner.{Accepted, stepOf, growthOf, nodesIn, HoldsEdges, HoldsGraph}
-use Rattle.tiler.specs.AcceptedLaws.{accepted-laws, accepted-steps, accepted-start}
+use Rattle.expansion.specs.Boards.{From, setting, settingOf, startOf}
+use Rattle.expansion.specs.Plots.{Accepted, stepOf}
+use Rattle.tiler.specs.Inner.{growthOf, nodesIn, HoldsEdges, HoldsGraph}
+use Rattle.expansion.specs.AcceptedLaws.{accepted-laws, accepted-steps, accepted-start}
 
 in-lent : (i l : ℕ) → 4 * i + 4 ≤ l → i < l / 4
 in-lent i l h = omega arith
@@ -121,7 +123,7 @@ module _ (room space : ℕ) (ns es : List ℕ) (growth : Growth) (g : List ℕ �
       no-room-graph room space (addChild eqb p x g) ns es
       (omega (arith, no-room-held room space g (sym e ∙ k .state), addChildren-longer eqb p (x ∷ []) g .0))
 
-  module _ (n e : ℕ) (s : growth ≡ G.Size n e) (lent : 4 * room ≤ length ns) (r : Found) (f : foundAnswer r ≡ findNode ns 0 n x) where
+  module _ (n e : ℕ) (s : growth ≡ G.Size n e) (lent : 4 * room ≤ length ns) (r : Found) (f : foundAnswer r ≡ findSet ns 0 n x) where
     sizes : (length (g .0) ≤ room) × (n ≡ length (g .0)) × (e ≡ min (length (g .1)) (suc space))
     sizes = size-held room space g n e (sym s ∙ k .state)
 
@@ -130,7 +132,7 @@ module _ (room space : ℕ) (ns es : List ℕ) (growth : Growth) (g : List ℕ �
 
     sought : foundAnswer r ≡ cond (holds eqb (g .0) x) (some (numberIn eqb (g .0) x)) none
     sought =
-        f ∙ ap (λ (j : ℕ). findNode ns 0 j x) (sizes .1)
+        f ∙ ap (λ (j : ℕ). findSet ns 0 j x) (sizes .1)
         ∙ found-held ns (g .0) x (omega (arith, sizes .0)) (k .nodes (sizes .0))
 
     there-is : (i : ℕ) → r ≡ F.At i → (holds eqb (g .0) x ≡ true) × (i ≡ numberIn eqb (g .0) x)

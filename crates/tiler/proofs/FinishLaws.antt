@@ -1,7 +1,7 @@
 -- What a graph in lent words comes to: the search for the full board's node; the words cleared after a refusal; and the refusals and the result of a
--- graph that has grown. Rests on `BuildLaws`, `PassingLaws`, `AcceptedLaws`, graph's `GraphLaws` and covers' laws. Assumes nothing.
+-- graph that has grown. Rests on `BuildLaws`, `PassingLaws`, expansion's laws, graph's `GraphLaws` and covers' laws. Assumes nothing.
 use mathlib.Core.Path.{_≡_, refl, sym, ap, _∙_, subst}
-use mathlib.Core.Bool.{Bool, true, false}
+use mathlib.Core.Bool.{Bool, true, false, So}
 use mathlib.Core.List.{List, [], _∷_}
 use Prim.Native.Nat.{ℕ, suc, _+_, _-_, _*_, _^_, _≤_, _<_, min}
 use native.Mathlib.Nat.{add-zero, le-of-eq}
@@ -13,37 +13,67 @@ use Rattle.cells.specs.WordLaws.{number-lt}
 use Rattle.cells.specs.FirstsLaws.{mem-getD}
 use Rattle.cells.specs.Arrays.{listFrom, listOf}
 use Rattle.cells.specs.ArrayLaws.{getD-listOf}
-use Rattle.cells.specs.Lists.{setAt, clearedFrom, wordsFor}
+use Rattle.cells.specs.Lists.{setAt, clearedFrom, wordsFor, firstFrom}
 use Rattle.cells.specs.ListLaws.{cleared-all}
-use Rattle.tile.specs.declared.Tiles.{Tiles}
+use Rattle.tiles.specs.declared.Tiles.{Tiles}
 use Rattle.refusal.specs.declared.Refusal.{Refusal}
 use Rattle.refusal.specs.declared.Verdict.the-variants as Verdicts
-use Rattle.refusal.specs.Refusal.{Answer, refused, given, bindAnswer, refusalOf, refusalNumber, valueOr}
+use Rattle.refusal.specs.Refusal.{Answer, refused, given, bindAnswer, refusalOf, refusalNumber, valueOr, mapAnswer}
 use Rattle.tile.specs.Path.{Path}
-use Rattle.tile.specs.Stored.{pathsIn}
+use Rattle.tiles.specs.Stored.{pathsIn}
 use Rattle.board.specs.declared.RectangularBoard.{RectangularBoard}
-use Rattle.board.specs.Board.{Board, boardOf, boardAt, marks, isFull}
+use Rattle.board.specs.declared.AllMarked.{AllMarked}
+use Rattle.board.specs.declared.AllMarked.the-variants as M
+use Rattle.rectangle.specs.Board.{Board, boardAt, marks, isFull, valid}
+use Rattle.board.specs.Board.{boardOf, readBoard, allMarkedAnswer}
 use Rattle.covers.specs.Cuttings.{Setting, Laws, EqualSteps}
 use Rattle.covers.specs.Counts.{counts, fullFrom, fullNode, entriesOf, nodesOf, graphEdges}
-use Rattle.covers.specs.SettingLaws.{node-ok, some-node}
+use Rattle.covers.specs.SettingLaws.{node-ok}
 use Rattle.covers.specs.PassLaws.{edge-in}
-use Rattle.graph.specs.Graph.{firstFrom, edgeAt, numbersFor, edgesFor}
-use Rattle.graph.specs.GraphLaws.{firstFrom-found, firstFrom-missed, cleared-nodes, cleared-edges, cleared-numbers}
+use Rattle.graph.specs.Graph.{edgeAt, edgesFor}
+use Rattle.cells.specs.SearchLaws.{firstFrom-found, firstFrom-missed}
+use Rattle.graph.specs.GraphLaws.{cleared-nodes, cleared-edges}
 use Rattle.graph.specs.declared.Complete.the-variants as N
 use Rattle.tiler.specs.declared.MadeGraph.{MadeGraph}
 use Rattle.tiler.specs.declared.building.Growth.{Growth}
 use Rattle.tiler.specs.declared.building.Growth.the-variants as G
-use Rattle.tiler.specs.Boards.{From, setting, settingOf, startOf}
+use Rattle.expansion.specs.Boards.{From, setting, settingOf, startOf}
 use Rattle.graph.specs.Rooms.{nodeRoom, edgeRoom}
-use Rattle.graph.specs.Tilings.{completeNode}
-use Rattle.tiler.specs.Counting.{Graph, Makes, readPlot, graphOf, judgeGraph, countLimit, tooLarge, generateGraph}
-use Rattle.tiler.specs.Inner.{Accepted, stepOf, HoldsGraph, PassesEdges, firstCount, Finishes}
-use Rattle.tiler.specs.AcceptedLaws.{accepted-laws, accepted-steps, accepted-start}
+use Rattle.graph.specs.Result.{completeNode}
+use Rattle.tiler.specs.Graphs.{Graph, Makes, graphOf, judgeGraph, generateGraph}
+use Rattle.expansion.specs.Plots.{readPlot, markedBoard, Accepted, stepOf}
+use Rattle.layers.specs.LayerCounts.{tooLarge}
+use Rattle.tiler.specs.Inner.{HoldsGraph, EndsBelow, PassesEdges, Finishes}
+use Rattle.expansion.specs.AcceptedLaws.{accepted-laws, accepted-steps, accepted-start}
 use Rattle.graph.specs.RoomLaws.{node-room, edge-room}
 use Rattle.tiler.proofs.BuildLaws.{size-held, no-room-held}
-use Rattle.tiler.proofs.PassingLaws.{pass-counts, pass-too-large, words-fit, counts-words}
+use Rattle.tiler.proofs.PassingLaws.{pass-counts, pass-too-large}
+use Rattle.board.specs.BoardLaws.{readBoard-given}
+use Rattle.refusal.specs.RefusalLaws.{refused-given, given-inj}
+use Rattle.path_count.specs.PathCounts.{countRoom, countsFor}
+use Rattle.path_count.specs.PathCountLaws.{cleared-countsFor}
+use Rattle.expansion.specs.ExpansionLaws.{marked-from}
 
 -- ---- the search for the full board's node
+
+-- d is the board of the start b with the marks m
+module _ (b d : RectangularBoard) (m : ℕ) (marked : boardOf d ≡ markedBoard b m) (from : From (boardOf b) m) where
+  at : boardOf d ≡ boardAt (boardOf b) m
+  at = marked ∙ marked-from b m from
+
+  accepted-at : So (valid (boardOf d))
+  accepted-at = subst (λ (x : Board). So (valid x)) (sym at) (from .accepted)
+
+  module _ (r : AllMarked) (e : allMarkedAnswer r ≡ mapAnswer isFull (readBoard d)) where
+    full-answer : allMarkedAnswer r ≡ given (isFull (boardAt (boardOf b) m))
+    unfolding mapAnswer
+    full-answer = e ∙ ap (mapAnswer isFull) (readBoard-given d accepted-at) ∙ ap (λ (x : Board). given (isFull x)) at
+
+    pub full-is : (t : Bool) → r ≡ M.Is t → t ≡ isFull (boardAt (boardOf b) m)
+    full-is t q = given-inj t (isFull (boardAt (boardOf b) m)) (sym (ap allMarkedAnswer q) ∙ full-answer)
+
+    pub full-refused : (q : Refusal) → r ≡ M.Refused q → ⊥
+    full-refused q s = refused-given (refusalNumber q) (isFull (boardAt (boardOf b) m)) (sym (ap allMarkedAnswer s) ∙ full-answer)
 
 -- the board at a place, as it was tested
 pub full-at : (b : RectangularBoard) (m k : ℕ) (r t : Bool) → r ≡ isFull (boardAt (boardOf b) m) → m ≡ k → r ≡ t → isFull (boardAt (boardOf b) k) ≡ t
@@ -80,9 +110,6 @@ full-node full f (s ∷ ss) e =
 
 -- ---- a refusal
 
-zero-numbers : (ws : List ℕ) → clearedFrom 0 ws ≡ numbersFor [] (length ws)
-zero-numbers ws = cleared-numbers ws [] (omega arith) (λ i h. absurd (omega arith))
-
 zero-edges : (ws : List ℕ) → clearedFrom 0 ws ≡ edgesFor [] (length ws)
 unfolding listOf listFrom
 zero-edges ws = cleared-edges ws [] (omega arith) refl
@@ -97,7 +124,7 @@ makes-refused q ns cs es ns′ cs′ es′ d e f = record {
   edgeNumber = refl;
   complete = refl;
   nodes = d ∙ cleared-all ns;
-  counts = e ∙ zero-numbers cs;
+  counts = e ∙ cleared-countsFor cs;
   edges = f ∙ zero-edges es;
 }
 
@@ -182,19 +209,9 @@ module _ (b : RectangularBoard) (ts : Tiles) (accepted : Accepted b ts) (fixed :
           let r = edge-in S laws (stepOf (pathsIn ts)) equal start ok i (omega (arith, all-edges .0)) in
           (omega (arith, ap (λ (d : ℕ × ℕ). d .0) q, r .0, r .1, sized .0), omega (arith, ap (λ (d : ℕ × ℕ). d .1) q, r .1, sized .0))
 
-      room-some : 0 < room
-      room-some = omega (arith, some-node S laws start ok, sized .0)
-
       -- the counts of the pass
-      module _ (words : ℕ) (cs : List ℕ) (t : Bool) (some : room ≤ words) (pass : PassesEdges (firstCount words) (listOf (edgeAt es) e) cs t) where
-        passes : PassesEdges (firstCount words) edges cs t
-        passes = subst (λ (ds : List (ℕ × ℕ)). PassesEdges (firstCount words) ds cs t) stored-edges pass
-
-        counts-large : t ≡ false → tooLarge (counts (entriesOf S start)) ≡ true
-        counts-large = pass-too-large S laws (stepOf (pathsIn ts)) equal start ok words cs t (omega (arith, room-some)) passes
-
-        counts-are : t ≡ true → (v : ℕ) → getD cs v 0 ≡ getD (counts (entriesOf S start)) v 0
-        counts-are = pass-counts S laws (stepOf (pathsIn ts)) equal start ok words cs t (omega (arith, room-some)) passes
+      passes : (words : ℕ) (cs : List ℕ) (t : Bool) → PassesEdges words (listOf (edgeAt es) e) cs t → PassesEdges words edges cs t
+      passes words cs t = subst (λ (ds : List (ℕ × ℕ)). PassesEdges words ds cs t) stored-edges
 
       -- the words of the nodes and edges, and the full board's node
       module _ (ns′ es′ : List ℕ) (r : MadeGraph) (small : (i : ℕ) → getD ns i 0 < 2 ^ 64) (longNodes : 4 * room ≤ length ns)
@@ -238,11 +255,10 @@ module _ (b : RectangularBoard) (ts : Tiles) (accepted : Accepted b ts) (fixed :
 
     module _ (n e : ℕ) (size : growth ≡ G.Size n e) where
       -- what the calls ask
-      pub count-asks : e ≤ space → (2 * e ≤ length es) × (0 < wc) × ((i : ℕ) → i < e → (edgeAt es i .0 < wc) × (edgeAt es i .1 < wc))
+      pub count-asks : e ≤ space → (2 * e ≤ length es) × EndsBelow es e (countRoom wc)
       count-asks few =
           let inRoom = node-room room wn wc (le-of-eq atRoom) .1 in (
             omega (arith, edge-room space we (le-of-eq atSpace)),
-            omega (arith, room-some room space ns es growth n e holds size few),
             λ i h.
                 let ends = edge-ends room space ns es growth n e holds size few i h in
                 (omega (arith, ends .0), omega (arith, ends .1)),
@@ -266,7 +282,10 @@ module _ (b : RectangularBoard) (ts : Tiles) (accepted : Accepted b ts) (fixed :
           (rooms ∙ judgeGraph-edges room space (graphOf S start) (fits .0) (omega arith)) longNodes refl longEdges
 
       module _ (few : e ≤ space) (cs : List ℕ) (t : Bool) (longCounts : length cs ≡ wc)
-          (pass : PassesEdges (firstCount wc) (listOf (edgeAt es) e) cs t) where
+          (pass : PassesEdges wc (listOf (edgeAt es) e) cs t) where
+        all : PassesEdges wc edges cs t
+        all = passes room space ns es growth n e holds size few wc cs t pass
+
         pub made-large : (ns′ cs′ es′ : List ℕ) (r : MadeGraph) → t ≡ false → Makes (refused 9) (length ns) (length cs) (length es) ns′ cs′ es′ r
             → Makes answer wn wc we ns′ cs′ es′ r
         unfolding graphOf
@@ -275,31 +294,31 @@ module _ (b : RectangularBoard) (ts : Tiles) (accepted : Accepted b ts) (fixed :
             (rooms
             ∙ judgeGraph-large room space (graphOf S start) (sized room space ns es growth n e holds size .0)
             (all-edges room space ns es growth n e holds size few .1)
-            (counts-large room space ns es growth n e holds size few wc cs t (node-room room wn wc (le-of-eq atRoom) .1) pass f))
+            (pass-too-large S laws (stepOf (pathsIn ts)) equal start ok wc cs t all f))
             longNodes longCounts longEdges
 
-        pub made-finished : (ns′ es′ : List ℕ) (r : MadeGraph) → ((i : ℕ) → getD ns i 0 < 2 ^ 64) → ((i : ℕ) → getD cs i 0 < countLimit) → t ≡ true
+        pub made-finished : (ns′ es′ : List ℕ) (r : MadeGraph) → ((i : ℕ) → getD ns i 0 < 2 ^ 64) → t ≡ true
             → Finishes (boardOf b) ns es n e ns′ es′ r → Makes answer wn wc we ns′ cs es′ r
         unfolding graphOf refusalOf valueOr
-        made-finished ns′ es′ r smallNodes smallCounts f finish =
+        made-finished ns′ es′ r smallNodes f finish =
             let fits = sized room space ns es growth n e holds size in
-            makes-as answer (given (graphOf S start)) wn (length ns) wc (length cs) we (length es) ns′ cs es′ r
+            makes-as answer (given (graphOf S start)) wn (length ns) wc wc we (length es) ns′ cs es′ r
             (rooms
             ∙ judgeGraph-given room space (graphOf S start) (fits .0) (all-edges room space ns es growth n e holds size few .1)
-            (words-fit (counts (entriesOf S start)) cs are smallCounts))
-            longNodes longCounts longEdges
+            (are .1))
+            longNodes refl longEdges
             (record {
               verdict = finish .verdict;
               nodeNumber = finish .nodeNumber ∙ fits .1;
               edgeNumber = finish .edgeNumber ∙ all-edges room space ns es growth n e holds size few .0;
               complete = finished-complete room space ns es growth n e holds size few ns′ es′ r smallNodes wideNodes wideEdges finish;
               nodes = finished-nodes room space ns es growth n e holds size few ns′ es′ r smallNodes wideNodes wideEdges finish;
-              counts = counts-words (counts (entriesOf S start)) cs are;
+              counts = are .0;
               edges = finished-edges room space ns es growth n e holds size few ns′ es′ r smallNodes wideNodes wideEdges finish;
             })
           where
-            are : (v : ℕ) → getD cs v 0 ≡ getD (counts (entriesOf S start)) v 0
-            are = counts-are room space ns es growth n e holds size few wc cs t (node-room room wn wc (le-of-eq atRoom) .1) pass f
+            are : (cs ≡ countsFor (counts (entriesOf S start)) wc) × (tooLarge (counts (entriesOf S start)) ≡ false)
+            are = pass-counts S laws (stepOf (pathsIn ts)) equal start ok wc cs t all f
 
             wideNodes : 4 * room ≤ length ns
             wideNodes = omega (arith, node-room room wn wc (le-of-eq atRoom) .0)

@@ -1,8 +1,4 @@
--- What belongs to no one function's proof.
-pub mod PlotLaws
+-- Laws that only the proofs of this crate's code cite.
 pub mod BuildLaws
-pub mod LayerLaws
 pub mod PassingLaws
 pub mod FinishLaws
-pub mod RunSteps
-pub mod StartLaws

@@ -1,31 +1,36 @@
 -- Demand 3, entire: the theorem page of cuttings and of the tiling by number. Each statement is over the inputs and the answers of calls: any board and
 -- tiles of the code (a set of the code has words of 64 bits: `Sound`), any lent words, and what each call's contract says that it answers and leaves. What
--- stands in quotation marks is demand 3's, or 01's where it says so. Rests on `NumberLaws`. Assumes nothing.
+-- stands in quotation marks is demand 3's, or 01's where it says so. Rests on `NumberLaws` and layers' `CountLaws`. Assumes nothing.
 use mathlib.Core.Path.{_≡_, sym, ap, _∙_, subst}
 use mathlib.Core.Bool.{Bool}
 use mathlib.Core.List.{List}
 use Prim.Native.Nat.{ℕ, _+_, _≤_, _<_}
 use lib.ListN.{length, take}
 use Rattle.cells.specs.Words.{Sound}
-use Rattle.tile.specs.declared.Tiles.{Tiles}
+use Rattle.tiles.specs.declared.Tiles.{Tiles}
 use Rattle.refusal.specs.Refusal.{given, valueOr, verdictNumber}
-use Rattle.tile.specs.Path.{EqualCounts}
-use Rattle.tile.specs.Stored.{pathsIn}
-use Rattle.tile.specs.EqualLaws.{readEqualTiles-given}
+use Rattle.tiles.specs.Paths.{EqualCounts}
+use Rattle.tiles.specs.Stored.{pathsIn}
+use Rattle.tiles.specs.EqualLaws.{readEqualTiles-given}
 use Rattle.board.specs.declared.RectangularBoard.{RectangularBoard}
-use Rattle.board.specs.Board.{boardOf, freeCount}
+use Rattle.board.specs.Board.{boardOf}
+use Rattle.rectangle.specs.Board.{freeCount}
 use Rattle.covers.specs.Cuttings.{Numbering, Exactly}
-use Rattle.graph.specs.declared.Tiling.{Tiling}
+use Rattle.path_count.specs.PathCounts.{countLimit}
+use Rattle.numbered_tilings.specs.declared.Tiling.{Tiling}
 use Rattle.graph.specs.Rooms.{layerRoom}
-use Rattle.graph.specs.Tilings.{completeNode, countFromGraph, nodeList, markedPieces, tilingAnswer, GivesTiling}
-use Rattle.graph.specs.TilingLaws.{list-read}
-use Rattle.tiler.specs.declared.Count.{Count}
+use Rattle.graph.specs.Result.{completeNode, countFromGraph, markedPieces}
+use Rattle.numbered_tilings.specs.Tilings.{nodeList, tilingAnswer, GivesTiling}
+use Rattle.numbered_tilings.specs.TilingLaws.{list-read}
+use Rattle.layers.specs.declared.Count.{Count}
 use Rattle.tiler.specs.declared.MadeGraph.{MadeGraph}
-use Rattle.tiler.specs.Counting.{countLimit, countAnswer, CountsTilings, Graph, generateGraph, GeneratesGraph}
-use Rattle.tiler.specs.Cuttings.{IsCutting, HasFreeCell, AllEdgeJoined, CountsCuttings, NumbersCuttings}
+use Rattle.layers.specs.LayerCounts.{countAnswer, CountsTilings, CountsCuttings}
+use Rattle.tiler.specs.Graphs.{Graph, generateGraph, GeneratesGraph, NumbersCuttings}
+use Rattle.expansion.specs.Cuttings.{IsCutting, HasFreeCell, AllEdgeJoined}
 use Rattle.tiler.specs.AnswerLaws.{given-graph}
 use Rattle.tiler.specs.GivenLaws.{plot-accepted}
-use Rattle.tiler.specs.NumberLaws.{count-cuttings, count-small, words-cuttings, words-length}
+use Rattle.layers.specs.CountLaws.{counts-cuttings}
+use Rattle.tiler.specs.NumberLaws.{words-count-small, words-cuttings, words-length}
 use Rattle.tiler.specs.Theorems.{calls-agree, own-graph-is-sound}
 
 -- ---- 1. Of one call
@@ -34,8 +39,7 @@ module _ (b : RectangularBoard) (fixed : Sound (b .fixed)) (laid : Sound (b .lai
   -- A layer count that is given is the number of cuttings.
   pub layer-count-is-number-of-cuttings : (boardsA countsA boardsB countsB boardsA′ countsA′ boardsB′ countsB′ : List ℕ) (count : Count)
       → CountsTilings b ts boardsA countsA boardsB countsB boardsA′ countsA′ boardsB′ countsB′ count → CountsCuttings b ts count
-  layer-count-is-number-of-cuttings boardsA countsA boardsB countsB boardsA′ countsA′ boardsB′ countsB′ count counted free joined n is =
-      count-cuttings b fixed laid ts free joined (layerRoom (length boardsA) (length countsA) (length boardsB) (length countsB)) n (sym (counted .answer) ∙ is)
+  layer-count-is-number-of-cuttings = counts-cuttings b fixed laid ts
 
   -- A graph that is given is not refused by 11, and the numbers below its count number the cuttings: each number gives one, two numbers never give the
   -- same, and every cutting has its number.
@@ -77,10 +81,10 @@ module _ (b : RectangularBoard) (fixed : Sound (b .fixed)) (laid : Sound (b .lai
   number-of-cuttings =
       layer-count-is-number-of-cuttings b fixed laid ts boardsA countsA boardsB countsB boardsA′ countsA′ boardsB′ countsB′ count counted free joined n countGiven
 
-  -- The numbers below n are words of 64 bits, as the numbered call takes them.
+  -- The numbers below n are path counts, as the numbered call takes them.
   pub numbers-are-words : n < countLimit
   numbers-are-words =
-      subst (λ (k : ℕ). k < countLimit) both-counts (count-small b fixed laid ts nodes counts edges nodes′ counts′ edges′ made generated (graph .0) (graph .1))
+      subst (λ (k : ℕ). k < countLimit) both-counts (words-count-small b fixed laid ts nodes counts edges nodes′ counts′ edges′ made generated (graph .0) (graph .1))
 
   -- "The numbered call is then handed the graph and its result as they were built for that board and tiles, and an output"
   abbrev pub NumberedCall : ℕ → List ℕ → List ℕ → Tiling → Type 0

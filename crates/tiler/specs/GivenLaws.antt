@@ -1,46 +1,32 @@
--- What is known of a layer count and of a graph that are given: board and tiles are not refused; both counts are the definition's; the graph is the
--- definition's, has room, and the rule of sums holds of it; and so of the words that hold it. Rests on `AnswerLaws` and covers' `Theorems`. Assumes
--- nothing.
+-- What is known of a graph that is given: board and tiles are not refused; it is the definition's, and so is its count; it has room, and the rule of sums
+-- holds of it; and so of the words that hold it. Rests on `AnswerLaws`, layers' `CountLaws` and covers' `Theorems`. Assumes nothing.
 use mathlib.Core.Path.{_≡_, sym, ap, ap₂, _∙_, subst, fun-ext}
 use mathlib.Core.Bool.{false}
 use mathlib.Core.List.{List, List·Memᴰ as Mem}
 use Prim.Native.Nat.{ℕ, _^_, _≤_, _<_}
 use lib.ListN.{length, getD}
 use Rattle.cells.specs.Words.{Sound}
-use Rattle.cells.specs.WordLaws.{number-lt}
-use Rattle.tile.specs.declared.Tiles.{Tiles}
+use Rattle.tiles.specs.declared.Tiles.{Tiles}
 use Rattle.refusal.specs.Refusal.{Answer, given, valueOr}
-use Rattle.tile.specs.Stored.{pathsIn}
+use Rattle.tiles.specs.Stored.{pathsIn}
 use Rattle.board.specs.declared.RectangularBoard.{RectangularBoard}
 use Rattle.covers.specs.Cuttings.{Laws, EqualSteps}
 use Rattle.covers.specs.Counts.{SumRule, atNode, counts, entriesOf, graphCount, nodesOf}
-use Rattle.covers.specs.Theorems.{graph-sum-rule, counts-are-equal}
+use Rattle.covers.specs.Theorems.{graph-sum-rule}
 use Rattle.covers.specs.SettingLaws.{some-node, node-ok}
 use Rattle.graph.specs.Rooms.{nodeRoom, edgeRoom}
-use Rattle.graph.specs.Tilings.{completeNode, countIn, countFromGraph}
+use Rattle.graph.specs.Result.{completeNode, countFromGraph}
 use Rattle.tiler.specs.declared.MadeGraph.{MadeGraph}
-use Rattle.tiler.specs.Boards.{setting, settingOf, startOf}
-use Rattle.tiler.specs.Counting.{tooLarge, countTilings, Graph, graphOf, judgeGraph, generateGraph, Makes, GeneratesGraph}
-use Rattle.tiler.specs.Inner.{Accepted, stepOf}
-use Rattle.tiler.specs.AcceptedLaws.{accepted-laws, accepted-steps, accepted-start}
-use Rattle.tiler.specs.AnswerLaws.{from-read, counted-layers, judged-graph, as-many, small-at, HasRoom, counts-back}
+use Rattle.expansion.specs.Boards.{setting, settingOf, startOf}
+use Rattle.layers.specs.LayerCounts.{tooLarge}
+use Rattle.layers.specs.CountLaws.{small-counts}
+use Rattle.tiler.specs.Graphs.{Graph, graphOf, judgeGraph, generateGraph, Makes, GeneratesGraph, pathCountAt, countOfGraph}
+use Rattle.expansion.specs.Plots.{Accepted, stepOf}
+use Rattle.expansion.specs.AcceptedLaws.{accepted-laws, accepted-steps, start-accepted, from-read}
+use Rattle.expansion.specs.ExpansionLaws.{small-at}
+use Rattle.tiler.specs.AnswerLaws.{judged-graph, as-many, HasRoom, counts-back}
 
 module _ (b : RectangularBoard) (fixed : Sound (b .fixed)) (laid : Sound (b .laid)) (ts : Tiles) where
-  -- board and tiles that are not refused, as a setting
-  module _ (ok : Accepted b ts) where
-    pub start-accepted : settingOf b ts .Ok (startOf b)
-    start-accepted = accepted-start b ts ok (number-lt (b .fixed) fixed) (number-lt (b .laid) laid)
-
-  -- a layer count that is given is the graph count of the definition
-  pub layers-count : (room n : ℕ) → countTilings b ts room ≡ given n → Accepted b ts × (n ≡ graphCount (settingOf b ts) (startOf b))
-  unfolding countTilings
-  layers-count room n told =
-      let r = from-read b ts _ n told in (
-        r .0,
-        sym (counted-layers b ts room n (r .1))
-            ∙ counts-are-equal (settingOf b ts) (accepted-laws b ts (r .0)) (stepOf (pathsIn ts)) (accepted-steps b ts (r .0)) (startOf b) (start-accepted (r .0)),
-      )
-
   module _ (nodeWords countWords edgeWords : ℕ) (g : Graph) (made : generateGraph b ts nodeWords countWords edgeWords ≡ given g) where
     read : Accepted b ts × (judgeGraph (nodeRoom nodeWords countWords) (edgeRoom edgeWords) (graphOf (settingOf b ts) (startOf b)) ≡ given g)
     unfolding generateGraph
@@ -66,7 +52,7 @@ module _ (b : RectangularBoard) (fixed : Sound (b .fixed)) (laid : Sound (b .lai
     graph-steps = accepted-steps b ts plot-accepted
 
     pub graph-start : settingOf b ts .Ok (startOf b)
-    graph-start = start-accepted plot-accepted
+    graph-start = start-accepted b fixed laid ts plot-accepted
 
     pub nodes-are : g .nodes ≡ nodesOf (settingOf b ts) (startOf b)
     unfolding graphOf
@@ -77,9 +63,9 @@ module _ (b : RectangularBoard) (fixed : Sound (b .fixed)) (laid : Sound (b .lai
     unfolding setting
     nodes-small i = small-at (g .nodes) (λ t m. node-ok (settingOf b ts) graph-laws (startOf b) graph-start t (subst (Mem t) nodes-are m) .small) i
 
-    pub graph-sums : SumRule (length (g .nodes)) (g .edges) (countIn (g .counts))
+    pub graph-sums : SumRule (length (g .nodes)) (g .edges) (pathCountAt (g .counts))
     unfolding graphOf
-    graph-sums = subst (λ (k : Graph). SumRule (length (k .nodes)) (k .edges) (countIn (k .counts))) graph-is
+    graph-sums = subst (λ (k : Graph). SumRule (length (k .nodes)) (k .edges) (pathCountAt (k .counts))) graph-is
         (graph-sum-rule (settingOf b ts) graph-laws (startOf b) graph-start (stepOf (pathsIn ts)) graph-steps)
 
     pub graph-room : HasRoom g nodeWords countWords edgeWords
@@ -90,11 +76,12 @@ module _ (b : RectangularBoard) (fixed : Sound (b .fixed)) (laid : Sound (b .lai
           nodesFit = judged .1;
           edgesFit = judged .2;
           asMany = as-many (entriesOf (settingOf b ts) (startOf b));
+          countsFit = small-counts (counts (entriesOf (settingOf b ts) (startOf b))) graph-small;
         }
 
-    pub graph-count : countFromGraph (g .complete) (g .counts) ≡ graphCount (settingOf b ts) (startOf b)
-    unfolding graphCount countFromGraph graphOf setting
-    graph-count = ap (λ (k : Graph). countFromGraph (k .complete) (k .counts)) (sym graph-is)
+    pub graph-count : countOfGraph g ≡ graphCount (settingOf b ts) (startOf b)
+    unfolding graphCount countOfGraph graphOf setting
+    graph-count = ap countOfGraph (sym graph-is)
 
   -- words that hold a graph that is given
   module _ (nodes counts edges nodes′ counts′ edges′ : List ℕ) (r : MadeGraph) (made : GeneratesGraph b ts nodes counts edges nodes′ counts′ edges′ r)
@@ -103,7 +90,7 @@ module _ (b : RectangularBoard) (fixed : Sound (b .fixed)) (laid : Sound (b .lai
     graph-stored = subst (λ (a : Answer Graph). Makes a (length nodes) (length counts) (length edges) nodes′ counts′ edges′ r) e made
 
     pub words-count : countFromGraph (completeNode (r .graph .complete)) counts′ ≡ graphCount (settingOf b ts) (startOf b)
-    unfolding countFromGraph valueOr
+    unfolding countFromGraph countOfGraph valueOr
     words-count =
         ap₂ atNode (fun-ext (counts-back g (length nodes) (length counts) (length edges) nodes′ counts′ edges′ r graph-stored (graph-room (length nodes) (length counts) (length edges) g e))) (graph-stored .complete)
         ∙ graph-count (length nodes) (length counts) (length edges) g e

@@ -1,94 +1,26 @@
--- Definitions for the contracts of private functions: what the lent words hold while a layer or a graph grows, and what is answered from a layer on.
--- No contract of a function that can be called from outside cites one; law files do (`Accepted` and `stepOf` most of all). Assumes nothing.
+-- Definitions for the contracts of private functions: what the lent words hold while a graph grows, its path counts by a pass over its edges, and its
+-- result. No contract of a function that can be called from outside cites one. Assumes nothing.
 use mathlib.Core.Path.{_≡_}
-use mathlib.Core.Bool.{Bool, So, true, false, cond}
-use mathlib.Core.List.{List, [], _∷_, List·Memᴰ as Mem}
-use Prim.Native.Nat.{ℕ, zero, suc, _+_, _-_, _*_, _≤_, min}
+use mathlib.Core.Bool.{Bool, true, false, cond}
+use mathlib.Core.List.{List}
+use Prim.Native.Nat.{ℕ, zero, suc, _+_, _-_, _*_, _≤_, _<_, min}
 use lib.Dec.{eqb, leb}
 use lib.ListN.{length, getD}
-use Rattle.cells.specs.Firsts.{Once}
 use Rattle.cells.specs.Arrays.{listOf}
-use Rattle.cells.specs.Lists.{setAt, clearedFrom}
-use Rattle.tile.specs.declared.Tiles.{Tiles}
-use Rattle.refusal.specs.Refusal.{Answer, refused, given, mapAnswer, bindAnswer, refusalNumber, verdictNumber}
-use Rattle.tile.specs.Path.{Path, sharedCount}
-use Rattle.tile.specs.Stored.{pathsIn, readEqualTiles}
+use Rattle.cells.specs.Lists.{setAt, clearedFrom, firstFrom}
+use Rattle.refusal.specs.Refusal.{verdictNumber}
+use Rattle.tiles.specs.declared.Tiles.{Tiles}
+use Rattle.rectangle.specs.Board.{Board, boardAt, isFull}
 use Rattle.board.specs.declared.RectangularBoard.{RectangularBoard}
-use Rattle.board.specs.Board.{Board, boardOf, boardAt, isFull, valid}
-use Rattle.covers.specs.Cuttings.{Setting, childBoards}
-use Rattle.covers.specs.Counts.{Entry, boards, counts, fullCount, shares, gather}
-use Rattle.covers.specs.GatherLaws.{addPaths}
-use Rattle.graph.specs.Graph.{edgeAt, firstFrom}
-use Rattle.tiler.specs.declared.plot.Judged.{Judged}
-use Rattle.tiler.specs.declared.plot.Judged.the-variants as J
-use Rattle.tiler.specs.declared.layers.Layer.{Layer}
-use Rattle.tiler.specs.declared.layers.Layer.the-variants as L
+use Rattle.graph.specs.Graph.{edgeAt}
+use Rattle.graph.specs.Rooms.{nodeRoom, edgeRoom}
+use Rattle.graph.specs.Result.{completeNode}
+use Rattle.expansion.specs.Boards.{settingOf, startOf}
+use Rattle.path_count.specs.PathCounts.{countLimit, countWords}
 use Rattle.tiler.specs.declared.building.Growth.{Growth}
 use Rattle.tiler.specs.declared.building.Growth.the-variants as G
 use Rattle.tiler.specs.declared.MadeGraph.{MadeGraph}
-use Rattle.graph.specs.Tilings.{completeNode, countIn}
-use Rattle.tiler.specs.Counting.{countLimit, tooLarge, judgeLayer}
-
--- ---- board and tiles that are not refused
-
-pub record Accepted (b : RectangularBoard) (ts : Tiles) : Type 0 where
-  pub board : So (valid (boardOf b))
-  pub tiles : readEqualTiles ts ≡ given (pathsIn ts)
-
--- the cells that each piece covers; 1 where there are no tiles, and so no pieces
-unfoldable pub stepOf : List Path → ℕ
-unfolding sharedCount
-stepOf paths = cond (eqb (sharedCount paths) 0) 1 (sharedCount paths)
-
-abbrev pub judgedAnswer : Judged → Answer ℕ
-judgedAnswer (J.Size n) = given n
-judgedAnswer (J.Refused r) = refused (refusalNumber r)
-
--- ---- a layer in lent words
-
--- the first n boards of the words with their counts
-unfoldable pub entriesIn : List ℕ → List ℕ → ℕ → List (Entry ℕ)
-unfolding setAt listOf
-entriesIn bs cs n = listOf (λ i. (setAt bs i, countIn cs i)) n
-
--- how many boards a layer has, and whether a count is too large; no room where its boards pass it
-unfoldable pub layerState : ℕ → List (Entry ℕ) → Layer
-unfolding tooLarge
-layerState room es = cond (leb (length es) room) (L.Boards (length es) (tooLarge (counts es))) L.NoRoom
-
--- the boards that a state tells
-abbrev pub boardsIn : Layer → ℕ
-boardsIn (L.Boards n over) = n
-boardsIn L.NoRoom = 0
-
--- the words and the state of a layer that has become es: its boards while they have room, its counts while none is too large
-pub record HoldsLayer (room : ℕ) (bs cs : List ℕ) (layer : Layer) (es : List (Entry ℕ)) : Type 0 where
-  pub state : layer ≡ layerState room es
-  pub boards : length es ≤ room → listOf (setAt bs) (length es) ≡ boards es
-  pub counts : length es ≤ room → tooLarge (counts es) ≡ false → listOf (countIn cs) (length es) ≡ counts es
-
--- k paths more for each board of a list, in order
-unfoldable pub addEach : List ℕ → ℕ → List (Entry ℕ) → List (Entry ℕ)
-unfolding addPaths
-addEach [] k es = es
-addEach (c ∷ cs) k es = addEach cs k (addPaths eqb c k es)
-
--- the layer behind a layer
-unfoldable pub nextOf : Setting ℕ ℕ → List (Entry ℕ) → List (Entry ℕ)
-unfolding gather shares
-nextOf S es = gather (S .sameBoard) (shares (childBoards S) es)
-
--- what is answered from a layer on, of k more layers
-unfoldable pub countFrom : Setting ℕ ℕ → ℕ → ℕ → List (Entry ℕ) → Answer ℕ
-unfolding fullCount judgeLayer nextOf mapAnswer bindAnswer
-countFrom S room zero es = given (fullCount (S .full) es)
-countFrom S room (suc k) es = mapAnswer (λ n. fullCount (S .full) es + n) (bindAnswer (judgeLayer room (nextOf S es)) (countFrom S room k))
-
--- a layer each of whose boards is accepted and has so many free cells
-pub record Ready (S : Setting ℕ ℕ) (left : ℕ) (es : List (Entry ℕ)) : Type 0 where
-  pub once : Once (boards es)
-  pub ok : (n : ℕ) → Mem n (boards es) → S .Ok n
-  pub free : (n : ℕ) → Mem n (boards es) → S .freeCount n ≡ left
+use Rattle.tiler.specs.Graphs.{graphOf, judgeGraph, Makes}
 
 -- ---- a graph in lent words: its nodes and its edges
 
@@ -111,7 +43,16 @@ pub record HoldsGraph (room edgeRoom : ℕ) (ns es : List ℕ) (growth : Growth)
   pub nodes : length (g .0) ≤ room → listOf (setAt ns) (length (g .0)) ≡ g .0
   pub edges : length (g .0) ≤ room → length (g .1) ≤ edgeRoom → listOf (edgeAt es) (length (g .1)) ≡ g .1
 
+-- what some children more do to a graph, whatever the graph was: its nodes stay within the room, and words and state are those of what is made of it
+abbrev pub AddsToGraph : ℕ → ℕ → List ℕ → List ℕ → Growth → List ℕ → List ℕ → Growth → (List ℕ × List (ℕ × ℕ) → List ℕ × List (ℕ × ℕ)) → Type 0
+AddsToGraph room edgeRoom ns es growth ns′ es′ r add =
+    (nodesIn r ≤ room) × ((g : List ℕ × List (ℕ × ℕ)) → HoldsGraph room edgeRoom ns es growth g → HoldsGraph room edgeRoom ns′ es′ r (add g))
+
 -- ---- path counts by a pass over the edges
+
+-- the parents and the children of the first n edges in the words are below a bound
+abbrev pub EndsBelow : List ℕ → ℕ → ℕ → Type 0
+EndsBelow ws n bound = (i : ℕ) → i < n → (edgeAt ws i .0 < bound) × (edgeAt ws i .1 < bound)
 
 -- the counts when the first j of some edges have been passed: an edge adds its parent's count to its child's
 unfoldable pub passTo : (ℕ → ℕ) → List (ℕ × ℕ) → ℕ → ℕ → ℕ
@@ -120,19 +61,14 @@ passTo f es (suc j) v =
     cond (eqb v (getD es j (0, 0) .1)) (passTo f es j v + passTo f es j (getD es j (0, 0) .0)) (passTo f es j v)
 
 -- the counts with which a pass begins: node 0 has 1
-unfoldable pub firstCount : ℕ → List ℕ
-unfolding listOf
-firstCount n = listOf (λ v. cond (eqb v 0) 1 0) n
+unfoldable pub firstCount : ℕ → ℕ
+firstCount v = cond (eqb v 0) 1 0
 
--- what a pass leaves: the counts, or one of its sums was too large
-pub record PassesEdges (cs : List ℕ) (es : List (ℕ × ℕ)) (cs′ : List ℕ) (r : Bool) : Type 0 where
-  pub done : r ≡ true → (v : ℕ) → countIn cs′ v ≡ passTo (countIn cs) es (length es) v
-  pub large : r ≡ false → (j : ℕ) × (v : ℕ) × (j ≤ length es) × (countLimit ≤ passTo (countIn cs) es j v)
-
--- what one addition to a count leaves, and whether it is refused since the sum would be too large
-pub record AddsCount (cs : List ℕ) (i k : ℕ) (cs′ : List ℕ) (r : Bool) : Type 0 where
-  pub large : r ≡ leb countLimit (countIn cs i + k)
-  pub same : (v : ℕ) → countIn cs′ v ≡ cond r (countIn cs v) (cond (eqb v i) (countIn cs i + k) (countIn cs v))
+-- what a pass leaves in so many count words: the counts, each of which fits, or one of its sums was too large
+pub record PassesEdges (words : ℕ) (es : List (ℕ × ℕ)) (cs′ : List ℕ) (r : Bool) : Type 0 where
+  pub done : r ≡ true → cs′ ≡ countWords (passTo firstCount es (length es)) words
+  pub fits : r ≡ true → (v : ℕ) → passTo firstCount es (length es) v < countLimit
+  pub large : r ≡ false → (j : ℕ) × (v : ℕ) × (j ≤ length es) × (countLimit ≤ passTo firstCount es j v)
 
 -- ---- the result of a graph whose n nodes and e edges stand in the words
 
@@ -143,3 +79,10 @@ pub record Finishes (b : Board) (nodes edges : List ℕ) (n e : ℕ) (nodes′ e
   pub complete : completeNode (r .graph .complete) ≡ firstFrom (λ i. isFull (boardAt b (setAt nodes i))) 1 (n - 1)
   pub nodeWords : nodes′ ≡ clearedFrom (4 * n) nodes
   pub edgeWords : edges′ ≡ clearedFrom (2 * e) edges
+
+-- ---- the graph of a board and tiles that are not refused, in the words that are lent
+
+abbrev pub MakesGraph : RectangularBoard → Tiles → List ℕ → List ℕ → List ℕ → List ℕ → List ℕ → List ℕ → MadeGraph → Type 0
+MakesGraph b ts nodes counts edges nodes′ counts′ edges′ r =
+    Makes (judgeGraph (nodeRoom (length nodes) (length counts)) (edgeRoom (length edges)) (graphOf (settingOf b ts) (startOf b)))
+    (length nodes) (length counts) (length edges) nodes′ counts′ edges′ r

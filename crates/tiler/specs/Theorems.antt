@@ -1,7 +1,7 @@
 -- What the answers mean: the theorem page of the layer count and the graph. The graph's nodes are the boards that child sequences reach, in the order
 -- of first finding; a path count is the number of child sequences that reach the board; our own graph meets every condition of refusal 11; the layer
 -- count is the number of child sequences to the full board; and both counts agree. Each statement is for every board and tiles of the code (a set of
--- the code has words of 64 bits: `Sound`) and every number of lent words. Rests on covers' `Theorems`. Assumes nothing.
+-- the code has words of 64 bits: `Sound`) and every number of lent words. Rests on `GivenLaws`, layers' `CountLaws` and covers' `Theorems`. Assumes nothing.
 use mathlib.Core.Path.{_≡_, sym, ap, _∙_, subst, fun-ext}
 use mathlib.Core.Logic.{_↔_}
 use mathlib.Core.Bool.{false, So}
@@ -15,26 +15,31 @@ use Rattle.cells.specs.Lists.{setsIn}
 use Rattle.graph.specs.Graph.{edgesIn}
 use Rattle.cells.specs.Words.{Sound}
 use Rattle.cells.specs.WordLaws.{number-lt}
-use Rattle.tile.specs.declared.Tiles.{Tiles}
+use Rattle.tiles.specs.declared.Tiles.{Tiles}
 use Rattle.refusal.specs.Refusal.{given, verdictNumber}
-use Rattle.tile.specs.Stored.{pathsIn}
+use Rattle.tiles.specs.Stored.{pathsIn}
 use Rattle.board.specs.declared.RectangularBoard.{RectangularBoard}
-use Rattle.board.specs.Board.{boardOf, boardAt, isFull}
-use Rattle.board.specs.Children.{childrenAt}
+use Rattle.board.specs.Board.{boardOf}
+use Rattle.rectangle.specs.Board.{boardAt, isFull}
+use Rattle.children.specs.Children.{childrenAt}
 use Rattle.covers.specs.Cuttings.{Exactly, childBoards, Laws, EqualSteps}
-use Rattle.covers.specs.Counts.{ChildSequence, counts, entriesOf, graphCount, graphEdges, nodesOf, pathCountOf}
+use Rattle.covers.specs.Counts.{ChildSequence, counts, graphCount, graphEdges, nodesOf, pathCountOf}
 use Rattle.covers.specs.Theorems.{nodes-are-reached, nodes-by-first-finding, graph-edges-are-children, graph-edges-once, graph-tilings, full-counts-none, none-reached-counts-none, count-is-child-sequences}
 use Rattle.covers.specs.SettingLaws.{start-node}
 use Rattle.tiler.specs.declared.MadeGraph.{MadeGraph}
-use Rattle.tiler.specs.Boards.{setting, settingOf, startOf}
-use Rattle.graph.specs.Tilings.{completeNode, countIn, countFromGraph, badGraph}
-use Rattle.graph.specs.TilingLaws.{sound-not-bad}
-use Rattle.tiler.specs.Counting.{countLimit, countTilings, Graph, graphOf, generateGraph, GeneratesGraph}
-use Rattle.tiler.specs.Inner.{Accepted, stepOf}
-use Rattle.tiler.specs.SettingLaws.{children-are}
-use Rattle.tiler.specs.AcceptedLaws.{accepted-laws, accepted-steps, accepted-at}
-use Rattle.tiler.specs.AnswerLaws.{small-counts, node-behind, given-graph, nodes-back, counts-back, edges-back, sound-words, only-start}
-use Rattle.tiler.specs.GivenLaws.{start-accepted, layers-count, graph-is, graph-small, graph-laws, graph-steps, graph-start, nodes-are, nodes-small, graph-sums, graph-room, graph-count, graph-stored, words-count}
+use Rattle.expansion.specs.Boards.{setting, settingOf, startOf}
+use Rattle.graph.specs.Result.{completeNode, countFromGraph}
+use Rattle.path_count.specs.PathCounts.{countIn, countLimit}
+use Rattle.numbered_tilings.specs.Tilings.{badGraph}
+use Rattle.numbered_tilings.specs.TilingLaws.{sound-not-bad}
+use Rattle.layers.specs.LayerCounts.{countTilings}
+use Rattle.tiler.specs.Graphs.{Graph, graphOf, generateGraph, GeneratesGraph, pathCountAt, countOfGraph}
+use Rattle.expansion.specs.Plots.{Accepted, stepOf}
+use Rattle.expansion.specs.SettingLaws.{children-are}
+use Rattle.expansion.specs.AcceptedLaws.{accepted-laws, accepted-steps, accepted-at, start-accepted}
+use Rattle.layers.specs.CountLaws.{layers-count}
+use Rattle.tiler.specs.AnswerLaws.{node-behind, given-graph, nodes-back, counts-back, edges-back, sound-words, only-start}
+use Rattle.tiler.specs.GivenLaws.{graph-is, graph-laws, graph-steps, graph-start, nodes-are, nodes-small, graph-sums, graph-room, graph-count, graph-stored, words-count}
 
 same-children : (b : RectangularBoard) (ts : Tiles) → childBoards (settingOf b ts) ≡ childrenAt (boardOf b) (pathsIn ts)
 same-children b ts = fun-ext (children-are (boardOf b) (pathsIn ts))
@@ -90,17 +95,16 @@ module _ (b : RectangularBoard) (fixed : Sound (b .fixed)) (laid : Sound (b .lai
         (graph-edges-are-children (settingOf b ts) laws (startOf b) ok (stepOf (pathsIn ts)) steps p c))
 
     -- "Beside each node stands its path count", and "A board's path count is the number of child sequences that reach it".
-    pub path-count-is-number-of-sequences : (v : ℕ) → v < length (g .nodes) → Exactly (getD (g .counts) v 0) (Reaches (getD (g .nodes) v (startOf b)))
+    pub path-count-is-number-of-sequences : (v : ℕ) → v < length (g .nodes) → Exactly (pathCountAt (g .counts) v) (Reaches (getD (g .nodes) v (startOf b)))
     unfolding graphOf
     path-count-is-number-of-sequences v h =
-        subst (λ (k : Graph). Exactly (getD (k .counts) v 0) (Reaches (getD (k .nodes) v (startOf b)))) is
+        subst (λ (k : Graph). Exactly (pathCountAt (k .counts) v) (Reaches (getD (k .nodes) v (startOf b)))) is
         (subst (λ (ch : ℕ → List ℕ). Exactly (pathCountOf (settingOf b ts) (startOf b) v) (ChildSequence ch (startOf b) (getD (nodesOf (settingOf b ts) (startOf b)) v (startOf b)))) (same-children b ts)
         (_, graph-tilings (settingOf b ts) laws (startOf b) ok (stepOf (pathsIn ts)) steps v (subst (λ (ns : List ℕ). v < length ns) nodes-is h)))
 
     -- Each path count is below 2^64.
-    pub path-counts-fit : (v : ℕ) → getD (g .counts) v 0 < countLimit
-    unfolding graphOf
-    path-counts-fit v = subst (λ (k : Graph). getD (k .counts) v 0 < countLimit) is (small-counts (counts (entriesOf (settingOf b ts) (startOf b))) (graph-small b fixed laid ts nodeWords countWords edgeWords g made) v)
+    pub path-counts-fit : (v : ℕ) → pathCountAt (g .counts) v < countLimit
+    path-counts-fit = graph-room b fixed laid ts nodeWords countWords edgeWords g made .countsFit
 
     -- The full node is a node behind node 0, and full.
     pub full-node-is-full : (v : ℕ) → g .complete ≡ some v → (0 < v) × (v < length (g .nodes)) × So (isFull (boardAt (boardOf b) (getD (g .nodes) v (startOf b))))
@@ -126,7 +130,7 @@ module _ (b : RectangularBoard) (fixed : Sound (b .fixed)) (laid : Sound (b .lai
   module _ (nodes counts edges nodes′ counts′ edges′ : List ℕ) (r : MadeGraph) (made : GeneratesGraph b ts nodes counts edges nodes′ counts′ edges′ r) where
     -- They read back as the graph.
     pub words-are-the-graph : (g : Graph) → generateGraph b ts (length nodes) (length counts) (length edges) ≡ given g
-        → (setsIn nodes′ (r .graph .nodes) ≡ g .nodes) × ((v : ℕ) → countIn counts′ v ≡ countIn (g .counts) v) × (edgesIn edges′ (r .graph .edges) ≡ g .edges)
+        → (setsIn nodes′ (r .graph .nodes) ≡ g .nodes) × ((v : ℕ) → countIn counts′ v ≡ pathCountAt (g .counts) v) × (edgesIn edges′ (r .graph .edges) ≡ g .edges)
     words-are-the-graph g e =
         let k = graph-stored b fixed laid ts nodes counts edges nodes′ counts′ edges′ r made g e in
         let h = graph-room b fixed laid ts (length nodes) (length counts) (length edges) g e in (
@@ -190,7 +194,7 @@ module _ (b : RectangularBoard) (fixed : Sound (b .fixed)) (laid : Sound (b .lai
 
     -- Both counts agree where neither is refused: over the definitions,
     pub counts-agree : (nodeWords countWords edgeWords : ℕ) (g : Graph) → generateGraph b ts nodeWords countWords edgeWords ≡ given g
-        → countFromGraph (g .complete) (g .counts) ≡ n
+        → countOfGraph g ≡ n
     counts-agree nodeWords countWords edgeWords g made = graph-count b fixed laid ts nodeWords countWords edgeWords g made ∙ sym count-is
 
     -- and over the result and the count words that `generate_graph` leaves, as `count_tilings_from_graph` reads them.

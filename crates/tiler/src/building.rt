@@ -2,37 +2,39 @@
 // edges. Private helpers; they ask that board and tiles have been tested, and that the rooms are lent:
 // `room` is the nodes' room, `space` the edges' room (`room` in `add_edge`, which has no other).
 use crate::MadeGraph;
-use crate::layers;
-use crate::plot;
+use board::AllMarked;
 use board::RectangularBoard;
 use cells::Cells;
 use cells::list;
+use cells::list::Found;
 use graph::Complete;
-use graph::Found;
 use graph::GraphResult;
 use graph::rooms;
+use path_count::PathCount;
 use refusal::Refusal;
 use refusal::Verdict;
-use tile::Tiles;
+use tiles::Tiles;
 ghost use mathlib.Core.Path.{_≡_};
 ghost use mathlib.Core.List.{List, [], _∷_, _++_};
 ghost use Prim.Native.Nat.{ℕ, _+_, _*_, _-_, _≤_, _<_};
 ghost use lib.Dec.{eqb};
-ghost use lib.ListN.{length, getD};
+ghost use lib.ListN.{length};
 ghost use Rattle.cells.specs.Words.{number};
 ghost use Rattle.cells.specs.Arrays.{listOf};
-ghost use Rattle.cells.specs.Lists.{setAt};
+ghost use Rattle.cells.specs.Lists.{setAt, firstFrom};
 ghost use Rattle.refusal.specs.Refusal.{refusalNumber, refused};
-ghost use Rattle.board.specs.Board.{boardOf, boardAt, isFull};
+ghost use Rattle.board.specs.Board.{boardOf};
+ghost use Rattle.rectangle.specs.Board.{boardAt, isFull};
 ghost use Rattle.covers.specs.Cuttings.{childBoards};
 ghost use Rattle.covers.specs.Counts.{nodesOf, graphEdges};
 ghost use Rattle.covers.specs.FindingLaws.{addChild, addChildren};
-ghost use Rattle.graph.specs.Graph.{edgeAt, firstFrom};
-ghost use Rattle.tiler.specs.Boards.{From, settingOf, startOf};
-ghost use Rattle.graph.specs.Rooms.{nodeRoom, edgeRoom};
-ghost use Rattle.graph.specs.Tilings.{completeNode};
-ghost use Rattle.tiler.specs.Counting.{Makes, judgeGraph, graphOf};
-ghost use Rattle.tiler.specs.Inner.{Accepted, nodesIn, HoldsEdges, HoldsGraph, firstCount, AddsCount, PassesEdges, Finishes};
+ghost use Rattle.path_count.specs.PathCounts.{countRoom, countIn, countWords, AddsCount};
+ghost use Rattle.graph.specs.Graph.{edgeAt};
+ghost use Rattle.expansion.specs.Boards.{From, settingOf, startOf};
+ghost use Rattle.expansion.specs.Plots.{Accepted};
+ghost use Rattle.graph.specs.Result.{completeNode};
+ghost use Rattle.tiler.specs.Graphs.{Makes};
+ghost use Rattle.tiler.specs.Inner.{nodesIn, HoldsEdges, HoldsGraph, AddsToGraph, MakesGraph, EndsBelow, firstCount, PassesEdges, Finishes};
 
 // How many nodes and edges a graph has, the edges past their room counting as one; no room where there
 // was one node more than the room.
@@ -66,12 +68,12 @@ fn add_child(
     child: Cells,
 ) -> Growth
     requires { ⌜ (nodesIn growth ≤ room) × (4 * room ≤ length (now nodes)) × (2 * space ≤ length (now edges)) ⌝ }
-    ensures { λ r. ⌜ (nodesIn r ≤ room) × ((g : List ℕ × List (ℕ × ℕ)) → HoldsGraph room space (now (nodes .entry)) (now (edges .entry)) growth g → HoldsGraph room space (now (nodes .exit)) (now (edges .exit)) r (addChild eqb parent (number child) g)) ⌝ }
+    ensures { λ r. ⌜ AddsToGraph room space (now (nodes .entry)) (now (edges .entry)) growth (now (nodes .exit)) (now (edges .exit)) r (addChild eqb parent (number child)) ⌝ }
 {
     let Growth::Size(n, e) = growth else {
         return Growth::NoRoom;
     };
-    let found = graph::find_node(nodes, 0, n, child);
+    let found = list::find(nodes, 0, n, child);
     let Found::At(i) = found else {
         if room <= n {
             return Growth::NoRoom;
@@ -94,7 +96,7 @@ fn add_children(
     n: usize,
 ) -> Growth
     requires { ⌜ (nodesIn growth ≤ room) × (4 * room ≤ length (now nodes)) × (2 * space ≤ length (now edges)) ⌝ }
-    ensures { λ r. ⌜ (nodesIn r ≤ room) × ((g : List ℕ × List (ℕ × ℕ)) → HoldsGraph room space (now (nodes .entry)) (now (edges .entry)) growth g → HoldsGraph room space (now (nodes .exit)) (now (edges .exit)) r (addChildren eqb parent (listOf (setAt (now (children .entry))) n) g)) ⌝ }
+    ensures { λ r. ⌜ AddsToGraph room space (now (nodes .entry)) (now (edges .entry)) growth (now (nodes .exit)) (now (edges .exit)) r (addChildren eqb parent (listOf (setAt (now (children .entry))) n)) ⌝ }
 {
     let mut state = growth;
     let mut i = 0;
@@ -126,9 +128,9 @@ fn expand_node(
     i: usize,
 ) -> Growth
     requires { ⌜ Accepted board tiles × From (boardOf board) (setAt (now nodes) i) × (8448 ≤ length (now children)) × (nodesIn growth ≤ room) × (4 * room ≤ length (now nodes)) × (2 * space ≤ length (now edges)) ⌝ }
-    ensures { λ r. ⌜ (nodesIn r ≤ room) × ((g : List ℕ × List (ℕ × ℕ)) → HoldsGraph room space (now (nodes .entry)) (now (edges .entry)) growth g → HoldsGraph room space (now (nodes .exit)) (now (edges .exit)) r (addChildren eqb i (childBoards (settingOf board tiles) (setAt (now (nodes .entry)) i)) g)) ⌝ }
+    ensures { λ r. ⌜ AddsToGraph room space (now (nodes .entry)) (now (edges .entry)) growth (now (nodes .exit)) (now (edges .exit)) r (addChildren eqb i (childBoards (settingOf board tiles) (setAt (now (nodes .entry)) i))) ⌝ }
 {
-    let n = plot::expand(board, tiles, list::get(nodes, i), children);
+    let n = expansion::expand(board, tiles, list::get(nodes, i), children);
     add_children(nodes, edges, growth, room, space, i, children, n)
 }
 
@@ -189,20 +191,20 @@ fn grown(
 
 // Edge i adds its parent's count to its child's, unless the sum would be too large.
 fn pass_edge(edges: &[u64], i: usize, counts: &mut [u64]) -> bool
-    requires { ⌜ (2 * i + 2 ≤ length (now edges)) × (edgeAt (now edges) i .0 < length (now counts)) × (edgeAt (now edges) i .1 < length (now counts)) ⌝ }
-    ensures { λ r. ⌜ AddsCount (now (counts .entry)) (edgeAt (now (edges .entry)) i .1) (getD (now (counts .entry)) (edgeAt (now (edges .entry)) i .0) 0) (now (counts .exit)) r ⌝ }
+    requires { ⌜ 2 * i + 2 ≤ length (now edges) ⌝ }
+    ensures { λ r. ⌜ AddsCount (now (counts .entry)) (edgeAt (now (edges .entry)) i .1) (countIn (now (counts .entry)) (edgeAt (now (edges .entry)) i .0)) (now (counts .exit)) r ⌝ }
 {
     let at = 2 * i;
     let parent = edges[at] as usize;
     let child = edges[at + 1] as usize;
-    let paths = counts[parent];
-    layers::add_count(counts, child, paths)
+    let paths = path_count::get(counts, parent);
+    path_count::add(counts, child, paths)
 }
 
 // The edges in order; whether no count becomes too large.
 fn pass_edges(edges: &[u64], n: usize, counts: &mut [u64]) -> bool
-    requires { ⌜ (2 * n ≤ length (now edges)) × ((i : ℕ) → i < n → (edgeAt (now edges) i .0 < length (now counts)) × (edgeAt (now edges) i .1 < length (now counts))) ⌝ }
-    ensures { λ r. ⌜ PassesEdges (now (counts .entry)) (listOf (edgeAt (now (edges .entry))) n) (now (counts .exit)) r ⌝ }
+    requires { ⌜ (2 * n ≤ length (now edges)) × EndsBelow (now edges) n (countRoom (length (now counts))) × (now counts ≡ countWords firstCount (length (now counts))) ⌝ }
+    ensures { λ r. ⌜ PassesEdges (length (now (counts .entry))) (listOf (edgeAt (now (edges .entry))) n) (now (counts .exit)) r ⌝ }
 {
     let mut i = 0;
     while i < n {
@@ -216,12 +218,24 @@ fn pass_edges(edges: &[u64], n: usize, counts: &mut [u64]) -> bool
 
 // The path counts of all nodes; whether none is too large.
 fn count_paths(edges: &[u64], n: usize, sums: &mut [u64]) -> bool
-    requires { ⌜ (2 * n ≤ length (now edges)) × (0 < length (now sums)) × ((i : ℕ) → i < n → (edgeAt (now edges) i .0 < length (now sums)) × (edgeAt (now edges) i .1 < length (now sums))) ⌝ }
-    ensures { λ r. ⌜ PassesEdges (firstCount (length (now (sums .entry)))) (listOf (edgeAt (now (edges .entry))) n) (now (sums .exit)) r ⌝ }
+    requires { ⌜ (2 * n ≤ length (now edges)) × EndsBelow (now edges) n (countRoom (length (now sums))) ⌝ }
+    ensures { λ r. ⌜ PassesEdges (length (now (sums .entry))) (listOf (edgeAt (now (edges .entry))) n) (now (sums .exit)) r ⌝ }
 {
     list::clear_from(sums, 0);
-    sums[0] = 1;
+    path_count::put(sums, 0, PathCount::of_words(1, 0));
     pass_edges(edges, n, sums)
+}
+
+// Whether a board of the start is full.
+fn is_full(board: RectangularBoard, marks: Cells) -> bool
+    requires { ⌜ From (boardOf board) (number marks) ⌝ }
+    ensures { λ r. ⌜ r ≡ isFull (boardAt (boardOf board) (number marks)) ⌝ }
+{
+    let answer = board.with_marks(marks).is_all_marked();
+    match answer {
+        AllMarked::Is(full) => full,
+        AllMarked::Refused(_) => false,
+    }
 }
 
 // The first full board among the nodes behind node 0.
@@ -231,7 +245,7 @@ fn find_complete(board: RectangularBoard, nodes: &[u64], n: usize) -> Complete
 {
     let mut i = 1;
     while i < n {
-        if plot::is_full(board, list::get(nodes, i)) {
+        if is_full(board, list::get(nodes, i)) {
             return Complete::Node(i);
         }
         i += 1;
@@ -294,7 +308,7 @@ pub fn made(
     edges: &mut [u64],
 ) -> MadeGraph
     requires { ⌜ Accepted board tiles ⌝ }
-    ensures { λ r. ⌜ Makes (judgeGraph (nodeRoom (length (now (nodes .entry))) (length (now (counts .entry)))) (edgeRoom (length (now (edges .entry)))) (graphOf (settingOf board tiles) (startOf board))) (length (now (nodes .entry))) (length (now (counts .entry))) (length (now (edges .entry))) (now (nodes .exit)) (now (counts .exit)) (now (edges .exit)) r ⌝ }
+    ensures { λ r. ⌜ MakesGraph board tiles (now (nodes .entry)) (now (counts .entry)) (now (edges .entry)) (now (nodes .exit)) (now (counts .exit)) (now (edges .exit)) r ⌝ }
 {
     let room = rooms::node_room(nodes.len(), counts.len());
     let space = rooms::edge_room(edges.len());

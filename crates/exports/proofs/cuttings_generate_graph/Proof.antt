@@ -1,15 +1,11 @@
--- `exports::cuttings_generate_graph` meets its contract: the call where the shapes are right, and zeros where they are not.
+-- `exports::cuttings_generate_graph` meets its contract: it is that of `host_counts::generate_graph`.
 -- Assumes nothing.
-use Rattle.exports.proofs.HostLaws.{graph-accepted, graph-unshaped}
 use borrow.Author.Needs.{needs}
 use Rattle.exports.proofs.cuttings_generate_graph.Statement.{statement}
 use Rattle.exports.proofs.cuttings_generate_graph.Tie as tie
 
 returns : tie.Need-returns
-returns c = graph-accepted _ _ (c .before .before .before .before .before .before .before .before .before .before .before .before .before .before .before .before .before .before .before .before .before .before .before .before .args .marks .now) (c .before .before .before .before .before .before .before .before .before .before .before .before .before .before .before .before .before .before .before .before .before .before .before .before .args .tiles .now) (c .before .before .before .before .before .before .before .before .before .before .before .before .before .before .before .before .before .before .before .before .before .before .before .before .args .answer .now) _ _ _ (c .before .before .before .before .before .before .before .before .before .before .before .before .before .before .before .enum-told .given .1) (c .before .before .before .before .before .before .before .before .before .before .before .before .before .before .board-from .ensures) (c .before .before .before .before .before .before .before .before .before .before .before .before .before .tiles-from .ensures) (c .before .before .before .before .before .before .before .before .before .before .before .before .before .before .before .before .before .of-plot .ensures) (c .before .before .before .before .before .before .before .before .before .before .before .before .before .before .before .before .before .before .before .before .before .before .before .before .args .nodes .now) (c .before .before .before .before .before .before .before .before .before .before .before .before .before .before .before .before .before .before .before .before .before .before .before .before .args .counts .now) (c .before .before .before .before .before .before .before .before .before .before .before .before .before .before .before .before .before .before .before .before .before .before .before .before .args .edges .now) (c .before .before .before .before .before .before .before .before .generate-graph .ensures)
-
-returns-2 : tie.Need-returns-2
-returns-2 c = graph-unshaped _ _ (c .before .before .before .before .before .before .before .before .before .before .before .before .before .before .before .before .before .before .before .before .before .before .before .before .before .before .args .marks .now) (c .before .before .before .before .before .before .before .before .before .before .before .before .before .before .before .before .before .before .before .before .before .before .before .before .before .before .args .tiles .now) (c .before .before .before .before .before .before .before .before .before .before .before .before .before .before .before .before .before .before .before .before .before .before .before .before .before .before .args .answer .now) _ _ (c .before .before .before .before .before .before .before .before .before .before .before .before .before .before .before .before .before .verdict .given .1) (c .before .before .before .before .before .before .before .before .before .before .before .before .before .before .before .before .before .before .before .of-plot .ensures) (c .before .before .before .before .before .before .before .before .before .before .before .before .before .before .before .before .before .before .before .before .before .before .before .before .before .before .args .nodes .now) (c .before .before .before .before .before .before .before .before .before .before .before .before .before .before .before .before .before .before .before .before .before .before .before .before .before .before .args .counts .now) (c .before .before .before .before .before .before .before .before .before .before .before .before .before .before .before .before .before .before .before .before .before .before .before .before .before .before .args .edges .now) (c .before .before .before .before .before .before .before .before .before .before .before .before .before .before .clear-from .ensures) (c .before .before .before .before .before .before .before .before .before .before .clear-from2 .ensures) (c .before .before .before .before .before .before .clear-from3 .ensures) (c .before .before .refuse .ensures)
+returns c = c .before .before .before .before .before .before .before .before .generate-graph .ensures
 
 pub cuttings-generate-graph-spec : {M : Type 1} → statement M
 cuttings-generate-graph-spec =
@@ -17,21 +13,7 @@ cuttings-generate-graph-spec =
     (tie.spec
     (λ c κs. search needs)
     (λ c. search needs)
-    (λ c κs. search needs)
-    (λ c κs. search needs)
-    (λ c κs. search needs)
-    (λ c. search needs)
-    (λ c κs. search needs)
-    (λ c κs. search needs)
-    (λ c κs. search needs)
-    (λ c κs. search needs)
     (λ c. search needs)
     (λ c. search needs)
     (λ c. search needs)
-    (λ c. search needs)
-    returns
-    (λ c. search needs)
-    (λ c. search needs)
-    (λ c. search needs)
-    (λ c. search needs)
-    returns-2)
+    returns)

@@ -1,15 +1,11 @@
--- `exports::cuttings_place_tile` meets its contract: the call where the shapes are right, and zeros where they are not.
+-- `exports::cuttings_place_tile` meets its contract: it is that of `host_plots::place_tile`.
 -- Assumes nothing.
-use Rattle.exports.proofs.HostLaws.{place-accepted, place-unshaped}
 use borrow.Author.Needs.{needs}
 use Rattle.exports.proofs.cuttings_place_tile.Statement.{statement}
 use Rattle.exports.proofs.cuttings_place_tile.Tie as tie
 
 returns : tie.Need-returns
-returns c = place-accepted _ _ (c .before .before .before .before .before .before .before .before .before .before .before .before .before .before .before .before .args .marks .now) (c .before .before .before .before .before .before .before .before .before .before .before .before .before .before .before .before .args .tiles .now) (c .before .before .before .before .before .before .before .before .before .before .before .before .before .before .before .before .args .answer .now) _ _ _ (c .before .before .before .before .before .before .before .before .before .enum-told .given .1) (c .before .before .before .before .before .before .before .before .board-from .ensures) (c .before .before .before .before .before .before .before .tiles-from .ensures) (c .before .before .before .before .before .before .before .before .before .before .before .of-plot .ensures) (c .before .before .before .before .before .before .before .before .before .before .before .before .before .before .before .before .args .out .now) (c .before .before .before .before .place-tile .ensures)
-
-returns-2 : tie.Need-returns-2
-returns-2 c = place-unshaped _ _ (c .before .before .before .before .before .before .before .before .before .before .before .before .before .before .before .before .args .marks .now) (c .before .before .before .before .before .before .before .before .before .before .before .before .before .before .before .before .args .tiles .now) (c .before .before .before .before .before .before .before .before .before .before .before .before .before .before .before .before .args .answer .now) _ _ (c .before .before .before .before .before .before .before .before .before .verdict .given .1) (c .before .before .before .before .before .before .before .before .before .before .before .of-plot .ensures) (c .before .before .before .before .before .before .before .before .before .before .before .before .before .before .before .before .args .out .now) (c .before .before .before .before .before .before .clear-from .ensures) (c .before .before .refuse .ensures)
+returns c = c .before .before .before .before .place-tile .ensures
 
 pub cuttings-place-tile-spec : {M : Type 1} → statement M
 cuttings-place-tile-spec =
@@ -17,15 +13,5 @@ cuttings-place-tile-spec =
     (tie.spec
     (λ c κs. search needs)
     (λ c. search needs)
-    (λ c κs. search needs)
-    (λ c κs. search needs)
-    (λ c κs. search needs)
     (λ c. search needs)
-    (λ c κs. search needs)
-    (λ c κs. search needs)
-    (λ c. search needs)
-    (λ c. search needs)
-    returns
-    (λ c. search needs)
-    (λ c. search needs)
-    returns-2)
+    returns)

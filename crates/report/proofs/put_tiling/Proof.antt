@@ -5,7 +5,8 @@ use Prim.Native.Nat.{ℕ}
 use Rattle.plot_file.specs.Ascii.{ascii}
 use Rattle.report.specs.Report.{field, feed, tilingLine}
 use Rattle.report.specs.TextLaws.{puts-within, puts-as}
-use Rattle.report.specs.ListedLaws.{told-short, told-long, told-list, told-given}
+use Rattle.report.specs.CountLaws.{word-is}
+use Rattle.report.specs.ListedLaws.{gives-same, told-short, told-long, told-list, told-given}
 use borrow.Author.Needs.{needs}
 use Rattle.report.proofs.put_tiling.Statement.{statement}
 use Rattle.report.proofs.put_tiling.Tie as tie
@@ -22,23 +23,28 @@ returns c =
     let put = c .before .before in
     let told = put .before .before .before .before in
     let call = told .before .before .before in
-    let start = call .before .before .before .before .before .before in (
+    let number = call .before .before in
+    let start = number .before .before .before .before .before in
+    let gives = gives-same (word-is (start .args .m) _ (search needs) (number .of-words .ensures)) (call .tiling-by-number .ensures .0) in (
       λ g built below.
           puts-as (ap (λ (l : List ℕ). field "tiling " (start .args .m) ++ ascii ":" ++ flatMap (field " ") l ++ feed)
-          (told-list (call .tiling-by-number .ensures .0) built below refl _ (told .tiling .given .1))) (put .put-list .ensures),
+          (told-list gives built below refl _ (told .tiling .given .1))) (put .put-list .ensures),
       puts-within (start .pre) (put .put-list .ensures),
     )
 
 returns-2 : tie.Need-returns-2
 returns-2 c =
     let call = c .before .before .before in
-    let start = call .before .before .before .before .before .before in
-    (λ g built below. absurd (told-given (call .tiling-by-number .ensures .0) built below refl _ (c .enum-told .given .1)), start .pre)
+    let number = call .before .before in
+    let start = number .before .before .before .before .before in
+    let gives = gives-same (word-is (start .args .m) _ (search needs) (number .of-words .ensures)) (call .tiling-by-number .ensures .0) in
+    (λ g built below. absurd (told-given gives built below refl _ (c .enum-told .given .1)), start .pre)
 
 pub put-tiling-spec : {M : Type 1} → statement M
 put-tiling-spec =
     tie.close
     (tie.spec
+    (λ c κs. search needs)
     (λ c. search needs)
     (λ c κs. search needs)
     (λ c. search needs)

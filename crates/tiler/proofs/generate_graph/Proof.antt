@@ -2,8 +2,7 @@
 -- cuttings follows. Assumes nothing.
 use Rattle.cells.specs.Words.{Sound}
 use Rattle.tiler.specs.CuttingTheorems.{graph-numbers-cuttings}
-use Rattle.tiler.proofs.StartLaws.{both}
-use Rattle.tiler.proofs.PlotLaws.{judged-size, judged-refused}
+use Rattle.expansion.specs.ExpansionLaws.{judged-size, judged-refused, both}
 use Rattle.tiler.proofs.FinishLaws.{generates-made, generates-refused}
 use borrow.Author.Needs.{needs}
 use Rattle.tiler.proofs.generate_graph.Statement.{statement}

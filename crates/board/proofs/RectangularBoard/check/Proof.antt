@@ -1,9 +1,9 @@
 -- `board::RectangularBoard::check` meets its contract: by the test of the board.
 -- Assumes nothing.
-use Rattle.board.specs.BoardLaws.{readBoard-given, readBoard-refused}
 use mathlib.Core.Path.{sym, _∙_, ap}
-use Rattle.refusal.specs.Refusal.{refusalOf}
 use borrow.Author.Needs.{needs}
+use Rattle.refusal.specs.Refusal.{refusalOf}
+use Rattle.board.specs.BoardLaws.{readBoard-given, readBoard-refused}
 use Rattle.board.proofs.RectangularBoard.check.Statement.{statement}
 use Rattle.board.proofs.RectangularBoard.check.Tie as tie
 

@@ -1,11 +1,12 @@
 -- `board::RectangularBoard::l_board` meets its contract: a shape whose size fits, or refusal 4.
 -- Assumes nothing.
 use mathlib.Core.Path.{subst}
-use Rattle.refusal.specs.Refusal.{Answer}
-use Rattle.board.specs.Board.{Board, MakesBoard}
-use Rattle.board.proofs.MadeLaws.{makes-refused, l-none, l-high, l-wide, l-shaped, small-product}
 use borrow.Author.Needs.{needs}
 use native.Mathlib.Omega.{arith}
+use Rattle.refusal.specs.Refusal.{Answer}
+use Rattle.rectangle.specs.Board.{Board}
+use Rattle.board.specs.Board.{MakesBoard}
+use Rattle.board.proofs.MadeLaws.{makes-refused, l-none, l-high, l-wide, l-shaped, small-product}
 use Rattle.board.proofs.RectangularBoard.l_board.Statement.{statement}
 use Rattle.board.proofs.RectangularBoard.l_board.Tie as tie
 

@@ -1,7 +1,7 @@
 -- `board::RectangularBoard::mark_tile_at_position` meets its contract: the laid marks are joined with the piece.
 -- Assumes nothing.
-use Rattle.board.proofs.MadeLaws.{lay-parts}
 use borrow.Author.Needs.{needs}
+use Rattle.board.proofs.MadeLaws.{lay-parts}
 use Rattle.board.proofs.RectangularBoard.mark_tile_at_position.Statement.{statement}
 use Rattle.board.proofs.RectangularBoard.mark_tile_at_position.Tie as tie
 

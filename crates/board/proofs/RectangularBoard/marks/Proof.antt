@@ -1,7 +1,7 @@
 -- `board::RectangularBoard::marks` meets its contract: the union of the two kinds.
 -- Assumes nothing.
-use Rattle.board.specs.Board.{marks}
 use borrow.Author.Needs.{needs}
+use Rattle.rectangle.specs.Board.{marks}
 use Rattle.board.proofs.RectangularBoard.marks.Statement.{statement}
 use Rattle.board.proofs.RectangularBoard.marks.Tie as tie
 

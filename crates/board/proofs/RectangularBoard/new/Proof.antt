@@ -1,7 +1,7 @@
 -- `board::RectangularBoard::new` meets its contract: a shape with no rows marked.
 -- Assumes nothing.
-use Rattle.board.specs.Board.{newBoard}
 use borrow.Author.Needs.{needs}
+use Rattle.board.specs.Board.{newBoard}
 use Rattle.board.proofs.RectangularBoard.new.Statement.{statement}
 use Rattle.board.proofs.RectangularBoard.new.Tie as tie
 

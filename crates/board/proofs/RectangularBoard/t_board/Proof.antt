@@ -2,11 +2,12 @@
 -- Assumes nothing.
 use mathlib.Core.Path.{subst}
 use Prim.Native.Nat.{_+_, _*_}
-use Rattle.refusal.specs.Refusal.{Answer}
-use Rattle.board.specs.Board.{Board, MakesBoard}
-use Rattle.board.proofs.MadeLaws.{makes-refused, t-none, t-high, t-wide, t-shaped, small-product}
 use borrow.Author.Needs.{needs}
 use native.Mathlib.Omega.{arith}
+use Rattle.refusal.specs.Refusal.{Answer}
+use Rattle.rectangle.specs.Board.{Board}
+use Rattle.board.specs.Board.{MakesBoard}
+use Rattle.board.proofs.MadeLaws.{makes-refused, t-none, t-high, t-wide, t-shaped, small-product}
 use Rattle.board.proofs.RectangularBoard.t_board.Statement.{statement}
 use Rattle.board.proofs.RectangularBoard.t_board.Tie as tie
 

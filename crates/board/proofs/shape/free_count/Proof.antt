@@ -2,11 +2,12 @@
 -- Assumes nothing.
 use mathlib.Core.Path.{_≡_}
 use Prim.Native.Nat.{_-_, _≤_}
-use Rattle.cells.specs.Set.{sizeBelow}
-use Rattle.board.specs.Board.{boardOf, freeSet}
-use Rattle.board.proofs.ShapeLaws.{counted-none, counted-more, counted-all}
 use borrow.Author.Needs.{needs}
 use native.Mathlib.Omega.{arith}
+use Rattle.cells.specs.Set.{sizeBelow}
+use Rattle.rectangle.specs.Board.{freeSet}
+use Rattle.board.specs.Board.{boardOf}
+use Rattle.board.proofs.ShapeLaws.{counted-none, counted-more, counted-all}
 use Rattle.board.proofs.shape.free_count.Statement.{statement}
 use Rattle.board.proofs.shape.free_count.Tie as tie
 

@@ -2,8 +2,8 @@
 -- Assumes nothing.
 use mathlib.Core.Path.{sym, _∙_}
 use borrow.Author.Tests.{not-true, not-false}
-use Rattle.board.proofs.ShapeLaws.{free-outside, free-fixed, free-laid, free-none}
 use borrow.Author.Needs.{needs}
+use Rattle.board.proofs.ShapeLaws.{free-outside, free-fixed, free-laid, free-none}
 use Rattle.board.proofs.shape.free_mark.Statement.{statement}
 use Rattle.board.proofs.shape.free_mark.Tie as tie
 

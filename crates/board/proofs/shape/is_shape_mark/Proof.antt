@@ -2,8 +2,8 @@
 -- Assumes nothing.
 use mathlib.Core.Path.{sym, _∙_}
 use borrow.Author.Tests.{not-true, not-false}
-use Rattle.board.proofs.ShapeLaws.{shape-outside, shape-under, shape-low, shape-high}
 use borrow.Author.Needs.{needs}
+use Rattle.board.proofs.ShapeLaws.{shape-outside, shape-under, shape-low, shape-high}
 use Rattle.board.proofs.shape.is_shape_mark.Statement.{statement}
 use Rattle.board.proofs.shape.is_shape_mark.Tie as tie
 

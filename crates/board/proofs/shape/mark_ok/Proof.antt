@@ -1,8 +1,8 @@
 -- `board::shape::mark_ok` meets its contract: by the two kinds of marks.
 -- Assumes nothing.
 use mathlib.Core.Path.{sym, _∙_}
-use Rattle.board.proofs.ShapeLaws.{mark-both, mark-fixed, mark-laid, mark-none}
 use borrow.Author.Needs.{needs}
+use Rattle.board.proofs.ShapeLaws.{mark-both, mark-fixed, mark-laid, mark-none}
 use Rattle.board.proofs.shape.mark_ok.Statement.{statement}
 use Rattle.board.proofs.shape.mark_ok.Tie as tie
 

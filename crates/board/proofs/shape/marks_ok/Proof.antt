@@ -4,12 +4,13 @@ use mathlib.Core.Path.{_≡_, sym, _∙_}
 use mathlib.Core.Bool.{true}
 use Prim.Native.Nat.{_-_, _≤_}
 use borrow.Author.Tests.{not-true, not-false}
-use Rattle.cells.specs.Arrays.{allBelow}
-use Rattle.cells.specs.ArrayLaws.{allBelow-none, allBelow-more, allBelow-fails}
-use Rattle.board.specs.Board.{boardOf, markOk}
-use Rattle.board.proofs.ShapeLaws.{allBelow-end}
 use borrow.Author.Needs.{needs}
 use native.Mathlib.Omega.{arith}
+use Rattle.cells.specs.Arrays.{allBelow}
+use Rattle.cells.specs.ArrayLaws.{allBelow-none, allBelow-more, allBelow-fails}
+use Rattle.rectangle.specs.Board.{markOk}
+use Rattle.board.specs.Board.{boardOf}
+use Rattle.board.proofs.ShapeLaws.{allBelow-end}
 use Rattle.board.proofs.shape.marks_ok.Statement.{statement}
 use Rattle.board.proofs.shape.marks_ok.Tie as tie
 

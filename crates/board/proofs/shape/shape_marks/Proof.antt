@@ -2,13 +2,13 @@
 -- Assumes nothing.
 use mathlib.Core.Path.{_≡_, _∙_}
 use Prim.Native.Nat.{_-_, _≤_}
+use borrow.Author.Needs.{needs}
+use native.Mathlib.Omega.{arith}
 use Rattle.cells.specs.Set.{fromBits}
 use Rattle.cells.specs.Words.{number}
 use Rattle.cells.specs.ListLaws.{value-none}
 use Rattle.board.specs.Board.{shapeMark}
 use Rattle.board.proofs.ShapeLaws.{bits, filled-none, filled-more, filled-all}
-use borrow.Author.Needs.{needs}
-use native.Mathlib.Omega.{arith}
 use Rattle.board.proofs.shape.shape_marks.Statement.{statement}
 use Rattle.board.proofs.shape.shape_marks.Tie as tie
 

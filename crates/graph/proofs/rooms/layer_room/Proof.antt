@@ -10,8 +10,21 @@ use Rattle.graph.proofs.rooms.layer_room.Tie as tie
 returns : tie.Need-returns
 unfolding layerRoom
 returns c =
-    c .room .ensures
-    ∙ ap roomOf (c .before .least3 .ensures ∙ ap₂ min (c .before .before .before .least .ensures) (c .before .before .least2 .ensures))
+    let second = c .before .before in
+    let first = second .before .before in
+    c .room3 .ensures
+    ∙ ap roomOf
+    (c .before .least3 .ensures
+    ∙ ap₂ min (first .least .ensures ∙ ap (min _) (first .before .room .ensures)) (second .least2 .ensures ∙ ap (min _) (second .before .room2 .ensures)))
 
 pub layer-room-spec : {M : Type 1} → statement M
-layer-room-spec = tie.close (tie.spec (λ c κs. search needs) (λ c κs. search needs) (λ c κs. search needs) (λ c κs. search needs) returns)
+layer-room-spec =
+    tie.close
+    (tie.spec
+    (λ c κs. search needs)
+    (λ c κs. search needs)
+    (λ c κs. search needs)
+    (λ c κs. search needs)
+    (λ c κs. search needs)
+    (λ c κs. search needs)
+    returns)

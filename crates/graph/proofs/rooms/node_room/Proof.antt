@@ -1,6 +1,7 @@
 -- `graph::rooms::node_room` meets its contract: by definition.
 -- Assumes nothing.
 use mathlib.Core.Path.{ap, _∙_}
+use Prim.Native.Nat.{min}
 use borrow.Author.Needs.{needs}
 use Rattle.graph.specs.Rooms.{roomOf, nodeRoom}
 use Rattle.graph.proofs.rooms.node_room.Statement.{statement}
@@ -8,7 +9,7 @@ use Rattle.graph.proofs.rooms.node_room.Tie as tie
 
 returns : tie.Need-returns
 unfolding nodeRoom
-returns c = c .room .ensures ∙ ap roomOf (c .before .least .ensures)
+returns c = c .room2 .ensures ∙ ap roomOf (c .before .least .ensures ∙ ap (min _) (c .before .before .room .ensures))
 
 pub node-room-spec : {M : Type 1} → statement M
-node-room-spec = tie.close (tie.spec (λ c κs. search needs) (λ c κs. search needs) returns)
+node-room-spec = tie.close (tie.spec (λ c κs. search needs) (λ c κs. search needs) (λ c κs. search needs) returns)

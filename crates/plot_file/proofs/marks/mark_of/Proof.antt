@@ -7,7 +7,6 @@ use Rattle.refusal.specs.Refusal.{Answer}
 use Rattle.plot_file.specs.declared.marks.Mark.{Mark}
 use Rattle.plot_file.specs.Ascii.{ascii}
 use Rattle.plot_file.specs.PlotFile.{allMarks, letters, spells, markAmong}
-use Rattle.plot_file.specs.Inner.{}
 use Rattle.plot_file.specs.ReadLaws.{mark-here, mark-later, mark-none}
 use borrow.Author.Needs.{needs}
 use Rattle.plot_file.proofs.marks.mark_of.Statement.{statement}

@@ -1,19 +1,26 @@
 -- `report::lines::put_count` meets its contract: the line of the answer that the count is. Assumes nothing.
 use mathlib.Core.Path.{sym, ap}
 use Rattle.plot_file.specs.Ascii.{ascii}
-use Rattle.tiler.specs.declared.Count.{Count}
-use Rattle.tiler.specs.Counting.{countAnswer}
-use Rattle.report.specs.Report.{field, layersLine}
-use Rattle.report.specs.TextLaws.{puts-as}
+use Rattle.layers.specs.declared.Count.{Count}
+use Rattle.layers.specs.LayerCounts.{countAnswer}
+use Rattle.report.specs.Report.{field, feed, layersLine}
+use Rattle.report.specs.TextLaws.{puts-as, puts-inside, puts-append}
 use borrow.Author.Needs.{needs}
 use Rattle.report.proofs.lines.put_count.Statement.{statement}
 use Rattle.report.proofs.lines.put_count.Tie as tie
 
+put-bytes-requires : tie.Need-put-bytes-requires
+put-bytes-requires c κs =
+    let first = c .before .before .before .before in
+    puts-inside (first .before .before .before .before .before .before .before .pre) (first .put-paths .ensures)
+
 returns : tie.Need-returns
-unfolding field ascii layersLine
+unfolding field feed ascii layersLine
 returns c =
-    let count = c .before .before .before .before .before .before in
-    puts-as (ap (λ (a : Count). layersLine (countAnswer a)) (sym (count .count .given .1))) (c .before .before .put-last .ensures)
+    let first = c .before .before .before .before .before .before .before in
+    let count = first .before .before .before .before in
+    puts-as (ap (λ (a : Count). layersLine (countAnswer a)) (sym (count .count .given .1)))
+    (puts-append (count .before .before .before .pre) (first .put-paths .ensures) (c .before .before .put-bytes .ensures))
 
 returns-2 : tie.Need-returns-2
 unfolding field ascii layersLine
@@ -28,6 +35,8 @@ put-count-spec =
     (λ c. search needs)
     (λ c. search needs)
     (λ c κs. search needs)
+    (λ c. search needs)
+    put-bytes-requires
     (λ c. search needs)
     (λ c. search needs)
     (λ c κs. search needs)

@@ -5,8 +5,9 @@ use mathlib.Core.List.{[]}
 use Prim.Native.Nat.{ℕ, _+_, _-_, _≤_, _<_}
 use native.Mathlib.Omega.{arith}
 use Rattle.cells.specs.Words.{Sound}
-use Rattle.tile.specs.Stored.{pathsIn}
-use Rattle.board.specs.Board.{boardOf, marks, freeCount}
+use Rattle.tiles.specs.Stored.{pathsIn}
+use Rattle.board.specs.Board.{boardOf}
+use Rattle.rectangle.specs.Board.{marks, freeCount}
 use Rattle.single_tiling.specs.Inner.{tilesFrom}
 use Rattle.single_tiling.specs.DescentLaws.{walkAt}
 use Rattle.single_tiling.proofs.WalkSteps.{Same, Front, front-board, same-next, fewer-is, room-below, front-same, walked-same, found-none, child-ready, child-none, none-more, says-full, says-nowhere, says-none, says-some}

@@ -11,14 +11,15 @@ add-end c = let short = index-short _ _ _ _ (c .before .before .pre .1) (c .befo
 
 part-tile-fits-at-position-end : tie.Need-part-tile-fits-at-position-end
 part-tile-fits-at-position-end c =
-    let short = index-short _ _ _ _ (c .before .before .pre .1) (c .before .before .pre .0) in
-    let long = c .before .before .pre .0 .1 in
+    let short = index-short _ _ _ _ (c .before .before .before .pre .1) (c .before .before .before .pre .0) in
+    let long = c .before .before .before .pre .0 .1 in
     omega (arith, short .0, short .1)
 
 returns : tie.Need-returns
 returns c =
-    let a = c .before .before .before .before .args in
-    index-fit (a .count) (a .lens .now) (a .codes .now) (a .i) (c .before .before .before .before .pre .1) _ _ _ (c .tile-fits-at-position .ensures)
+    let start = c .before .before .before .before .before in
+    let a = start .args in
+    index-fit (a .count) (a .lens .now) (a .codes .now) (a .i) (start .pre .1) _ _ (c .before .before .marks .ensures) _ _ (c .tile-fits-at-position .ensures)
 
 pub fit-at-spec : {M : Type 1} → statement M
 fit-at-spec =
@@ -28,6 +29,7 @@ fit-at-spec =
     (λ c. search needs)
     (λ c. search needs)
     add-end
+    (λ c κs. search needs)
     (λ c. search needs)
     (λ c. search needs)
     part-tile-fits-at-position-end

@@ -1,10 +1,10 @@
--- `tile::Tile::check` meets its contract: the length is tested first, and then the codes.
+-- `tile::Tile::check` meets its contract: the length is tested first, and then the path.
 -- Assumes nothing.
 use mathlib.Core.Path.{_≡_, ap, sym, _∙_}
 use lib.ListN.{length}
 use lib.Seq.{length-take-le}
 use Rattle.refusal.specs.Refusal.{refusalOf}
-use Rattle.tile.specs.StoredLaws.{readTile-given, readTile-long, readTile-codes}
+use Rattle.tile.specs.StoredLaws.{readPath-path, readPath-other, readTile-short, readTile-long}
 use native.Mathlib.Omega.{arith}
 use borrow.Author.Needs.{needs}
 use Rattle.tile.proofs.Tile.check.Statement.{statement}
@@ -20,20 +20,22 @@ returns c = sym (ap refusalOf (readTile-long (c .before .before .args .self) (c 
 array-share-prefix-codes : tie.Need-array-share-prefix-codes
 array-share-prefix-codes c = let h = long (c .before .before) in omega arith
 
-slice-aggregate-all-ok : tie.Need-slice-aggregate-all-ok
-slice-aggregate-all-ok c = let h = long (c .before .before .before) in sym (length-take-le _ _ (omega arith))
+slice-aggregate-is-path : tie.Need-slice-aggregate-is-path
+slice-aggregate-is-path c = let h = long (c .before .before .before) in sym (length-take-le _ _ (omega arith))
 
 returns-2 : tie.Need-returns-2
 unfolding refusalOf
 returns-2 c =
     let s = c .before .before .before .before .before in
-    sym (ap refusalOf (readTile-given (s .args .self) (c .before .before .before .if1 .left) (sym (c .before .all-ok .ensures) ∙ c .if2 .taken)))
+    let read = readTile-short (s .args .self) (c .before .before .before .if1 .left) in
+    sym (ap refusalOf (read ∙ readPath-path _ (sym (c .before .is-path .ensures) ∙ c .if2 .taken)))
 
 returns-3 : tie.Need-returns-3
 unfolding refusalOf
 returns-3 c =
     let s = c .before .before .before .before .before in
-    sym (ap refusalOf (readTile-codes (s .args .self) (sym (c .before .all-ok .ensures) ∙ c .if2 .left)))
+    let read = readTile-short (s .args .self) (c .before .before .before .if1 .left) in
+    sym (ap refusalOf (read ∙ readPath-other _ (sym (c .before .is-path .ensures) ∙ c .if2 .left)))
 
 pub check-spec : {M : Type 1} → statement M
 check-spec =
@@ -41,7 +43,7 @@ check-spec =
     (tie.spec
     returns
     array-share-prefix-codes
-    slice-aggregate-all-ok
+    slice-aggregate-is-path
     (λ c κs. search needs)
     returns-2
     returns-3)

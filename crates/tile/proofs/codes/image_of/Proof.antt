@@ -7,12 +7,12 @@ use borrow.Author.Needs.{needs}
 use Rattle.tile.proofs.codes.image_of.Statement.{statement}
 use Rattle.tile.proofs.codes.image_of.Tie as tie
 
+returns : tie.Need-returns
+returns c =
+    rw (c .before .before .enum-told .given .1) (c .code-of .ensures ∙ codeOf-onCode (c .before .rotate .result) _ _ (c .before .rotate .ensures) (rotate-past _))
+
 returns-2 : tie.Need-returns-2
 returns-2 c =
-    rw (c .before .before .enum-told2 .given .1) (c .code-of .ensures ∙ codeOf-onCode (c .before .rotate .result) _ _ (c .before .rotate .ensures) (rotate-past _))
-
-returns-3 : tie.Need-returns-3
-returns-3 c =
     rw (c .before .before .before .motion .given .1) (c .code-of2 .ensures ∙ codeOf-onCode (c .before .reflect .result) _ _ (c .before .reflect .ensures) (reflect-past _ _))
 
 pub image-of-spec : {M : Type 1} → statement M
@@ -20,12 +20,10 @@ image-of-spec =
     tie.close
     (tie.spec
     (λ c. search needs)
-    (λ c. search needs)
     (λ c κs. search needs)
     (λ c κs. search needs)
     (λ c. search needs)
     (λ c κs. search needs)
     (λ c κs. search needs)
-    (λ c. search needs)
-    returns-2
-    returns-3)
+    returns
+    returns-2)

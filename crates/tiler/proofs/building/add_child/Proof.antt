@@ -23,7 +23,7 @@ returns-2 c =
     let w = f .before .before .before in
     let s = w .before .before .before .before in (
       omega arith,
-      λ g k. child-over _ _ _ _ _ _ k _ _ _ _ (w .growth .given .1) (s .pre .1) _ (f .find-node .ensures) (t .enum-told2 .given .1) (c .if1 .taken),
+      λ g k. child-over _ _ _ _ _ _ k _ _ _ _ (w .growth .given .1) (s .pre .1) _ (f .find .ensures) (t .enum-told2 .given .1) (c .if1 .taken),
     )
 
 returns-3 : tie.Need-returns-3
@@ -37,7 +37,7 @@ returns-3 c =
     let s = w .before .before .before .before in (
       search needs,
       λ g k.
-          child-put _ _ _ _ _ _ k _ _ _ _ (w .growth .given .1) (s .pre .1) _ (f .find-node .ensures) (t .enum-told2 .given .1) (e .if1 .left)
+          child-put _ _ _ _ _ _ k _ _ _ _ (w .growth .given .1) (s .pre .1) _ (f .find .ensures) (t .enum-told2 .given .1) (e .if1 .left)
           (small s) _ (p .put .ensures) _ _ (d .add-edge .ensures),
     )
 
@@ -50,7 +50,7 @@ returns-4 c =
     let s = w .before .before .before .before in (
       size-within _ _ _ _ (w .growth .given .1) (s .pre .0),
       λ g k.
-          child-old _ _ _ _ _ _ k _ _ _ _ (w .growth .given .1) (s .pre .1) _ (f .find-node .ensures) _ (t .found .given .1) _ _
+          child-old _ _ _ _ _ _ k _ _ _ _ (w .growth .given .1) (s .pre .1) _ (f .find .ensures) _ (t .found .given .1) _ _
           (d .add-edge2 .ensures),
     )
 

@@ -6,7 +6,7 @@ use lib.ListN.{length}
 use Rattle.cells.specs.Words.{number}
 use Rattle.cells.specs.WordLaws.{number-lt}
 use Rattle.covers.specs.Counts.{nodesOf}
-use Rattle.tiler.specs.Boards.{settingOf, startOf}
+use Rattle.expansion.specs.Boards.{settingOf, startOf}
 use Rattle.tiler.specs.Inner.{nodesIn, HoldsGraph}
 use Rattle.tiler.proofs.BuildLaws.{foundGraph, build-start, build-node, build-more, build-below, build-end}
 use native.Mathlib.Omega.{arith}

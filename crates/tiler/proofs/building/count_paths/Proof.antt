@@ -1,26 +1,37 @@
 -- `tiler::building::count_paths` meets its contract: the counts are cleared, node 0 has 1, and the edges are passed.
 -- Assumes nothing.
-use mathlib.Core.Path.{_∙_}
-use Rattle.tiler.proofs.PassingLaws.{first-length, pass-first}
+use Rattle.tiler.proofs.PassingLaws.{first-counts, first-asks, first-passes}
+use Rattle.layers.specs.CountLaws.{count-one}
 use borrow.Author.Needs.{needs}
-use native.Mathlib.Omega.{arith}
 use Rattle.tiler.proofs.building.count_paths.Statement.{statement}
 use Rattle.tiler.proofs.building.count_paths.Tie as tie
 
+-- p is what is known after `put`, s at the start
 pass-edges-requires : tie.Need-pass-edges-requires
 pass-edges-requires c κs =
-    let same = first-length _ _ (c .before .before .before .clear-from .ensures) in
-    let pre = c .before .before .before .before .before .before .before .pre in
-    (pre .0, λ i h. (omega (arith, pre .2 i h .0, same), omega (arith, pre .2 i h .1, same)))
-
-same-length : tie.Need-same-length
-same-length c =
-    c .before .before .pass-edges .kept .1 .1 .0 ∙ first-length _ _ (c .before .before .before .before .before .before .clear-from .ensures)
+    let p = c .before .before .before in
+    let clear = p .before .before .before .before .before in
+    let s = clear .before .before .before .before in
+    let first = first-counts (s .args .sums .now) _ _ _ (clear .clear-from .ensures) (count-one _ (p .before .of-words .ensures)) (p .put .ensures) in
+    let asks = first-asks (s .args .sums .now) _ first _ _ (s .pre .1) in
+    (s .pre .0, asks .0, asks .1)
 
 returns : tie.Need-returns
 returns c =
-    pass-first _ _ _ _ _ (c .before .before .before .before .before .before .clear-from .ensures)
-    (c .before .before .before .before .before .before .before .before .before .before .pre .1) (c .before .before .pass-edges .ensures)
+    let w = c .before .before in
+    let p = w .before .before .before .before in
+    let clear = p .before .before .before .before .before in
+    let s = clear .before .before .before .before in
+    let first = first-counts (s .args .sums .now) _ _ _ (clear .clear-from .ensures) (count-one _ (p .before .of-words .ensures)) (p .put .ensures) in
+    first-passes (s .args .sums .now) _ first _ _ _ (w .pass-edges .ensures)
 
 pub count-paths-spec : {M : Type 1} → statement M
-count-paths-spec = tie.close (tie.spec (λ c κs. search needs) (λ c. search needs) pass-edges-requires same-length returns)
+count-paths-spec =
+    tie.close
+    (tie.spec
+    (λ c κs. search needs)
+    (λ c κs. search needs)
+    (λ c κs. search needs)
+    pass-edges-requires
+    (λ c. search needs)
+    returns)

@@ -4,9 +4,10 @@ use mathlib.Core.Path.{_≡_, sym, subst}
 use mathlib.Core.Bool.{false}
 use Prim.Native.Nat.{ℕ, _-_, _≤_, _<_}
 use Rattle.cells.specs.Lists.{setAt}
-use Rattle.board.specs.Board.{boardOf, boardAt, isFull}
-use Rattle.tiler.specs.Boards.{From}
-use Rattle.graph.specs.GraphLaws.{missed-more}
+use Rattle.board.specs.Board.{boardOf}
+use Rattle.rectangle.specs.Board.{boardAt, isFull}
+use Rattle.expansion.specs.Boards.{From}
+use Rattle.cells.specs.SearchLaws.{missed-more}
 use Rattle.tiler.proofs.FinishLaws.{full-at, complete-found, complete-none}
 use borrow.Author.Needs.{needs}
 use native.Mathlib.Omega.{arith}

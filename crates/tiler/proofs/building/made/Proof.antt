@@ -89,7 +89,7 @@ returns-4 c =
     made-finished _ _ (start .pre) (fixed start) (laid start) _ _ _ _ _ (g .before .before .before .before .node-room .ensures)
     (g .before .before .before .edge-room .ensures) _ _ _ (g .grown .ensures .1) (g .grown .kept .1 .1 .0) (g .grown .kept .1 .1 .1 .0)
     _ _ (sized .growth .given .1) (few .if1 .left) _ _ (passed .count-paths .kept .1 .1 .0) (passed .count-paths .ensures)
-    _ _ _ (λ i. sized .before .before .before .before .slice-known4 .given i .fits) (λ i. known .slice-known12 .given i .fits)
+    _ _ _ (λ i. sized .before .before .before .before .slice-known4 .given i .fits)
     (not-false _ (small .if2 .left)) (r .finished .ensures)
 
 pub made-spec : {M : Type 1} → statement M

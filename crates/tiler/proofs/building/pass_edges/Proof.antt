@@ -1,40 +1,43 @@
 -- `tiler::building::pass_edges` meets its contract: the edges are passed in order.
 -- Assumes nothing.
 use mathlib.Core.Path.{_≡_, refl}
-use Prim.Native.Nat.{ℕ, _-_, _≤_}
-use lib.ListN.{length, getD}
-use Rattle.tiler.proofs.PassingLaws.{after, pass-none, pass-more, pass-large, pass-done}
+use Prim.Native.Nat.{_-_, _≤_}
+use lib.ListN.{length}
+use Rattle.cells.specs.Arrays.{listOf}
+use Rattle.graph.specs.Graph.{edgeAt}
+use Rattle.tiler.proofs.PassingLaws.{Passing, pass-none, pass-more, pass-large, pass-done}
 use borrow.Author.Needs.{needs}
 use native.Mathlib.Omega.{arith}
 use Rattle.tiler.proofs.building.pass_edges.Statement.{statement}
 use Rattle.tiler.proofs.building.pass_edges.Tie as tie
 
 abbrev Inv-loop : tie.InvT-loop
-Inv-loop edges n counts₀ i₀ counts i = (i ≤ n) × (length counts ≡ length counts₀) × ((v : ℕ) → getD counts v 0 ≡ after counts₀ edges n i v)
+Inv-loop edges n counts₀ i₀ counts i = (i ≤ n) × (length counts ≡ length counts₀) × Passing (length counts₀) (listOf (edgeAt edges) n) i counts
 
 abbrev μ-loop : tie.MeasureT-loop
 μ-loop edges n counts₀ i₀ counts i = n - i
 
 loop-holds : tie.Need-loop-holds Inv-loop μ-loop
-loop-holds c = (search needs, refl, λ v. pass-none _ _ _ v)
+loop-holds c = (search needs, refl, pass-none _ _ _ _ (c .before .before .pre .2))
 
 pass-edge-requires : tie.Need-pass-edge-requires Inv-loop μ-loop
-pass-edge-requires c κs =
-    let pre = c .before .before .before .before .before .pre in
-    let ends = pre .1 _ (c .before .loop-test .taken) in
-    let same = c .before .before .loop .inv .1 in
-    (omega (arith, c .before .loop-test .taken, pre .0), omega (arith, ends .0, same), omega (arith, ends .1, same))
+pass-edge-requires c κs = omega (arith, c .before .loop-test .taken, c .before .before .before .before .before .pre .0)
 
+-- t is what is known in the loop, s at the start
 returns : tie.Need-returns Inv-loop μ-loop
 returns c =
-    let inside = c .before .before .before .before .before in
-    pass-large _ _ _ _ _ _ _ (inside .loop-test .taken) (inside .before .loop .inv .2) (c .before .before .before .pass-edge .ensures) (c .if1 .taken)
+    let t = c .before .before .before .before .before in
+    let s = t .before .before .before .before in
+    pass-large _ _ _ _ _ _ _ (t .loop-test .taken) (t .before .loop .inv .2) (s .pre .1 _ (t .loop-test .taken)) (c .before .before .before .pass-edge .ensures) (c .if1 .taken)
 
 loop-again : tie.Need-loop-again Inv-loop μ-loop
 loop-again c =
-    let inside = c .before .before .before .before .before in
-    let more = pass-more _ _ _ _ _ _ _ (inside .loop-test .taken) (inside .before .loop .inv .2) (c .before .before .before .pass-edge .ensures) in
-    (omega arith, search needs, more (c .if1 .left))
+    let t = c .before .before .before .before .before in
+    let s = t .before .before .before .before in (
+      omega arith,
+      search needs,
+      pass-more _ _ _ _ _ _ _ (t .loop-test .taken) (t .before .loop .inv .2) (s .pre .1 _ (t .loop-test .taken)) (c .before .before .before .pass-edge .ensures) (c .if1 .left),
+    )
 
 same-length-2 : tie.Need-same-length-2 Inv-loop μ-loop
 same-length-2 c = c .before .loop .inv .1

@@ -1,0 +1,3 @@
+-- Laws that only the proofs of code cite.
+pub mod PlacingLaws
+pub mod AnswerLaws

@@ -1,0 +1,6 @@
+-- Neighbour counts and the chosen cell. `Choice` is what a reader must believe; `Inner` serves private contracts; the rest are laws.
+pub mod Choice
+pub mod Inner
+pub mod CountLaws
+pub mod ChosenLaws
+pub mod Examples

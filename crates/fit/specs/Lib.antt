@@ -1,0 +1,8 @@
+-- Pieces and the fit. `Fit` is what a reader must believe; `Inner` serves private contracts; the rest are laws.
+pub mod Fit
+pub mod Inner
+pub mod FitLaws
+pub mod PieceLaws
+pub mod FitForLaws
+pub mod LayLaws
+pub mod Examples

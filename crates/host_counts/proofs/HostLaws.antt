@@ -1,0 +1,93 @@
+-- What each call over words tells: the answer of the call below where the shapes are right, and zeros where they are not. Rests on host_words' `AnswerLaws`,
+-- path_count's `PathCountLaws`, graph's `GraphLaws` and layers' `StartLaws`. Assumes nothing.
+use mathlib.Core.Path.{_≡_, refl, sym, ap₂, _∙_, subst}
+use mathlib.Core.List.{List, []}
+use Prim.Native.Nat.{ℕ}
+use native.Mathlib.Omega.{arith}
+use lib.ListN.{length}
+use Rattle.cells.specs.Arrays.{listFrom, listOf}
+use Rattle.cells.specs.Lists.{clearedFrom}
+use Rattle.cells.specs.ListLaws.{cleared-all}
+use Rattle.refusal.specs.declared.Refusal.{Refusal}
+use Rattle.refusal.specs.declared.Verdict.{Verdict}
+use Rattle.refusal.specs.declared.Verdict.the-variants as Verdicts
+use Rattle.refusal.specs.Refusal.{Answer, refused, mapAnswer, refusalNumber, valueOr, verdictNumber}
+use Rattle.tiles.specs.declared.Tiles.{Tiles}
+use Rattle.board.specs.declared.RectangularBoard.{RectangularBoard}
+use Rattle.path_count.specs.PathCountLaws.{cleared-countsFor}
+use Rattle.graph.specs.Graph.{edgesFor}
+use Rattle.graph.specs.GraphLaws.{cleared-edges}
+use Rattle.graph.specs.Rooms.{layerRoom}
+use Rattle.layers.specs.LayerCounts.{countTilings}
+use Rattle.layers.proofs.StartLaws.{cleared-zeros}
+use Rattle.tiler.specs.Graphs.{Graph, generateGraph}
+use Rattle.host_words.specs.Layout.{boardIn, plotShape}
+use Rattle.host_words.specs.Answers.{AnswersWords}
+use Rattle.host_words.specs.AnswerLaws.{unless-accepted, unless-refused}
+use Rattle.host_tiles.specs.TileBytes.{tilesIn}
+use Rattle.host_counts.specs.Calls.{counted, AnswersCount, generated, AnswersGraph}
+
+-- edges that are cleared
+no-edge : (ws ws′ : List ℕ) → ws′ ≡ clearedFrom 0 ws → ws′ ≡ edgesFor [] (length ws)
+unfolding listOf listFrom
+no-edge ws ws′ e = e ∙ cleared-edges ws [] (omega arith) refl
+
+module _ (width height : ℕ) (marks tiles answer : List ℕ) (v : Verdict) where
+  abbrev shape : ℕ → ℕ
+  shape needed = plotShape needed (length marks) (length tiles) (length answer)
+
+  -- ---- the layer count
+
+  module _ (told : verdictNumber v ≡ shape 2) (ba ca bb cb : List ℕ) where
+    abbrev room : ℕ
+    room = layerRoom (length ba) (length ca) (length bb) (length cb)
+
+    pub count-accepted : (b : RectangularBoard) (ts : Tiles) → v ≡ Verdicts.Accepted → b ≡ boardIn width height marks → ts ≡ tilesIn tiles → {ba′ ca′ bb′ cb′ answer′ : List ℕ} {r : ℕ}
+        → AnswersCount (countTilings b ts room) ba ca bb cb answer ba′ ca′ bb′ cb′ answer′ r
+        → AnswersCount (counted width height marks tiles room (length answer)) ba ca bb cb answer ba′ ca′ bb′ cb′ answer′ r
+    unfolding counted
+    count-accepted b ts e is are {ba′} {ca′} {bb′} {cb′} {answer′} {r} t =
+        subst (λ (a : Answer ℕ). AnswersCount a ba ca bb cb answer ba′ ca′ bb′ cb′ answer′ r)
+        (ap₂ (λ (x : RectangularBoard) (y : Tiles). countTilings x y room) is are
+        ∙ sym (unless-accepted (shape 2) (countTilings (boardIn width height marks) (tilesIn tiles) room) v told e)) t
+
+    pub count-unshaped : (q : Refusal) → v ≡ Verdicts.Refused q → {ba′ ca′ bb′ cb′ answer′ : List ℕ} {r : ℕ}
+        → ba′ ≡ clearedFrom 0 ba → ca′ ≡ clearedFrom 0 ca → bb′ ≡ clearedFrom 0 bb → cb′ ≡ clearedFrom 0 cb → AnswersWords (refused (refusalNumber q)) answer answer′ r
+        → AnswersCount (counted width height marks tiles room (length answer)) ba ca bb cb answer ba′ ca′ bb′ cb′ answer′ r
+    unfolding counted mapAnswer
+    count-unshaped q e {ba′} {ca′} {bb′} {cb′} {answer′} {r} w x y z t =
+        subst (λ (a : Answer ℕ). AnswersCount a ba ca bb cb answer ba′ ca′ bb′ cb′ answer′ r)
+        (sym (unless-refused (shape 2) (countTilings (boardIn width height marks) (tilesIn tiles) room) v told q e))
+        record {
+          answered = t;
+          zeroBoardsA = cleared-zeros (length ba) ba ba′ w refl;
+          zeroCountsA = cleared-zeros (length ca) ca ca′ x refl;
+          zeroBoardsB = cleared-zeros (length bb) bb bb′ y refl;
+          zeroCountsB = cleared-zeros (length cb) cb cb′ z refl;
+        }
+
+  -- ---- the graph
+
+  module _ (told : verdictNumber v ≡ shape 4) (nodes counts edges : List ℕ) where
+    pub graph-accepted : (b : RectangularBoard) (ts : Tiles) → v ≡ Verdicts.Accepted → b ≡ boardIn width height marks → ts ≡ tilesIn tiles → {nodes′ counts′ edges′ answer′ : List ℕ} {r : ℕ}
+        → AnswersGraph (generateGraph b ts (length nodes) (length counts) (length edges)) nodes counts edges answer nodes′ counts′ edges′ answer′ r
+        → AnswersGraph (generated width height marks tiles (length nodes) (length counts) (length edges) (length answer)) nodes counts edges answer nodes′ counts′ edges′ answer′ r
+    unfolding generated
+    graph-accepted b ts e is are {nodes′} {counts′} {edges′} {answer′} {r} t =
+        subst (λ (a : Answer Graph). AnswersGraph a nodes counts edges answer nodes′ counts′ edges′ answer′ r)
+        (ap₂ (λ (x : RectangularBoard) (y : Tiles). generateGraph x y (length nodes) (length counts) (length edges)) is are
+        ∙ sym (unless-accepted (shape 4) (generateGraph (boardIn width height marks) (tilesIn tiles) (length nodes) (length counts) (length edges)) v told e)) t
+
+    pub graph-unshaped : (q : Refusal) → v ≡ Verdicts.Refused q → {nodes′ counts′ edges′ answer′ : List ℕ} {r : ℕ}
+        → nodes′ ≡ clearedFrom 0 nodes → counts′ ≡ clearedFrom 0 counts → edges′ ≡ clearedFrom 0 edges → AnswersWords (refused (refusalNumber q)) answer answer′ r
+        → AnswersGraph (generated width height marks tiles (length nodes) (length counts) (length edges) (length answer)) nodes counts edges answer nodes′ counts′ edges′ answer′ r
+    unfolding generated valueOr mapAnswer
+    graph-unshaped q e {nodes′} {counts′} {edges′} {answer′} {r} x y z t =
+        subst (λ (a : Answer Graph). AnswersGraph a nodes counts edges answer nodes′ counts′ edges′ answer′ r)
+        (sym (unless-refused (shape 4) (generateGraph (boardIn width height marks) (tilesIn tiles) (length nodes) (length counts) (length edges)) v told q e))
+        record {
+          answered = t;
+          nodesLeft = x ∙ cleared-all nodes;
+          countsLeft = y ∙ cleared-countsFor counts;
+          edgesLeft = no-edge edges edges′ z;
+        }

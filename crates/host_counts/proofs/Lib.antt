@@ -1,0 +1,3 @@
+-- What belongs to no one function's proof.
+pub mod ToldLaws
+pub mod HostLaws

@@ -1,0 +1,63 @@
+-- Laws of the shapes of a tile with its orbit and of what a plot file is read into, cause by cause; and what a tile that is read is. Rests on `Calls` and
+-- tile's `StoredLaws`. Assumes nothing.
+use mathlib.Core.Path.{_≡_, sym, ap, _∙_, subst}
+use mathlib.Core.Bool.{So}
+use Prim.Native.Nat.{ℕ, _≤_, _<_}
+use native.Mathlib.Omega.{arith}
+use lib.ListN.{length}
+use borrow.Author.Tests.{eq-eqb, ne-eqb, le-leb, lt-leb}
+use Rattle.refusal.specs.Refusal.{given, refusalOf}
+use Rattle.refusal.specs.RefusalLaws.{given-inj}
+use Rattle.tile.specs.declared.Tile.{Tile}
+use Rattle.tile.specs.Path.{Path, codesOk}
+use Rattle.tile.specs.Stored.{readTile, pathIn}
+use Rattle.tile.specs.StoredLaws.{readTile-accepted, readTile-given, length-pathIn}
+use Rattle.host_plots.specs.Calls.{orbitShape, fileShape}
+
+-- ---- a tile and its orbit
+
+module _ (tile tiles answer : ℕ) where
+  pub orbit-tile : (tile ≡ 33 → ⊥) → 5 ≡ orbitShape tile tiles answer
+  unfolding orbitShape
+  orbit-tile n = rw (ne-eqb tile 33 n)
+
+  pub orbit-tiles : tile ≡ 33 → tiles < 264 → 8 ≡ orbitShape tile tiles answer
+  unfolding orbitShape
+  orbit-tiles e l = rw (eq-eqb tile 33 e, lt-leb 264 tiles l)
+
+  pub orbit-answer : tile ≡ 33 → 264 ≤ tiles → answer < 1 → 8 ≡ orbitShape tile tiles answer
+  unfolding orbitShape
+  orbit-answer e l a = rw (eq-eqb tile 33 e, le-leb 264 tiles l, lt-leb 1 answer a)
+
+  pub orbit-right : tile ≡ 33 → 264 ≤ tiles → 1 ≤ answer → 0 ≡ orbitShape tile tiles answer
+  unfolding orbitShape
+  orbit-right e l a = rw (eq-eqb tile 33 e, le-leb 264 tiles l, le-leb 1 answer a)
+
+-- ---- what a plot file is read into
+
+module _ (board tiles answer : ℕ) where
+  pub file-board : board < 10 → 8 ≡ fileShape board tiles answer
+  unfolding fileShape
+  file-board l = rw (lt-leb 10 board l)
+
+  pub file-tiles : 10 ≤ board → tiles < 2112 → 8 ≡ fileShape board tiles answer
+  unfolding fileShape
+  file-tiles b l = rw (le-leb 10 board b, lt-leb 2112 tiles l)
+
+  pub file-answer : 10 ≤ board → 2112 ≤ tiles → answer < 1 → 8 ≡ fileShape board tiles answer
+  unfolding fileShape
+  file-answer b t l = rw (le-leb 10 board b, le-leb 2112 tiles t, lt-leb 1 answer l)
+
+  pub file-right : 10 ≤ board → 2112 ≤ tiles → 1 ≤ answer → 0 ≡ fileShape board tiles answer
+  unfolding fileShape
+  file-right b t a = rw (le-leb 10 board b, le-leb 2112 tiles t, le-leb 1 answer a)
+
+-- ---- a tile that is read
+
+-- a tile that is not refused is a path of at most 32 codes
+pub read-path : (t : Tile) (p : Path) → readTile t ≡ given p → (length p ≤ 32) × So (codesOk p)
+unfolding refusalOf
+read-path t p e =
+    let ok = readTile-accepted t (sym (ap refusalOf e)) in
+    let is : p ≡ pathIn t = given-inj p (pathIn t) (sym e ∙ readTile-given t (ok .0) (ok .1)) in
+    (subst (λ (q : Path). length q ≤ 32) (sym is) (omega (arith, length-pathIn t, ok .0)), subst (λ (q : Path). So (codesOk q)) (sym is) (ok .1))

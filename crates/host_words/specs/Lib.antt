@@ -1,0 +1,6 @@
+-- What a host's words stand for. `Layout` and `Answers` are what a reader must believe; `Inner` serves private contracts; the rest are laws.
+pub mod Layout
+pub mod Answers
+pub mod Inner
+pub mod LayoutLaws
+pub mod AnswerLaws

@@ -1,0 +1,4 @@
+-- Laws that only the proofs of this crate's code cite.
+pub mod LayerLaws
+pub mod RunSteps
+pub mod StartLaws

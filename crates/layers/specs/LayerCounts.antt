@@ -1,0 +1,75 @@
+-- Definitions: what `count_tilings` answers and leaves in the lent words, for every input, and what demand 3 says of it. Layers and path counts are those
+-- of `covers`, for the boards of the start and the tiles. What stands in quotation marks is 01's, from its section on the layer count. Assumes nothing.
+use mathlib.Core.Path.{_≡_}
+use mathlib.Core.Bool.{Bool, cond}
+use mathlib.Core.List.{List}
+use Prim.Native.Nat.{ℕ, zero, suc}
+use lib.Dec.{leb}
+use lib.ListN.{length, replicate}
+use Rattle.cells.specs.Firsts.{any}
+use Rattle.tiles.specs.declared.Tiles.{Tiles}
+use Rattle.refusal.specs.Refusal.{Answer, refused, given, mapAnswer, bindAnswer, refusalNumber}
+use Rattle.tile.specs.Path.{Path}
+use Rattle.tiles.specs.Stored.{pathsIn}
+use Rattle.board.specs.declared.RectangularBoard.{RectangularBoard}
+use Rattle.rectangle.specs.Board.{Board, marks}
+use Rattle.board.specs.Board.{boardOf}
+use Rattle.covers.specs.Cuttings.{Setting, Exactly}
+use Rattle.covers.specs.Counts.{Entry, counts, layer, layerOf, layerCount}
+use Rattle.path_count.specs.PathCounts.{countLimit, countValue}
+use Rattle.graph.specs.Rooms.{layerRoom}
+use Rattle.expansion.specs.Boards.{setting}
+use Rattle.expansion.specs.Plots.{readPlot}
+use Rattle.expansion.specs.Cuttings.{IsCutting, HasFreeCell, AllEdgeJoined}
+use Rattle.layers.specs.declared.Count.{Count}
+use Rattle.layers.specs.declared.Count.the-variants as C
+
+-- whether one of some path counts "is 2^64 or more"
+unfoldable pub tooLarge : List ℕ → Bool
+unfolding any
+tooLarge ns = any (λ n. leb countLimit n) ns
+
+-- ---- the layer count
+
+-- a layer: "8 if its boards pass the room, else 9 if a path count is 2^64 or more"
+unfoldable pub judgeLayer : ℕ → List (Entry ℕ) → Answer (List (Entry ℕ))
+unfolding tooLarge
+judgeLayer room es = cond (leb (length es) room) (cond (tooLarge (counts es)) (refused 9) (given es)) (refused 8)
+
+-- "then the earliest layer decides": the layers 0 to n, one after the other
+unfoldable pub judgeLayers : (ℕ → List (Entry ℕ)) → ℕ → ℕ → Answer (List (Entry ℕ))
+unfolding judgeLayer bindAnswer
+judgeLayers at room zero = judgeLayer room (at zero)
+judgeLayers at room (suc n) = bindAnswer (judgeLayers at room n) (λ es. judgeLayer room (at (suc n)))
+
+-- the layers of a start: no piece is left to lay behind the layer of as many pieces as cells are free
+unfoldable pub layersAnswer : {P : Type 0} → Setting ℕ P → ℕ → ℕ → Answer ℕ
+unfolding judgeLayers layer layerCount mapAnswer
+layersAnswer G s room = mapAnswer (λ es. layerCount G s) (judgeLayers (layerOf G s) room (G .freeCount s))
+
+-- the layer count of a board and tiles that are not refused, for a room of so many boards,
+unfoldable pub layersOf : Board → List Path → ℕ → Answer ℕ
+unfolding layersAnswer setting marks
+layersOf b paths room = layersAnswer (setting b paths) (marks b) room
+
+-- and of any
+unfoldable pub countTilings : RectangularBoard → Tiles → ℕ → Answer ℕ
+unfolding readPlot bindAnswer layersOf
+countTilings b ts room = bindAnswer (readPlot b ts) (λ p. layersOf (p .0) (p .1) room)
+
+abbrev pub countAnswer : Count → Answer ℕ
+countAnswer (C.Number n) = given (countValue n)
+countAnswer (C.Refused r) = refused (refusalNumber r)
+
+-- `count_tilings`: "Lent layers and their count words are all zero on every return"
+pub record CountsTilings (b : RectangularBoard) (ts : Tiles) (boardsA countsA boardsB countsB boardsA′ countsA′ boardsB′ countsB′ : List ℕ) (r : Count) : Type 0 where
+  pub answer : countAnswer r ≡ countTilings b ts (layerRoom (length boardsA) (length countsA) (length boardsB) (length countsB))
+  pub zeroBoardsA : boardsA′ ≡ replicate (length boardsA) 0
+  pub zeroCountsA : countsA′ ≡ replicate (length countsA) 0
+  pub zeroBoardsB : boardsB′ ≡ replicate (length boardsB) 0
+  pub zeroCountsB : countsB′ ≡ replicate (length countsB) 0
+
+-- demand 3 of `count_tilings`: a count that is given is the number of cuttings
+abbrev pub CountsCuttings : RectangularBoard → Tiles → Count → Type 0
+CountsCuttings b ts r =
+    HasFreeCell (boardOf b) → AllEdgeJoined (pathsIn ts) → (n : ℕ) → countAnswer r ≡ given n → Exactly n (IsCutting (boardOf b) (pathsIn ts))

@@ -1,0 +1,3 @@
+-- Laws that only the proofs of this crate's code cite.
+pub mod Signed
+pub mod StepLaws

@@ -1,0 +1,9 @@
+-- Tiles together. `Paths` and `Stored` are what a reader must believe; `Inner` serves private contracts only; the rest are laws.
+pub mod Paths
+pub mod Stored
+pub mod Inner
+pub mod OrbitLaws
+pub mod ReadLaws
+pub mod StoredLaws
+pub mod EqualLaws
+pub mod Examples
