@@ -1,4 +1,4 @@
-/* The calls of the library over slices.h, each held to its definition in crates/exports/specs/Calls.antt
+/* The calls of the library over slices.h, each held to its definition in specs/Calls.antt of host_plots, host_counts or host_tilings
    as far as it can be without the answer; and the same calls with slices of a wrong shape. Part of
    driver.c. */
 #ifndef CALLS_H

@@ -3,7 +3,7 @@
    in ../README.md. Here `children` takes a room too, and no room has a limit but memory. The fields of a
    command and the printing stand in fields.h, the model of the tiling by number in numbers.h.
 
-   Beside the answer, every call is held to the definitions of crates/exports/specs/Calls.antt. What is
+   Beside the answer, every call is held to the definitions of specs/Calls.antt of host_plots, host_counts and host_tilings. What is
    lent for writing is filled before, and has to be zero behind what is written and after a refusal.
    What is only read has to stay. Each slice stands between guards, or against a page that cannot be
    touched. Beside a quarter of the commands the call is also made with slices of a wrong shape. `dirty`
