@@ -1,12 +1,13 @@
--- Laws of the struct: which boards are accepted, what the test of a board tells, that every board that is made is accepted, and the board of some
--- marks. Rests on `Board` and on the laws of boards by their numbers. Assumes nothing.
-use mathlib.Core.Path.{_≡_, refl, sym, ap, _∙_}
-use mathlib.Core.Bool.{Bool, true, false, not, cond, _&&_, _||_}
+-- Laws of the struct: the struct of a board, which boards are accepted, what the test of a board tells, that every board that is made is accepted, and
+-- the board of some marks. Rests on `Board` and on the laws of boards by their numbers. Assumes nothing.
+use mathlib.Core.Path.{_≡_, refl, sym, ap, ap₂, _∙_}
+use mathlib.Core.Bool.{Bool, true, false, So, not, cond, _&&_, _||_}
 use Prim.Native.Nat.{ℕ, _/_, _%_, _^_, _<_}
 use native.Mathlib.Omega.{arith}
 use lib.Dec.{ltb, leb}
 use Rattle.cells.specs.Set.{unionOf, Within, setOf}
 use Rattle.cells.specs.SetLaws.{union-within, hasCell-none, hasCell-setOf}
+use Rattle.cells.specs.WordLaws.{cellsOf, number-cellsOf}
 use Rattle.cells.specs.ArrayLaws.{allBelow-all}
 use Rattle.refusal.specs.Refusal.{refusalNumber, refused, given, refusalOf, verdictNumber}
 use Rattle.refusal.specs.RefusalLaws.{refused-of}
@@ -14,9 +15,20 @@ use Rattle.refusal.specs.declared.Refusal.{Refusal}
 use Rattle.refusal.specs.declared.Verdict.{Verdict}
 use Rattle.refusal.specs.declared.Verdict.the-variants as Verdicts
 use Rattle.rectangle.specs.Board.{boardAt, Board, positionOf, inside, isMarked, sizeOk, markOk, valid}
-use Rattle.rectangle.specs.BoardLaws.{acceptBoard-given, acceptBoard-refused, acceptBoard-accepted}
+use Rattle.rectangle.specs.BoardLaws.{acceptBoard-given, acceptBoard-refused, acceptBoard-accepted, acceptBoard-is, acceptBoard-positive}
 use Rattle.board.specs.declared.RectangularBoard.{RectangularBoard}
-use Rattle.board.specs.Board.{boardOf, readBoard, shapeMark, shaped}
+use Rattle.board.specs.Board.{boardOf, ofMarks, readBoard, shapeMark, shaped}
+
+-- ---- the struct of a board
+
+-- a board as the code has it
+abbrev pub structOf : Board → RectangularBoard
+structOf b = ofMarks (b .width) (b .height) (cellsOf (b .fixed)) (cellsOf (b .laid))
+
+-- it holds that board, where the marks are sets of 256 cells
+pub board-struct : (b : Board) → b .fixed < 2 ^ 256 → b .laid < 2 ^ 256 → boardOf (structOf b) ≡ b
+board-struct b f l =
+    ap₂ (λ (x y : ℕ). record { width = b .width; height = b .height; fixed = x; laid = y }) (number-cellsOf (b .fixed) f) (number-cellsOf (b .laid) l)
 
 -- ---- which boards are accepted
 
@@ -32,6 +44,15 @@ module _ (b : RectangularBoard) where
   pub readBoard-accepted : 0 ≡ refusalOf (readBoard b) → valid (boardOf b) ≡ true
   unfolding readBoard
   readBoard-accepted e = acceptBoard-accepted (boardOf b) e
+
+  -- a board that is read is the one that is stored, and a refusal has a number above 0
+  pub readBoard-is : (board : Board) → readBoard b ≡ given board → (boardOf b ≡ board) × So (valid (boardOf b))
+  unfolding readBoard
+  readBoard-is board e = acceptBoard-is (boardOf b) board e
+
+  pub readBoard-positive : (n : ℕ) → readBoard b ≡ refused n → 0 < n
+  unfolding readBoard
+  readBoard-positive n e = acceptBoard-positive (boardOf b) n e
 
   -- what the test of a board tells: its verdict v has the refusal's number, which whoever asks hands on
   module _ (v : Verdict) (e : verdictNumber v ≡ refusalOf (readBoard b)) where

@@ -187,6 +187,25 @@ module _ (s t : Cells) (hs : Sound s) (ht : Sound t) where
       go (yes e) = eq-eqb (s .w3) (t .w3) e ∙ sym (eq-eqb (number s) (number t) (ap value (λ i. p i ∷ q i ∷ r i ∷ e i ∷ [])))
       go (no n) = ne-eqb (s .w3) (t .w3) n ∙ eqb-word 3 n
 
+-- the set with a number, by its four words
+abbrev pub cellsOf : ℕ → Cells
+cellsOf n = record { w0 = n % 2 ^ 64; w1 = n / 2 ^ 64 % 2 ^ 64; w2 = n / 2 ^ 64 / 2 ^ 64 % 2 ^ 64; w3 = n / 2 ^ 64 / 2 ^ 64 / 2 ^ 64 % 2 ^ 64 }
+
+pub number-cellsOf : (n : ℕ) → n < 2 ^ 256 → number (cellsOf n) ≡ n
+unfolding number wordsOf
+number-cellsOf n h = value-wordsOf n h
+
+word-lt : (n : ℕ) → n % 2 ^ 64 < 2 ^ 64
+word-lt n = omega arith
+
+pub sound-cellsOf : (n : ℕ) → Sound (cellsOf n)
+sound-cellsOf n = record {
+  s0 = word-lt n;
+  s1 = word-lt (n / 2 ^ 64);
+  s2 = word-lt (n / 2 ^ 64 / 2 ^ 64);
+  s3 = word-lt (n / 2 ^ 64 / 2 ^ 64 / 2 ^ 64);
+}
+
 -- four words make a set
 pub number-words : (w0 w1 w2 w3 : ℕ) → number (record { w0 = w0; w1 = w1; w2 = w2; w3 = w3 }) ≡ value (w0 ∷ w1 ∷ w2 ∷ w3 ∷ [])
 unfolding number

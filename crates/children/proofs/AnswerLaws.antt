@@ -14,13 +14,13 @@ use Rattle.refusal.specs.declared.Refusal.{Refusal}
 use Rattle.refusal.specs.declared.Verdict.{Verdict}
 use Rattle.refusal.specs.declared.Verdict.the-variants as Verdicts
 use Rattle.refusal.specs.Refusal.{Answer, refused, given, mapAnswer, bindAnswer, refusalOf, refusalNumber, verdictNumber, valueOr}
-use Rattle.refusal.specs.RefusalLaws.{refusalNumber-pos, refused-of}
+use Rattle.refusal.specs.RefusalLaws.{refusalNumber-pos, refused-of, map-given, refused-value}
 use Rattle.tiles.specs.declared.Tiles.{Tiles}
 use Rattle.tile.specs.Path.{Path}
 use Rattle.tiles.specs.Stored.{pathsIn, readTiles}
 use Rattle.tiles.specs.ReadLaws.{readTiles-accepted}
-use Rattle.rectangle.specs.Board.{valid, acceptBoard}
-use Rattle.rectangle.specs.BoardLaws.{acceptBoard-given}
+use Rattle.rectangle.specs.Board.{Board, valid, acceptBoard}
+use Rattle.rectangle.specs.BoardLaws.{acceptBoard-given, acceptBoard-is, acceptBoard-positive}
 use Rattle.board.specs.declared.RectangularBoard.{RectangularBoard}
 use Rattle.board.specs.Board.{boardOf, readBoard}
 use Rattle.children.specs.declared.Children.{Children}
@@ -49,20 +49,22 @@ module _ (b : RectangularBoard) (ts : Tiles) where
   -- the board's refusal comes first
   pub children-earlier : earlierOf (refusalOf (readBoard b)) (refusalOf (readTiles ts)) ≡ refusalOf (childrenOf (boardOf b) ts)
   unfolding childrenOf bindAnswer readBoard refusalOf earlierOf
-  children-earlier = go (valid (boardOf b))
+  children-earlier = go (acceptBoard (boardOf b)) refl
     where
-      go : (t : Bool) → earlierOf (refusalOf (cond t (given (boardOf b)) (refused 4))) (refusalOf (readTiles ts)) ≡ refusalOf (bindAnswer (cond t (given (boardOf b)) (refused 4)) (λ board. mapAnswer (children board) (readTiles ts)))
-      go true = map-refusal (children (boardOf b)) (readTiles ts)
-      go false = refl
+      go : (a : Answer Board) → acceptBoard (boardOf b) ≡ a → earlierOf (refusalOf a) (refusalOf (readTiles ts)) ≡ refusalOf (bindAnswer a (λ board. mapAnswer (children board) (readTiles ts)))
+      go (given board) q = map-refusal (children board) (readTiles ts)
+      go (refused n) q = rw (ne-eqb n 0 (λ z. omega (arith, acceptBoard-positive (boardOf b) n q)))
 
   -- neither is refused
   pub children-accepted : 0 ≡ refusalOf (childrenOf (boardOf b) ts) → (valid (boardOf b) ≡ true) × (readTiles ts ≡ given (pathsIn ts)) × (ts .count ≤ 64)
-  unfolding childrenOf bindAnswer acceptBoard refusalOf
-  children-accepted e = go (valid (boardOf b)) refl e
+  unfolding childrenOf bindAnswer refusalOf
+  children-accepted e = go (acceptBoard (boardOf b)) refl e
     where
-      go : (t : Bool) → valid (boardOf b) ≡ t → 0 ≡ refusalOf (bindAnswer (cond t (given (boardOf b)) (refused 4)) (λ board. mapAnswer (children board) (readTiles ts))) → (valid (boardOf b) ≡ true) × (readTiles ts ≡ given (pathsIn ts)) × (ts .count ≤ 64)
-      go true f q = let a = readTiles-accepted ts (q ∙ sym (map-refusal (children (boardOf b)) (readTiles ts))) in (f, a .1, a .0)
-      go false f q = absurd (omega arith)
+      go : (a : Answer Board) → acceptBoard (boardOf b) ≡ a → 0 ≡ refusalOf (bindAnswer a (λ board. mapAnswer (children board) (readTiles ts))) → (valid (boardOf b) ≡ true) × (readTiles ts ≡ given (pathsIn ts)) × (ts .count ≤ 64)
+      go (given board) f q =
+          let a = readTiles-accepted ts (q ∙ sym (map-refusal (children board) (readTiles ts))) in
+          (acceptBoard-is (boardOf b) board f .1, a .1, a .0)
+      go (refused n) f q = absurd (omega (arith, acceptBoard-positive (boardOf b) n f))
 
   pub children-given : valid (boardOf b) ≡ true → readTiles ts ≡ given (pathsIn ts) → childrenOf (boardOf b) ts ≡ given (children (boardOf b) (pathsIn ts))
   unfolding childrenOf bindAnswer mapAnswer
@@ -100,16 +102,6 @@ module _ (b : RectangularBoard) (ts : Tiles) (old : List ℕ) where
 
 -- ---- `place_tile`
 
-given-length : (a : Answer (List ℕ)) (n : ℕ) → given n ≡ mapAnswer length a → (ns : List ℕ) × (a ≡ given ns) × (n ≡ length ns)
-unfolding mapAnswer
-given-length (refused m) n e = let z : _≡_ {A = ℕ} 0 1 = cc in absurd (omega arith)
-given-length (given ns) n e = (ns, refl, cc)
-
-refused-length : (a : Answer (List ℕ)) (n : ℕ) → refused n ≡ mapAnswer length a → valueOr [] a ≡ []
-unfolding mapAnswer valueOr
-refused-length (refused m) n e = refl
-refused-length (given ns) n e = let z : _≡_ {A = ℕ} 0 1 = cc in absurd (omega arith)
-
 module _ (b : RectangularBoard) (ts : Tiles) where
   place-given : (m : ℕ) (ns : List ℕ) → placeTile (boardOf b) ts m ≡ given ns → (childrenOf (boardOf b) ts ≡ given ns) × (length ns ≤ m / 4)
   unfolding placeTile
@@ -129,8 +121,8 @@ module _ (b : RectangularBoard) (ts : Tiles) (old mid : List ℕ) (r : Children)
 
   -- how many there are: no more than there is room for
   module _ (n : ℕ) (e : r ≡ C.Number n) where
-    found : (ns : List ℕ) × (placeTile (boardOf b) ts (length old) ≡ given ns) × (n ≡ length ns)
-    found = given-length (placeTile (boardOf b) ts (length old)) n (sym (ap childrenAnswer e) ∙ w .answer)
+    found : (ns : List ℕ) × (placeTile (boardOf b) ts (length old) ≡ given ns) × (length ns ≡ n)
+    found = map-given length (placeTile (boardOf b) ts (length old)) n (sym (w .answer) ∙ ap childrenAnswer e)
 
     pub few : n ≤ length old / 4
     few = omega (arith, found .2, place-given b ts (length old) (found .0) (found .1) .1)
@@ -143,7 +135,7 @@ module _ (b : RectangularBoard) (ts : Tiles) (old mid : List ℕ) (r : Children)
         let stored : mid ≡ storedIn ns old = w .words ∙ ap (λ (a : Answer (List ℕ)). storedIn (take (length old / 4) (valueOr [] a)) old) (told .0) ∙ all ns (told .1) in
         record {
           answer = sym (ap childrenAnswer e) ∙ w .answer;
-          words = q ∙ ap (λ (l : List ℕ). clearedFrom (4 * n) l) stored ∙ ap (λ (k : ℕ). clearedFrom (4 * k) (storedIn ns old)) (found .2) ∙ cleared-storedIn ns old ∙ ap (λ (a : Answer (List ℕ)). wordsFor (valueOr [] a) (length old)) (sym (found .1));
+          words = q ∙ ap (λ (l : List ℕ). clearedFrom (4 * n) l) stored ∙ ap (λ (k : ℕ). clearedFrom (4 * k) (storedIn ns old)) (sym (found .2)) ∙ cleared-storedIn ns old ∙ ap (λ (a : Answer (List ℕ)). wordsFor (valueOr [] a) (length old)) (sym (found .1));
         }
       where
         all : (ns : List ℕ) → length ns ≤ length old / 4 → storedIn (take (length old / 4) ns) old ≡ storedIn ns old
@@ -151,7 +143,7 @@ module _ (b : RectangularBoard) (ts : Tiles) (old mid : List ℕ) (r : Children)
 
   pub places-refused : (q : Refusal) → r ≡ C.Refused q → (new : List ℕ) → new ≡ clearedFrom 0 mid → PlacesTiles b ts old new (C.Refused q)
   places-refused q e new f =
-      let none : valueOr [] (placeTile (boardOf b) ts (length old)) ≡ [] = refused-length (placeTile (boardOf b) ts (length old)) (refusalNumber q) (sym (ap childrenAnswer e) ∙ w .answer) in
+      let none : valueOr [] (placeTile (boardOf b) ts (length old)) ≡ [] = refused-value length (placeTile (boardOf b) ts (length old)) (refusalNumber q) [] (sym (ap childrenAnswer e) ∙ w .answer) in
       record {
         answer = sym (ap childrenAnswer e) ∙ w .answer;
         words = f ∙ cleared-all mid ∙ ap (wordsFor []) same-words ∙ ap (λ (l : List ℕ). wordsFor l (length old)) (sym none);

@@ -3,7 +3,7 @@
 use lib.ListN.{length-take, length, getD, take, drop, length-append}
 use mathlib.Core.Option.{some}
 use mathlib.Core.Path.{_≡_, refl, sym, ap, ap₂, _∙_, subst}
-use mathlib.Core.Bool.{Bool, true, false, So, not, cond, _&&_, and-eq-true-iff}
+use mathlib.Core.Bool.{Bool, true, false, So, not, cond, _&&_}
 use mathlib.Core.List.{List, [], _∷_, _++_, map, map-append, flatMap}
 use Prim.Native.Nat.{ℕ, _+_, _-_, _*_, _/_, _^_, _≤_, _<_}
 use native.Mathlib.Decide.{ℕ-discrete}
@@ -21,7 +21,8 @@ use Rattle.cells.specs.MemberLaws.{flatMap-snoc}
 use Rattle.cells.specs.ListLaws.{length-storedIn, storedIn-none, setsIn-storedIn, storedIn-snoc}
 use Rattle.refusal.specs.declared.Refusal.{Refusal}
 use Rattle.refusal.specs.Refusal.{refused, given, mapAnswer, refusalNumber}
-use Rattle.tile.specs.Path.{isPath, Path, codesOk}
+use Rattle.tile.specs.Path.{isPath, Path}
+use Rattle.tile.specs.StoredLaws.{isPath-good}
 use Rattle.tiles.specs.Paths.{containsSingle}
 use Rattle.tiles.specs.declared.Tiles.{Tiles}
 use Rattle.tiles.specs.Stored.{pathAt, pathsIn, readTiles, containsAnswer}
@@ -230,11 +231,10 @@ part-path lens codes i = let e : 32 * i + getD lens i 0 - 32 * i ≡ getD lens i
 
 -- and it is a path
 pub part-sound : (ts : Tiles) → readTiles ts ≡ given (pathsIn ts) → (i : ℕ) → i < ts .count → So (isPath (pathAt (ts .lens) (ts .codes) i))
-unfolding isPath
 part-sound ts e i h =
     let s = sound-tile ts e i h in
     let short : length (pathAt (ts .lens) (ts .codes) i) ≤ 32 = simp length-take (omega (arith, s .0)) in
-    and-eq-true-iff (leb (length (pathAt (ts .lens) (ts .codes) i)) 32) (codesOk (pathAt (ts .lens) (ts .codes) i)) .1 (le-leb (length (pathAt (ts .lens) (ts .codes) i)) 32 short, s .1)
+    isPath-good (pathAt (ts .lens) (ts .codes) i) short (s .1)
 
 -- ---- pruning: the tiles are asked only at count 4
 

@@ -18,24 +18,24 @@ use Rattle.direction.specs.Direction.{step}
 use Rattle.rectangle.specs.declared.Place.{Place}
 use Rattle.rectangle.specs.declared.Place.the-variants as P
 use Rattle.rectangle.specs.Board.{positionOf, inside}
-use Rattle.rectangle.specs.Place.{placeIf, placeAfter}
+use Rattle.rectangle.specs.Place.{placeAnswer, placeIf, placeAfter}
 use Rattle.rectangle.specs.PlaceLaws.{place-false, place-placed, placed-cell, placeAfter-is}
 use Rattle.choice.specs.declared.ChosenCell.{ChosenCell}
 use Rattle.choice.specs.declared.ChosenCell.the-variants as H
-use Rattle.choice.specs.Inner.{countIn, Looked, foundOf}
+use Rattle.choice.specs.Inner.{arrayCount, Looked, foundOf}
 use Rattle.choice.specs.Choice.{one, outer, laidBeside, neighbourCount, columns, higher, bestOf}
 use Rattle.choice.specs.CountLaws.{count-inside}
 
 -- ---- the laid mark beside a cell
 
 -- one step from a cell leads to the place at the position one step on
-pub beside-step : (w h cell code : ℕ) (x : Place) → x ≡ placeAfter w h (cell / 16) (cell % 16) code → cell < 256 → code < 8 → x ≡ placeIf (inside w h) (shift (positionOf cell) (step code))
+pub beside-step : (w h cell code : ℕ) (x : Place) → placeAnswer x ≡ placeAfter w h (cell / 16) (cell % 16) code → cell < 256 → code < 8 → placeAnswer x ≡ placeIf (inside w h) (shift (positionOf cell) (step code))
 beside-step w h cell code x e l k = e ∙ placeAfter-is w h (cell / 16) (cell % 16) code (omega arith) (omega arith) k
 
-module _ (w h laid cell code : ℕ) (x : Place) (e : x ≡ placeIf (inside w h) (shift (positionOf cell) (step code))) where
+module _ (w h laid cell code : ℕ) (x : Place) (e : placeAnswer x ≡ placeIf (inside w h) (shift (positionOf cell) (step code))) where
   pub beside-nowhere : x ≡ P.Nowhere → 0 ≡ one (laidBeside w h laid cell code)
   unfolding one laidBeside
-  beside-nowhere f = rw (place-false (inside w h) (shift (positionOf cell) (step code)) (sym f ∙ e))
+  beside-nowhere f = rw (place-false (inside w h) (shift (positionOf cell) (step code)) (sym (ap placeAnswer f) ∙ e))
 
   pub beside-place : (r c : ℕ) → x ≡ P.At r c → (t : Bool) → hasCell laid (16 * r + c) ≡ t → one t ≡ one (laidBeside w h laid cell code)
   unfolding laidBeside
@@ -103,28 +103,28 @@ module _ (marks : ℕ) (counts : List ℕ) where
     look-marked e o q = rw e q
 
     module _ (e : hasCell marks cell ≡ false) where
-      pub look-first : best ≡ H.Full → Looked marks counts best (cell ∷ []) (H.Cell cell (countIn counts cell))
+      pub look-first : best ≡ H.Full → Looked marks counts best (cell ∷ []) (H.Cell cell (arrayCount counts cell))
       unfolding bestOf higher
       look-first f none q = rw e
       look-first f (some d) q = let z : _≡_ {A = ℕ} 0 1 = cc in absurd (omega arith)
 
-      pub look-higher : (other high : ℕ) → best ≡ H.Cell other high → high < countIn counts cell → Looked marks counts best (cell ∷ []) (H.Cell cell (countIn counts cell))
+      pub look-higher : (other high : ℕ) → best ≡ H.Cell other high → high < arrayCount counts cell → Looked marks counts best (cell ∷ []) (H.Cell cell (arrayCount counts cell))
       unfolding bestOf higher
       look-higher other high f l none q = rw e
       look-higher other high f l (some d) q =
-          let g : high ≡ countIn counts d = cc in
-          rw (e, lt-ltb (countIn counts d) (countIn counts cell) (omega arith))
+          let g : high ≡ arrayCount counts d = cc in
+          rw (e, lt-ltb (arrayCount counts d) (arrayCount counts cell) (omega arith))
 
       pub look-refused : (r : Refusal) → best ≡ H.Refused r → Looked marks counts best (cell ∷ []) (H.Refused r)
       look-refused r f none q = let z : _≡_ {A = ℕ} 0 1 = cc in absurd (omega arith)
       look-refused r f (some d) q = let z : _≡_ {A = ℕ} 0 1 = cc in absurd (omega arith)
 
-      pub look-lower : (other high : ℕ) → best ≡ H.Cell other high → countIn counts cell ≤ high → Looked marks counts best (cell ∷ []) (H.Cell other high)
+      pub look-lower : (other high : ℕ) → best ≡ H.Cell other high → arrayCount counts cell ≤ high → Looked marks counts best (cell ∷ []) (H.Cell other high)
       unfolding bestOf higher
       look-lower other high f l none q = let z : _≡_ {A = ℕ} 0 1 = cc in absurd (omega arith)
       look-lower other high f l (some d) q =
-          let g : high ≡ countIn counts d = cc in
-          rw (e, le-ltb (countIn counts d) (countIn counts cell) (omega arith)) (sym f ∙ q)
+          let g : high ≡ arrayCount counts d = cc in
+          rw (e, le-ltb (arrayCount counts d) (arrayCount counts cell) (omega arith)) (sym f ∙ q)
 
 -- ---- the scan of a column, and of the columns
 

@@ -15,8 +15,8 @@ use Rattle.refusal.specs.Refusal.{given}
 use Rattle.rectangle.specs.Board.{sizeOk, freeIn, cellOf, positionOf}
 use Rattle.rectangle.specs.BoardLaws.{sizeOk-le, inside-iff, cellOf-positionOf}
 use Rattle.choice.specs.declared.ChosenCell.{ChosenCell}
-use Rattle.choice.specs.Inner.{countIn, openIn, foundOf}
-use Rattle.choice.specs.Choice.{neighbourCount, columns, bestOf, chosenIn, withCountBy, chosenFor, chosenAnswer}
+use Rattle.choice.specs.Inner.{arrayCount, openIn, foundOf}
+use Rattle.choice.specs.Choice.{neighbourCount, columns, bestOf, chosenIn, cellWithCountBy, chosenFor, chosenAnswer}
 use Rattle.choice.specs.ChosenLaws.{mem-columns, bestOf-ext, best-among}
 
 module _ (w h : ℕ) (ok : sizeOk w h ≡ true) (m laid : ℕ) (counts : List ℕ) (ec : counts ≡ listOf (neighbourCount w h laid) 256) where
@@ -26,7 +26,7 @@ module _ (w h : ℕ) (ok : sizeOk w h ≡ true) (m laid : ℕ) (counts : List �
       let r = mem-columns h w c (size .0) .0 e in
       (r .0, r .1, omega (arith, r .0, r .1, size .0, size .1))
 
-  count-is : (c : ℕ) → Mem c (columns h w) → countIn counts c ≡ neighbourCount w h laid c
+  count-is : (c : ℕ) → Mem c (columns h w) → arrayCount counts c ≡ neighbourCount w h laid c
   count-is c e = ap (λ (l : List ℕ). getD l c 0) ec ∙ getD-listOf (neighbourCount w h laid) 256 c 0 (small c e .2)
 
   open-is : (c : ℕ) → Mem c (columns h w) → openIn m c ≡ freeIn w h m (positionOf c)
@@ -37,21 +37,21 @@ module _ (w h : ℕ) (ok : sizeOk w h ≡ true) (m laid : ℕ) (counts : List �
       (ap (λ (t : Bool). t && not (hasCell m (cellOf (positionOf c)))) (inside-iff w h (c / 16) (c % 16) .1 (r .1, r .0))
       ∙ ap (λ (n : ℕ). not (hasCell m n)) (cellOf-positionOf c))
 
-  best-is : bestOf (openIn m) (countIn counts) none (columns h w) ≡ chosenIn w h m laid
+  best-is : bestOf (openIn m) (arrayCount counts) none (columns h w) ≡ chosenIn w h m laid
   unfolding chosenIn
   best-is =
-      bestOf-ext (openIn m) (λ c. freeIn w h m (positionOf c)) (countIn counts) (neighbourCount w h laid) (columns h w) none open-is count-is
+      bestOf-ext (openIn m) (λ c. freeIn w h m (positionOf c)) (arrayCount counts) (neighbourCount w h laid) (columns h w) none open-is count-is
       (λ c e. let z : _≡_ {A = ℕ} 0 1 = cc in absurd (omega arith))
 
   -- the count that stands beside the cell is the cell's
-  found-count-is : (o : Option ℕ) → ((c : ℕ) → o ≡ some c → Mem c (columns h w)) → chosenAnswer (foundOf (countIn counts) o) ≡ given (withCountBy (neighbourCount w h laid) o)
-  unfolding withCountBy
+  found-count-is : (o : Option ℕ) → ((c : ℕ) → o ≡ some c → Mem c (columns h w)) → chosenAnswer (foundOf (arrayCount counts) o) ≡ given (cellWithCountBy (neighbourCount w h laid) o)
+  unfolding cellWithCountBy
   found-count-is none f = refl
   found-count-is (some c) f = ap (λ (n : ℕ). given (some (c, n))) (count-is c (f c refl))
 
-  pub found-is : (x : ChosenCell) → x ≡ foundOf (countIn counts) (bestOf (openIn m) (countIn counts) none (columns h w)) → chosenAnswer x ≡ chosenFor w h m laid
+  pub found-is : (x : ChosenCell) → x ≡ foundOf (arrayCount counts) (bestOf (openIn m) (arrayCount counts) none (columns h w)) → chosenAnswer x ≡ chosenFor w h m laid
   unfolding chosenFor
   found-is x ex =
-      ap chosenAnswer (ex ∙ ap (foundOf (countIn counts)) best-is)
-      ∙ found-count-is (chosenIn w h m laid) (λ c e. ⊎-elim (λ q. let z : _≡_ {A = ℕ} 0 1 = cc in absurd (omega arith)) (λ k. k) (best-among (openIn m) (countIn counts) none (columns h w) c (best-is ∙ e)))
+      ap chosenAnswer (ex ∙ ap (foundOf (arrayCount counts)) best-is)
+      ∙ found-count-is (chosenIn w h m laid) (λ c e. ⊎-elim (λ q. let z : _≡_ {A = ℕ} 0 1 = cc in absurd (omega arith)) (λ k. k) (best-among (openIn m) (arrayCount counts) none (columns h w) c (best-is ∙ e)))
       ∙ rw ok refl

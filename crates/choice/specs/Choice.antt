@@ -81,24 +81,24 @@ hasFour b = any (λ cell. isFree b cell && eqb (countOf b cell) 4) (columns (b .
 -- ---- `chosen_cell`
 
 -- a cell and its count
-unfoldable pub withCountBy : (ℕ → ℕ) → Option ℕ → Option (ℕ × ℕ)
-withCountBy count none = none
-withCountBy count (some cell) = some (cell, count cell)
+unfoldable pub cellWithCountBy : (ℕ → ℕ) → Option ℕ → Option (ℕ × ℕ)
+cellWithCountBy count none = none
+cellWithCountBy count (some cell) = some (cell, count cell)
 
 -- a cell and its neighbour count
-unfoldable pub withCount : Board → Option ℕ → Option (ℕ × ℕ)
-unfolding withCountBy neighbourCount
-withCount b o = withCountBy (countOf b) o
+unfoldable pub cellWithCount : Board → Option ℕ → Option (ℕ × ℕ)
+unfolding cellWithCountBy neighbourCount
+cellWithCount b o = cellWithCountBy (countOf b) o
 
 -- the chosen cell and its neighbour count; none for a full board
 unfoldable pub chosenCount : Board → Option (ℕ × ℕ)
-unfolding withCount chosen
-chosenCount b = withCount b (chosen b)
+unfolding cellWithCount chosen
+chosenCount b = cellWithCount b (chosen b)
 
 -- the same over numbers, none for a full board; refusal 4 for a size that no board has
 unfoldable pub chosenFor : ℕ → ℕ → ℕ → ℕ → Answer (Option (ℕ × ℕ))
-unfolding sizeOk withCountBy chosenIn neighbourCount
-chosenFor w h m laid = cond (sizeOk w h) (given (withCountBy (neighbourCount w h laid) (chosenIn w h m laid))) (refused 4)
+unfolding sizeOk cellWithCountBy chosenIn neighbourCount
+chosenFor w h m laid = cond (sizeOk w h) (given (cellWithCountBy (neighbourCount w h laid) (chosenIn w h m laid))) (refused 4)
 
 abbrev pub chosenAnswer : ChosenCell → Answer (Option (ℕ × ℕ))
 chosenAnswer (H.Cell cell count) = given (some (cell, count))

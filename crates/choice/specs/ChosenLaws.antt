@@ -19,7 +19,7 @@ use Rattle.rectangle.specs.Board.{marks, valid, freeIn, sizeOk, Board, position
 use Rattle.rectangle.specs.BoardLaws.{full-none, none-full, valid-width, valid-height, free-inside, freeIn-freeAt, valid-size}
 use Rattle.choice.specs.declared.ChosenCell.{ChosenCell}
 use Rattle.choice.specs.declared.ChosenCell.the-variants as H
-use Rattle.choice.specs.Choice.{chosenCount, withCount, chosenAnswer, countOf, columns, higher, bestOf, chosen, hasFour, Earlier, Best, chosenIn, chosenFor}
+use Rattle.choice.specs.Choice.{chosenCount, cellWithCount, chosenAnswer, countOf, columns, higher, bestOf, chosen, hasFour, Earlier, Best, chosenIn, chosenFor}
 use Rattle.choice.specs.CountLaws.{count-le}
 
 -- ---- the order of cells
@@ -275,7 +275,7 @@ module _ (b : Board) (wide : b .width ≤ 16) (high : b .height ≤ 16) where
 
 -- the chosen cell of an accepted board
 pub chosenFor-is : (b : Board) → valid b ≡ true → chosenFor (b .width) (b .height) (marks b) (b .laid) ≡ given (chosenCount b)
-unfolding chosenFor chosenCount withCount
+unfolding chosenFor chosenCount cellWithCount
 chosenFor-is b ok =
     rw (valid-size b ok, chosenIn-is b (valid-width b ok) (valid-height b ok)) refl
 
@@ -293,10 +293,10 @@ given-pair c n d k e =
 
 module _ (b : Board) (x : ChosenCell) (ex : chosenAnswer x ≡ given (chosenCount b)) where
   pub found-full : x ≡ H.Full → chosen b ≡ none
-  unfolding chosenCount withCount
+  unfolding chosenCount cellWithCount
   found-full e = go (chosen b) (sym (ap chosenAnswer e) ∙ ex)
     where
-      go : (o : Option ℕ) → given none ≡ given (withCount b o) → o ≡ none
+      go : (o : Option ℕ) → given none ≡ given (cellWithCount b o) → o ≡ none
       go none q = refl
       go (some c) q = let z : _≡_ {A = ℕ} 0 1 = cc in absurd (omega arith)
 
@@ -308,10 +308,10 @@ module _ (b : Board) (x : ChosenCell) (ex : chosenAnswer x ≡ given (chosenCoun
 
   module _ (cell n : ℕ) (e : x ≡ H.Cell cell n) where
     told : (chosen b ≡ some cell) × (n ≡ countOf b cell)
-    unfolding chosenCount withCount
+    unfolding chosenCount cellWithCount
     told = go (chosen b) (sym (ap chosenAnswer e) ∙ ex)
       where
-        go : (o : Option ℕ) → given (some (cell, n)) ≡ given (withCount b o) → (o ≡ some cell) × (n ≡ countOf b cell)
+        go : (o : Option ℕ) → given (some (cell, n)) ≡ given (cellWithCount b o) → (o ≡ some cell) × (n ≡ countOf b cell)
         go none q = let z : _≡_ {A = ℕ} 0 1 = cc in absurd (omega arith)
         go (some c) q =
             let s = given-pair cell n c (countOf b c) q in

@@ -1,5 +1,5 @@
 -- Laws of neighbour counts: a count is at most 4, 0 outside the rectangle, and 4 only where every edge neighbour on the board is laid.
--- Rests on `Children`. Assumes nothing.
+-- Rests on `Choice`. Assumes nothing.
 use mathlib.Core.Path.{_≡_, refl, ap, _∙_}
 use mathlib.Core.Bool.{Bool, true, false, So, not, _&&_, _||_, and-false, false≢true}
 use Prim.Native.Nat.{ℕ, zero, suc, _+_, _/_, _%_, _≤_, _<_}

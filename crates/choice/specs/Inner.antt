@@ -11,8 +11,8 @@ use Rattle.choice.specs.declared.ChosenCell.the-variants as H
 use Rattle.choice.specs.Choice.{bestOf}
 
 -- the count of a cell in an array of counts
-abbrev pub countIn : List ℕ → ℕ → ℕ
-countIn counts cell = getD counts cell 0
+abbrev pub arrayCount : List ℕ → ℕ → ℕ
+arrayCount counts cell = getD counts cell 0
 
 -- the cells that are none of some marks
 abbrev pub openIn : ℕ → ℕ → Bool
@@ -25,4 +25,4 @@ foundOf count (some cell) = H.Cell cell (count cell)
 
 -- the best of a list by an array of counts and some marks, if the best before it is told by first
 abbrev pub Looked : ℕ → List ℕ → ChosenCell → List ℕ → ChosenCell → Type 0
-Looked m counts first cells best = (o : Option ℕ) → first ≡ foundOf (countIn counts) o → best ≡ foundOf (countIn counts) (bestOf (openIn m) (countIn counts) o cells)
+Looked m counts first cells best = (o : Option ℕ) → first ≡ foundOf (arrayCount counts) o → best ≡ foundOf (arrayCount counts) (bestOf (openIn m) (arrayCount counts) o cells)

@@ -8,7 +8,7 @@ ghost use Prim.Native.Nat.{_+_, _*_, _≤_, _<_};
 ghost use Rattle.cells.specs.Words.{number};
 ghost use Rattle.cells.specs.Arrays.{listOf};
 ghost use Rattle.choice.specs.Choice.{columns, bestOf};
-ghost use Rattle.choice.specs.Inner.{countIn, openIn, foundOf, Looked};
+ghost use Rattle.choice.specs.Inner.{arrayCount, openIn, foundOf, Looked};
 
 // One cell more is looked at.
 fn look_at(marks: Cells, counts: &[u8; 256], best: ChosenCell, cell: usize) -> ChosenCell
@@ -54,7 +54,7 @@ fn scan_column(
 // The free cell with the highest count, the first by columns and then by rows.
 pub fn choose(marks: Cells, counts: &[u8; 256], width: usize, height: usize) -> ChosenCell
     requires { ⌜ (width ≤ 16) × (height ≤ 16) ⌝ }
-    ensures { λ r. ⌜ r ≡ foundOf (countIn (now (counts .entry))) (bestOf (openIn (number marks)) (countIn (now (counts .entry))) none (columns height width)) ⌝ }
+    ensures { λ r. ⌜ r ≡ foundOf (arrayCount (now (counts .entry))) (bestOf (openIn (number marks)) (arrayCount (now (counts .entry))) none (columns height width)) ⌝ }
 {
     let mut found = ChosenCell::Full;
     let mut col = 0;

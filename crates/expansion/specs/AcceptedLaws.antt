@@ -1,7 +1,7 @@
 -- What is read of a board and tiles: both are accepted, or the refusal has a number above 0. Where neither is refused their setting meets the laws of
 -- `covers`, each piece takes equally many free cells, and the start is one of its boards. Rests on `SettingLaws` and
 -- the laws of `tiles` and `board`. Assumes nothing.
-use mathlib.Core.Path.{_≡_, refl, sym, ap, _∙_, subst}
+use mathlib.Core.Path.{_≡_, refl, sym, ap, ap₂, _∙_}
 use mathlib.Core.Bool.{Bool, true, false, cond}
 use mathlib.Core.List.{List, List·Memᴰ as Mem}
 use Prim.Native.Nat.{ℕ, _^_, _<_}
@@ -13,15 +13,16 @@ use Rattle.cells.specs.WordLaws.{number-lt}
 use Rattle.cells.specs.Arrays.{allBelow}
 use Rattle.tiles.specs.declared.Tiles.{Tiles}
 use Rattle.refusal.specs.Refusal.{Answer, refused, given, mapAnswer, bindAnswer, refusalOf}
-use Rattle.refusal.specs.RefusalLaws.{refused-given, given-inj}
+use Rattle.refusal.specs.RefusalLaws.{refused-given, map-given, bind-given, refuses-bind, refuses-map}
 use Rattle.tile.specs.Path.{Path, cellCount}
 use Rattle.tiles.specs.Paths.{EqualCounts, equalCounts, sharedCount}
 use Rattle.tiles.specs.Stored.{soundAt, pathsIn, readTiles, readEqualTiles}
 use Rattle.tile.specs.PathLaws.{cellCount-pos}
 use Rattle.tiles.specs.EqualLaws.{sharedCount-mem, readEqualTiles-given}
 use Rattle.board.specs.declared.RectangularBoard.{RectangularBoard}
-use Rattle.rectangle.specs.Board.{Board, boardAt, isFull, valid, acceptBoard, freeCount}
+use Rattle.rectangle.specs.Board.{Board, boardAt, isFull, freeCount}
 use Rattle.board.specs.Board.{boardOf, readBoard}
+use Rattle.board.specs.BoardLaws.{readBoard-is, readBoard-positive}
 use Rattle.covers.specs.Cuttings.{Laws, EqualSteps}
 use Rattle.expansion.specs.Plots.{readPlot, Accepted, stepOf}
 use Rattle.expansion.specs.Boards.{setting, settingOf, startOf}
@@ -30,17 +31,13 @@ use Rattle.expansion.specs.SettingLaws.{setting-laws, setting-steps, sta
 -- ---- what is read
 
 pub read-accepted : (b : RectangularBoard) (ts : Tiles) (p : Board × List Path) → readPlot b ts ≡ given p → (p ≡ (boardOf b, pathsIn ts)) × Accepted b ts
-unfolding readPlot readBoard acceptBoard bindAnswer mapAnswer
-read-accepted b ts p e = go (valid (boardOf b)) refl (readEqualTiles ts) refl e
-  where
-    go : (t : Bool) → valid (boardOf b) ≡ t → (a : Answer (List Path)) → readEqualTiles ts ≡ a
-        → bindAnswer (cond t (given (boardOf b)) (refused 4)) (λ board. mapAnswer (λ (paths : List Path). (board, paths)) a) ≡ given p
-        → (p ≡ (boardOf b, pathsIn ts)) × Accepted b ts
-    go false v a q f = absurd (refused-given 4 p f)
-    go true v (refused n) q f = absurd (refused-given n p f)
-    go true v (given paths) q f =
-        let r = readEqualTiles-given ts paths q .1 in
-        (sym (given-inj (boardOf b, paths) p f) ∙ ap (λ (ps : List Path). (boardOf b, ps)) r, record { board = v; tiles = q ∙ ap given r })
+unfolding readPlot
+read-accepted b ts p e =
+    let x = bind-given (readBoard b) (λ board. mapAnswer (λ (paths : List Path). (board, paths)) (readEqualTiles ts)) p e in
+    let y = map-given (λ (paths : List Path). (x .0, paths)) (readEqualTiles ts) p (x .2) in
+    let board = readBoard-is b (x .0) (x .1) in
+    let tiles = readEqualTiles-given ts (y .0) (y .1) .1 in
+    (sym (y .2) ∙ ap₂ (λ (d : Board) (ps : List Path). (d, ps)) (sym (board .0)) tiles, record { board = board .1; tiles = y .1 ∙ ap given tiles })
 
 -- an answer that is given comes from board and tiles that are not refused
 pub from-read : {A : Type 0} (b : RectangularBoard) (ts : Tiles) (f : Board × List Path → Answer A) (x : A) → bindAnswer (readPlot b ts) f ≡ given x
@@ -69,14 +66,10 @@ module _ (b : RectangularBoard) (ts : Tiles) where
       go false u h = omega (arith, ap refusalOf h)
 
   pub plot-refusal : (n : ℕ) → readPlot b ts ≡ refused n → 0 < n
-  unfolding readPlot readBoard acceptBoard bindAnswer mapAnswer refusalOf
-  plot-refusal n e = go (valid (boardOf b)) (readEqualTiles ts) refl e
-    where
-      go : (t : Bool) (a : Answer (List Path)) → readEqualTiles ts ≡ a
-          → bindAnswer {B = Board × List Path} (cond t (given (boardOf b)) (refused 4)) (λ board. mapAnswer (λ (paths : List Path). (board, paths)) a) ≡ refused n → 0 < n
-      go false a q h = omega (arith, ap refusalOf h)
-      go true (refused k) q h = subst (λ (x : ℕ). 0 < x) (ap refusalOf h) (tiles-refusal k q)
-      go true (given paths) q h = absurd (refused-given n (boardOf b, paths) (sym h))
+  unfolding readPlot
+  plot-refusal =
+      refuses-bind (λ n. 0 < n) (readBoard b) (λ board. mapAnswer (λ (paths : List Path). (board, paths)) (readEqualTiles ts)) (readBoard-positive b)
+      (λ board. refuses-map (λ n. 0 < n) (λ (paths : List Path). (board, paths)) (readEqualTiles ts) tiles-refusal)
 
 -- ---- the setting
 

@@ -1,5 +1,5 @@
 -- Laws of cuttings: those of the setting's start are those of the board and the tiles; under demand 3's condition on tiles only boards without a cutting
--- are pruned; and the numbers below the graph count number the cuttings. Rests on `SettingLaws`, `AcceptedLaws`, `PruneLaws` and
+-- are pruned; and the numbers below the graph count number the cuttings. Rests on `SettingLaws`, `AcceptedLaws`, children's `PruneLaws` and
 -- covers' `Theorems`. Assumes nothing.
 use mathlib.Core.Path.{_≡_, refl, sym, subst}
 use mathlib.Core.Logic.{_⊎_, inl, inr, _↔_}

@@ -1,7 +1,7 @@
 -- The boards of a start and some tiles meet the laws of `covers`: the laws of a setting, and equal steps where all tiles have as many cells. Their
 -- children are those of `place_tile`, and the start is one of them. Rests on the laws of `rectangle`, `fit`,
 -- `choice` and `children`. Assumes nothing.
-use mathlib.Core.Path.{_≡_, refl, sym, ap, _∙_, subst}
+use mathlib.Core.Path.{_≡_, refl, sym, ap, _∙_, subst, fun-ext}
 use mathlib.Core.Logic.{_↔_}
 use mathlib.Core.Bool.{Bool, true, false, So, not, cond, _&&_, false≢true}
 use mathlib.Core.List.{List, [], map, List·Memᴰ as Mem, List·Memᴰ·not-nil as not-nil}
@@ -10,17 +10,16 @@ use Prim.Native.Nat.{ℕ, _+_, _-_, _^_, _≤_, _<_}
 use native.Mathlib.Nat.{lt-of-le-of-lt}
 use native.Mathlib.Decide.{decLt}
 use native.Mathlib.Omega.{arith}
-use borrow.Author.Tests.{eqb-false}
 use Rattle.cells.specs.Set.{bit, hasCell, fromBits, unionOf, Disjoint, Within, size}
 use Rattle.cells.specs.BitLaws.{bit-le, bit-ext, bit-high, bit-add, fromBits-lt, bit-fromBits}
-use Rattle.cells.specs.SetLaws.{within-le, hasCell-iff, bit-unionOf, unionOf-lt, unionOf-disjoint, bit-sub, digit}
+use Rattle.cells.specs.SetLaws.{within-le, hasCell-iff, bit-unionOf, unionOf-lt, unionOf-disjoint, bit-sub, digit, bit-free}
 use Rattle.cells.specs.Firsts.{Once}
 use Rattle.cells.specs.MemberLaws.{eqb-tells}
 use Rattle.tile.specs.Path.{Path, cellCount}
 use Rattle.rectangle.specs.Board.{Board, boardAt, marks, isFree, isFull, valid, freeCount, lay}
 use Rattle.fit.specs.Fit.{IsPiece, pieces}
 use Rattle.choice.specs.Choice.{chosen}
-use Rattle.children.specs.Children.{pruned, childrenOn, children}
+use Rattle.children.specs.Children.{pruned, childrenOn, children, childrenAt}
 use Rattle.rectangle.specs.BoardLaws.{marks-lt, none-full, full-none, valid-width, valid-height, valid-disjoint}
 use Rattle.choice.specs.ChosenLaws.{chosen-best, chosen-none}
 use Rattle.fit.specs.PieceLaws.{mem-pieces, once-pieces}
@@ -43,6 +42,10 @@ children-are b paths n = go (pruned (boardAt b n) paths) (chosen (boardAt b n))
     go false none = refl
     go false (some cell) = refl
 
+-- and so they are as functions of the number
+pub same-children : (b : Board) (paths : List Path) → childBoards (setting b paths) ≡ childrenAt b paths
+same-children b paths = fun-ext (children-are b paths)
+
 -- a piece of the setting is a piece on the chosen cell
 piece-on : (b : Board) (paths : List Path) (p : ℕ) (t : Bool) (c : Option ℕ) → Mem p (cond t [] (piecesOn b paths c)) → (cell : ℕ) × (c ≡ some cell) × Mem p (pieces b paths cell)
 unfolding piecesOn
@@ -55,10 +58,6 @@ unfolding piecesOn
 once-on b paths true c = tt
 once-on b paths false none = tt
 once-on b paths false (some cell) = once-pieces b paths cell
-
-no-cell : (n c : ℕ) → hasCell n c ≡ false → bit n c ≡ 0
-unfolding hasCell
-no-cell n c e = let d = eqb-false (bit n c) 1 e in omega (arith, bit-le n c)
 
 -- ---- a board and its number. A mark past cell 255 is none that `valid` sees, so the start's numbers are asked to be below 2 ^ 256
 
@@ -113,8 +112,8 @@ module _ (b : Board) (paths : List Path) (n : ℕ) (ok : From b n) where
 
         go : (c : ℕ) (s : Bool) → hasCell (n + p) c ≡ s → (t : Bool) → hasCell n c ≡ t → cond (s && not t) 1 0 ≡ bit p c
         go c true e true f = omega (arith, hasCell-iff n c .0 f, bit-le p c, lay-apart c)
-        go c true e false f = omega (arith, hasCell-iff (n + p) c .0 e, no-cell n c f, bit-add c n p lay-apart)
-        go c false e t f = omega (arith, no-cell (n + p) c e, bit-add c n p lay-apart)
+        go c true e false f = omega (arith, hasCell-iff (n + p) c .0 e, bit-free n c f, bit-add c n p lay-apart)
+        go c false e t f = omega (arith, bit-free (n + p) c e, bit-add c n p lay-apart)
 
 -- ---- the laws
 

@@ -6,7 +6,6 @@ use mathlib.Core.List.{List, [], _∷_, _++_, flatMap, append-nil}
 use Prim.Native.Nat.{ℕ, zero, suc, _+_, _-_, _*_, _≤_, _<_}
 use native.Mathlib.Numerals.{add-one}
 use native.Mathlib.Omega.{arith}
-use lib.Dec.{leb}
 use lib.IntN.{pos}
 use lib.ListN.{length, getD, drop, drop-of-length-le}
 use lib.Seq.{drop-cons}
@@ -22,10 +21,11 @@ use Rattle.direction.specs.Position.{Position, at, shift}
 use Rattle.direction.specs.Direction.{step, opposite, onCode, codeAnswer}
 use Rattle.direction.specs.DirectionLaws.{onCode-given, opposite-lt}
 use Rattle.tile.specs.Path.{codesOk, isPath, Path}
+use Rattle.tile.specs.StoredLaws.{isPath-is}
 use Rattle.rectangle.specs.declared.Place.{Place}
 use Rattle.rectangle.specs.declared.Place.the-variants as P
 use Rattle.rectangle.specs.Board.{cellOf, inside, freeIn}
-use Rattle.rectangle.specs.Place.{placeIf, placeAfter}
+use Rattle.rectangle.specs.Place.{placeAnswer, placeIf, placeAfter}
 use Rattle.rectangle.specs.BoardLaws.{inside-iff}
 use Rattle.rectangle.specs.PlaceLaws.{Placed, place-false, place-placed, place-true, placed, placed-cell, placeAfter-is}
 use Rattle.fit.specs.declared.Fit.{Fit}
@@ -35,32 +35,31 @@ use Rattle.fit.specs.Inner.{back, onward, walked}
 use Rattle.fit.specs.FitLaws.{cover-free, cover-blocked, cover-end, cover-append, walked-moved}
 
 -- one step from a place of a board leads to the place at the position one step on
-pub walk-step : (w h row col code : ℕ) (x : Place) → x ≡ placeAfter w h row col code → w ≤ 16 → h ≤ 16 → row < h → col < w → code < 8 → x ≡ placeIf (inside w h) (shift (at (pos row) (pos col)) (step code))
+pub walk-step : (w h row col code : ℕ) (x : Place) → placeAnswer x ≡ placeAfter w h row col code → w ≤ 16 → h ≤ 16 → row < h → col < w → code < 8 → placeAnswer x ≡ placeIf (inside w h) (shift (at (pos row) (pos col)) (step code))
 walk-step w h row col code x e a b r c k = e ∙ placeAfter-is w h row col code (omega arith) (omega arith) k
 
 -- the codes of a path are directions
 pub path-codes : (codes : List ℕ) → isPath codes ≡ true → So (codesOk codes)
-unfolding isPath
-path-codes codes e = and-eq-true-iff (leb (length codes) 32) (codesOk codes) .0 e .1
+path-codes codes e = isPath-is codes e .1
 
 -- ---- the place one step on, if it has no mark
 
-module _ (w h m : ℕ) (p : Position) (x : Place) (e : x ≡ placeIf (inside w h) p) where
-  pub free-nowhere : x ≡ P.Nowhere → P.Nowhere ≡ placeIf (freeIn w h m) p
+module _ (w h m : ℕ) (p : Position) (x : Place) (e : placeAnswer x ≡ placeIf (inside w h) p) where
+  pub free-nowhere : x ≡ P.Nowhere → placeAnswer P.Nowhere ≡ placeIf (freeIn w h m) p
   unfolding placeIf freeIn
-  free-nowhere f = rw (place-false (inside w h) p (sym f ∙ e))
+  free-nowhere f = rw (place-false (inside w h) p (sym (ap placeAnswer f) ∙ e))
 
-  pub free-marked : (r c : ℕ) → x ≡ P.At r c → hasCell m (16 * r + c) ≡ true → P.Nowhere ≡ placeIf (freeIn w h m) p
+  pub free-marked : (r c : ℕ) → x ≡ P.At r c → hasCell m (16 * r + c) ≡ true → placeAnswer P.Nowhere ≡ placeIf (freeIn w h m) p
   unfolding placeIf freeIn
   free-marked r c f t = let s = place-placed w h p r c x e f in rw (s .is-inside, placed-cell w h p r c s, t)
 
-  pub free-open : (r c : ℕ) → x ≡ P.At r c → hasCell m (16 * r + c) ≡ false → P.At r c ≡ placeIf (freeIn w h m) p
+  pub free-open : (r c : ℕ) → x ≡ P.At r c → hasCell m (16 * r + c) ≡ false → placeAnswer (P.At r c) ≡ placeIf (freeIn w h m) p
   unfolding placeIf freeIn
   free-open r c f t =
       let s = place-placed w h p r c x e f in
       rw (s .is-inside, placed-cell w h p r c s, t, s .is-at)
 
-pub freeIn-placed : (w h m : ℕ) (p : Position) (r c : ℕ) → P.At r c ≡ placeIf (freeIn w h m) p → Placed w h p r c
+pub freeIn-placed : (w h m : ℕ) (p : Position) (r c : ℕ) → placeAnswer (P.At r c) ≡ placeIf (freeIn w h m) p → Placed w h p r c
 unfolding freeIn
 freeIn-placed w h m p r c e =
     let s = place-true (freeIn w h m) p r c e in
@@ -111,17 +110,17 @@ pub record Walking (whole rest : List ℕ) (w h r c i n : ℕ) : Type 0 where
 
 module _ (w h m : ℕ) (whole : List ℕ) (s : Cells) (l : List Position) (r c i n : ℕ) (k : Walking whole (cover (freeIn w h m) (number s) l) w h r c i n) where
   -- the next place is not free
-  pub walk-stops : (p : Position) (ps : List Position) (x : Place) → l ≡ p ∷ ps → x ≡ placeIf (freeIn w h m) p → x ≡ P.Nowhere → [] ≡ whole
+  pub walk-stops : (p : Position) (ps : List Position) (x : Place) → l ≡ p ∷ ps → placeAnswer x ≡ placeIf (freeIn w h m) p → x ≡ P.Nowhere → [] ≡ whole
   walk-stops p ps x e f g =
-      sym (cover-blocked (freeIn w h m) (number s) p ps (place-false (freeIn w h m) p (sym g ∙ f)))
+      sym (cover-blocked (freeIn w h m) (number s) p ps (place-false (freeIn w h m) p (sym (ap placeAnswer g) ∙ f)))
       ∙ ap (cover (freeIn w h m) (number s)) (sym e)
       ∙ k .same
 
   -- it is free
-  pub walk-goes : (p : Position) (next : Position → List Position) (x : Place) → l ≡ p ∷ next p → x ≡ placeIf (freeIn w h m) p → (a b : ℕ) → x ≡ P.At a b → (t : Cells) → number t ≡ withCell (number s) (16 * a + b) → (j : ℕ) → j ≤ n → Walking whole (cover (freeIn w h m) (number t) (next (at (pos a) (pos b)))) w h a b j n
+  pub walk-goes : (p : Position) (next : Position → List Position) (x : Place) → l ≡ p ∷ next p → placeAnswer x ≡ placeIf (freeIn w h m) p → (a b : ℕ) → x ≡ P.At a b → (t : Cells) → number t ≡ withCell (number s) (16 * a + b) → (j : ℕ) → j ≤ n → Walking whole (cover (freeIn w h m) (number t) (next (at (pos a) (pos b)))) w h a b j n
   walk-goes p next x e f a b g t u j v =
-      let o = freeIn-placed w h m p a b (sym g ∙ f) in
-      let free = place-true (freeIn w h m) p a b (sym g ∙ f) .0 in
+      let o = freeIn-placed w h m p a b (sym (ap placeAnswer g) ∙ f) in
+      let free = place-true (freeIn w h m) p a b (sym (ap placeAnswer g) ∙ f) .0 in
       record {
         row = o .row;
         col = o .col;

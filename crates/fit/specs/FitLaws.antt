@@ -1,5 +1,5 @@
 -- Laws of fits: a list of positions is covered position by position; which cells the set has; lists of the same positions give the same set; so the
--- walk from point j of a path, back and on, covers what the tile's cells do. Rests on `SetLaws`, `PathLaws` and `FirstsLaws`. Assumes nothing.
+-- walk from point j of a path, back and on, covers what the tile's cells do. Rests on cells' `SetLaws` and `FirstsLaws` and tile's `PathLaws`. Assumes nothing.
 use mathlib.Core.Path.{_≡_, refl, sym, ap, ap₂, _∙_, subst}
 use mathlib.Core.Logic.{_⊎_, inl, inr, _↔_, ⊎-elim}
 use mathlib.Core.Bool.{Bool, true, false, So, not, cond}

@@ -14,14 +14,14 @@ ghost use Rattle.direction.specs.Position.{at, shift};
 ghost use Rattle.direction.specs.Direction.{step, opposite};
 ghost use Rattle.tile.specs.Path.{codesOk};
 ghost use Rattle.rectangle.specs.Board.{freeIn};
-ghost use Rattle.rectangle.specs.Place.{placeIf};
+ghost use Rattle.rectangle.specs.Place.{placeAnswer, placeIf};
 ghost use Rattle.fit.specs.Fit.{cover, moved, offset, pointAt, fitPieces};
 ghost use Rattle.fit.specs.Inner.{back, onward};
 
 // Where one step from a place leads, if that place has no mark.
 fn free_step(marks: Cells, width: usize, height: usize, row: usize, col: usize, code: u8) -> Place
     requires { ⌜ (width ≤ 16) × (height ≤ 16) × (row < height) × (col < width) × (code < 8) ⌝ }
-    ensures { λ r. ⌜ r ≡ placeIf (freeIn width height (number marks)) (shift (at (pos row) (pos col)) (step code)) ⌝ }
+    ensures { λ r. ⌜ placeAnswer r ≡ placeIf (freeIn width height (number marks)) (shift (at (pos row) (pos col)) (step code)) ⌝ }
 {
     let place = rectangle::move_in_direction(width, height, row, col, code);
     let Place::At(r, c) = place else {

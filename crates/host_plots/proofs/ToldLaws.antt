@@ -1,5 +1,5 @@
 -- What `place_tile`, `orbit` and `read_plot` of the lower crates answer, as the words and bytes that a host is told. Rests on host_words' `AnswerLaws`,
--- host_tiles' `TileByteLaws`, tile's `StoredLaws` and `OrbitLaws` and plot_file's `Theorems`. Assumes nothing.
+-- host_tiles' `TileByteLaws`, tile's `StoredLaws`, tiles' `StoredLaws` and `OrbitLaws` and plot_file's `Theorems`. Assumes nothing.
 use mathlib.Core.Path.{_≡_, refl, sym, ap, _∙_, subst}
 use mathlib.Core.List.{List, [], _∷_}
 use Prim.Native.Nat.{ℕ, _≤_}
@@ -16,6 +16,7 @@ use Rattle.tile.specs.Path.{Path}
 use Rattle.tiles.specs.Paths.{orbit}
 use Rattle.tiles.specs.Stored.{Storable, tilesOf, MakesTiles}
 use Rattle.tile.specs.Stored.{readTile}
+use Rattle.tile.specs.StoredLaws.{readTile-is}
 use Rattle.tiles.specs.StoredLaws.{count-tilesOf}
 use Rattle.tiles.specs.OrbitLaws.{orbit-length-le, orbit-length-path, orbit-codesOk}
 use Rattle.board.specs.declared.RectangularBoard.{RectangularBoard}
@@ -34,7 +35,6 @@ use Rattle.host_words.specs.AnswerLaws.{numbers-zero, numbers-one, tells-one, t
 use Rattle.host_tiles.specs.TileBytes.{bytesFor, structBytes}
 use Rattle.host_tiles.specs.TileByteLaws.{stored-bytes, none-storable}
 use Rattle.host_plots.specs.Calls.{AnswersChildren, AnswersTiles, AnswersPlot}
-use Rattle.host_plots.specs.CallLaws.{read-path}
 
 -- ---- `place_tile`
 
@@ -55,7 +55,7 @@ orbit-fine : (t : Tile) (a : Answer Path) → readTile t ≡ a → (length (valu
 unfolding valueOr mapAnswer
 orbit-fine t (refused n) e = (omega arith, none-storable)
 orbit-fine t (given p) e =
-    let ok = read-path t p e in
+    let ok = readTile-is t p e in
     (omega (arith, orbit-length-le p), λ q m. (subst (λ (n : ℕ). n ≤ 32) (sym (orbit-length-path p q m)) (ok .0), orbit-codesOk p q (ok .1) m))
 
 -- a plot's tiles, and no tiles after a refusal

@@ -1,17 +1,7 @@
--- Laws of the shapes of a tile with its orbit and of what a plot file is read into, cause by cause; and what a tile that is read is. Rests on `Calls` and
--- tile's `StoredLaws`. Assumes nothing.
-use mathlib.Core.Path.{_≡_, sym, ap, _∙_, subst}
-use mathlib.Core.Bool.{So}
+-- Laws of the shapes of a tile with its orbit and of what a plot file is read into, cause by cause. Rests on `Calls`. Assumes nothing.
+use mathlib.Core.Path.{_≡_}
 use Prim.Native.Nat.{ℕ, _≤_, _<_}
-use native.Mathlib.Omega.{arith}
-use lib.ListN.{length}
 use borrow.Author.Tests.{eq-eqb, ne-eqb, le-leb, lt-leb}
-use Rattle.refusal.specs.Refusal.{given, refusalOf}
-use Rattle.refusal.specs.RefusalLaws.{given-inj}
-use Rattle.tile.specs.declared.Tile.{Tile}
-use Rattle.tile.specs.Path.{Path, codesOk}
-use Rattle.tile.specs.Stored.{readTile, pathIn}
-use Rattle.tile.specs.StoredLaws.{readTile-accepted, readTile-given, length-pathIn}
 use Rattle.host_plots.specs.Calls.{orbitShape, fileShape}
 
 -- ---- a tile and its orbit
@@ -51,13 +41,3 @@ module _ (board tiles answer : ℕ) where
   pub file-right : 10 ≤ board → 2112 ≤ tiles → 1 ≤ answer → 0 ≡ fileShape board tiles answer
   unfolding fileShape
   file-right b t a = rw (le-leb 10 board b, le-leb 2112 tiles t, le-leb 1 answer a)
-
--- ---- a tile that is read
-
--- a tile that is not refused is a path of at most 32 codes
-pub read-path : (t : Tile) (p : Path) → readTile t ≡ given p → (length p ≤ 32) × So (codesOk p)
-unfolding refusalOf
-read-path t p e =
-    let ok = readTile-accepted t (sym (ap refusalOf e)) in
-    let is : p ≡ pathIn t = given-inj p (pathIn t) (sym e ∙ readTile-given t (ok .0) (ok .1)) in
-    (subst (λ (q : Path). length q ≤ 32) (sym is) (omega (arith, length-pathIn t, ok .0)), subst (λ (q : Path). So (codesOk q)) (sym is) (ok .1))

@@ -1,5 +1,5 @@
 -- Laws of the bytes of tiles: byte by byte of a struct, and that the bytes of tiles that are stored with zeros behind are those of the tiles. Rests on
--- `TileBytes`, cells' `ArrayLaws` and tile's `StoredLaws`. Assumes nothing.
+-- `TileBytes`, cells' `ArrayLaws` and tiles' `StoredLaws`. Assumes nothing.
 use mathlib.Core.Path.{_≡_, refl, sym, ap, ap₂, _∙_}
 use mathlib.Core.Bool.{Bool, true, false, cond}
 use mathlib.Core.List.{List, [], List·Memᴰ·not-nil as not-nil}

@@ -15,6 +15,7 @@ use Rattle.tile.specs.Path.{Path}
 use Rattle.tiles.specs.Paths.{orbit}
 use Rattle.tile.specs.Stored.{readTile}
 use Rattle.tiles.specs.Stored.{readTiles}
+use Rattle.tile.specs.StoredLaws.{readTile-is}
 use Rattle.tiles.specs.StoredLaws.{readTiles-orbit}
 use Rattle.tiles.specs.OrbitLaws.{orbit-length-le}
 use Rattle.board.specs.Board.{readBoard}
@@ -33,7 +34,6 @@ use Rattle.host_words.specs.Answers.{AnswersWords}
 use Rattle.host_words.specs.LayoutLaws.{plot-right}
 use Rattle.host_tiles.specs.TileBytes.{tileIn, tilesIn, bytesFor}
 use Rattle.host_plots.specs.Calls.{orbitShape, fileShape, orbitFor, AnswersTiles, readFile, AnswersPlot}
-use Rattle.host_plots.specs.CallLaws.{read-path}
 use Rattle.host_counts.specs.Calls.{counted, AnswersCount, generated, AnswersGraph}
 use Rattle.host_tilings.specs.Calls.{tilingShape}
 use Rattle.host_tilings.specs.CallLaws.{tiling-right}
@@ -68,7 +68,7 @@ module _ (tile tiles answer tiles′ answer′ : List ℕ) (told : AnswersTiles 
       ap (λ (ws : List ℕ). getD ws 0 0) (words-given (λ ps. length ps ∷ []) (orbitFor tile (length tiles) (length answer)) (orbit (m .0)) answer answer′ 0 e (told .answered))
       ∙ number-at (length (orbit (m .0)) ∷ []) (length answer) 0 (lent .2) in
       let left : tiles′ ≡ bytesFor (orbit (m .0)) (length tiles) = told .tilesLeft ∙ ap (λ (a : Answer (List Path)). bytesFor (valueOr [] a) (length tiles)) e in
-      let fine = read-path (tileIn tile) (m .0) (m .1) in (
+      let fine = readTile-is (tileIn tile) (m .0) (m .1) in (
         m .0,
         m .1,
         number,

@@ -1,6 +1,6 @@
 -- Laws of what stands in lent words and bytes, read again by another call: a board's ten words, the bytes of tiles, the four words of a graph's result, and a
--- count's two words. Rests on cells' `WordLaws` and `ArrayLaws`, tile's `StoredLaws` and graph's `GraphLaws`. Assumes nothing.
-use mathlib.Core.Path.{_≡_, refl, sym, ap, ap₂, _∙_, subst}
+-- count's two words. Rests on cells' `WordLaws` and `ArrayLaws`, tiles' `StoredLaws`, board's `BoardLaws` and graph's `GraphLaws`. Assumes nothing.
+use mathlib.Core.Path.{_≡_, refl, sym, ap, _∙_, subst}
 use mathlib.Core.Bool.{Bool, true, false, cond}
 use mathlib.Core.List.{List, []}
 use mathlib.Core.Option.{Option, none, some}
@@ -12,19 +12,17 @@ use lib.Dec.{eqb, lit<, lit≤}
 use lib.ListN.{length, getD, take, drop, List·getD-eq-default}
 use lib.Seq.{getD-take, getD-drop, length-take-le}
 use borrow.Author.Tests.{ne-eqb}
-use Rattle.cells.specs.declared.Cells.{Cells}
-use Rattle.cells.specs.Words.{value, wordsBelow, wordsOf, Small, number}
-use Rattle.cells.specs.WordLaws.{value-wordsBelow, value-wordsOf}
+use Rattle.cells.specs.Words.{value, wordsBelow, wordsOf, Small}
+use Rattle.cells.specs.WordLaws.{value-wordsBelow}
 use Rattle.cells.specs.Arrays.{listOf}
 use Rattle.cells.specs.ArrayLaws.{length-listOf, getD-listOf, listOf-ext}
 use Rattle.tile.specs.Path.{Path}
 use Rattle.tiles.specs.Stored.{Storable, readTiles, tilesOf}
 use Rattle.tiles.specs.StoredLaws.{readTiles-tilesOf}
 use Rattle.refusal.specs.Refusal.{given}
-use Rattle.board.specs.declared.RectangularBoard.{RectangularBoard}
 use Rattle.rectangle.specs.Board.{Board, valid}
-use Rattle.board.specs.Board.{boardOf, readBoard}
-use Rattle.board.specs.BoardLaws.{readBoard-given}
+use Rattle.board.specs.Board.{readBoard}
+use Rattle.board.specs.BoardLaws.{structOf, board-struct, readBoard-given}
 use Rattle.covers.specs.Counts.{atNode}
 use Rattle.path_count.specs.PathCounts.{countLimit}
 use Rattle.graph.specs.Graph.{numbersFor}
@@ -41,17 +39,6 @@ number-at ns count k h = getD-listOf (λ i. getD ns i 0) count k 0 h
 
 -- ---- a board
 
--- the four words of a number, as a set
-cellsOf : ℕ → Cells
-cellsOf n = record { w0 = getD (wordsOf n) 0 0; w1 = getD (wordsOf n) 1 0; w2 = getD (wordsOf n) 2 0; w3 = getD (wordsOf n) 3 0 }
-
-number-cellsOf : (n : ℕ) → n < 2 ^ 256 → number (cellsOf n) ≡ n
-unfolding number cellsOf wordsOf wordsBelow
-number-cellsOf n h = value-wordsOf n h
-
-structOf : Board → RectangularBoard
-structOf b = record { width = b .width; height = b .height; fixed = cellsOf (b .fixed); laid = cellsOf (b .laid) }
-
 module _ (b : Board) (count : ℕ) (ten : 10 ≤ count) where
   abbrev left : List ℕ
   left = numbersFor (boardWords b) count
@@ -63,7 +50,7 @@ module _ (b : Board) (count : ℕ) (ten : 10 ≤ count) where
   mark-left i h = getD-take 8 (drop 2 left) i 0 h ∙ getD-drop 2 left i 0 ∙ word-left (2 + i) (omega arith)
 
   struct-left : boardIn (getD left 0 0) (getD left 1 0) (take 8 (drop 2 left)) ≡ structOf b
-  unfolding structOf cellsOf boardWords wordsOf wordsBelow
+  unfolding boardWords wordsOf wordsBelow
   struct-left =
       rw (
         word-left 0 (lit< tt),
@@ -81,9 +68,8 @@ module _ (b : Board) (count : ℕ) (ten : 10 ≤ count) where
 -- a valid board's words are read as that board
 pub board-back : (b : Board) (count : ℕ) → 10 ≤ count → b .fixed < 2 ^ 256 → b .laid < 2 ^ 256 → valid b ≡ true → (ws : List ℕ) → ws ≡ numbersFor (boardWords b) count
     → readBoard (boardIn (getD ws 0 0) (getD ws 1 0) (take 8 (drop 2 ws))) ≡ given b
-unfolding structOf
 board-back b count ten f l ok ws e =
-    let same : boardOf (structOf b) ≡ b = ap₂ (λ (x y : ℕ). record { width = b .width; height = b .height; fixed = x; laid = y }) (number-cellsOf (b .fixed) f) (number-cellsOf (b .laid) l) in
+    let same = board-struct b f l in
     ap (λ (xs : List ℕ). readBoard (boardIn (getD xs 0 0) (getD xs 1 0) (take 8 (drop 2 xs)))) e
     ∙ ap readBoard (struct-left b count ten)
     ∙ readBoard-given (structOf b) (ap valid same ∙ ok)

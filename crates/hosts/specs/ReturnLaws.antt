@@ -22,7 +22,9 @@ use Rattle.tiles.specs.Stored.{pathsIn, soundAt, readTiles, readEqualTiles}
 use Rattle.cells.specs.Arrays.{allBelow}
 use Rattle.board.specs.declared.RectangularBoard.{RectangularBoard}
 use Rattle.board.specs.Board.{boardOf, readBoard}
-use Rattle.rectangle.specs.Board.{Board, marks as marksOf, valid, acceptBoard, freeCount}
+use Rattle.board.specs.BoardLaws.{readBoard-positive}
+use Rattle.rectangle.specs.BoardLaws.{acceptBoard-positive}
+use Rattle.rectangle.specs.Board.{Board, marks as marksOf, acceptBoard, freeCount}
 use Rattle.children.specs.Children.{children, childrenOf, placeTile}
 use Rattle.covers.specs.Cuttings.{Setting}
 use Rattle.covers.specs.Counts.{Entry, counts, layerOf, layerCount}
@@ -59,12 +61,10 @@ test : {A : Type 0} (t : Bool) (x : A) (k : ℕ) → 0 < k → Refuses Positive 
 test t x k h = refuses-cond Positive t (given x) (refused k) (refuses-none Positive x) (one k h)
 
 accept-refuses : (b : Board) → Refuses Positive (acceptBoard b)
-unfolding acceptBoard
-accept-refuses b = test (valid b) b 4 (lit< tt)
+accept-refuses b = acceptBoard-positive b
 
 board-refuses : (b : RectangularBoard) → Refuses Positive (readBoard b)
-unfolding readBoard
-board-refuses b = accept-refuses (boardOf b)
+board-refuses b = readBoard-positive b
 
 tiles-refuses : (ts : Tiles) → Refuses Positive (readTiles ts)
 unfolding readTiles

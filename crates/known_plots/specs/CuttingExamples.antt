@@ -23,7 +23,7 @@ use Rattle.tiles.specs.Stored.{pathsIn, tilesOf}
 use Rattle.tiles.specs.EqualLaws.{readEqualTiles-given}
 use Rattle.board.specs.declared.RectangularBoard.{RectangularBoard}
 use Rattle.rectangle.specs.Board.{Board, boardAt, marks, isFree, isFull, valid}
-use Rattle.board.specs.Board.{boardOf, newBoard}
+use Rattle.board.specs.Board.{boardOf, ofMarks, newBoard}
 use Rattle.covers.specs.Cuttings.{Exactly}
 use Rattle.covers.specs.Theorems.{number-unique, numbering-carried, full-has-one}
 use Rattle.graph.specs.declared.Complete.the-variants as N
@@ -31,7 +31,7 @@ use Rattle.numbered_tilings.specs.declared.Tiling.{Tiling}
 use Rattle.numbered_tilings.specs.declared.Tiling.the-variants as T
 use Rattle.graph.specs.Rooms.{layerRoom, nodeRoom, edgeRoom, plotBoards, plotNodes, plotEdges}
 use Rattle.path_count.specs.declared.PathCount.{PathCount}
-use Rattle.path_count.specs.PathCounts.{countValue, countRoom, countsFor}
+use Rattle.path_count.specs.PathCounts.{countValue, countRoom, countSpan, countsFor}
 use Rattle.graph.specs.Graph.{numbersFor, edgesFor}
 use Rattle.numbered_tilings.specs.Tilings.{nodeList, tilingByNumber, tilingAnswer, GivesTiling}
 use Rattle.graph.specs.Result.{markedPieces}
@@ -221,7 +221,7 @@ lying-or-standing X cuts = go (r .0) (r .1) (r .2)
 
 -- 2 by 1, one cell fixed and one laid
 abbrev fullBoard : RectangularBoard
-fullBoard = record { width = 2; height = 1; fixed = set 1; laid = set 2 }
+fullBoard = ofMarks 2 1 (set 1) (set 2)
 
 -- a set in its lowest word has words of 64 bits
 small-set : (n : ℕ) → n < 2 ^ 64 → Sound (set n)
@@ -286,7 +286,7 @@ slanted-row = mem-getD rows 11 slantedRow (lit< tt)
 
 -- neither count is refused: both are 0
 slanted-counted : (countTilings (rectangle 4 2) (tilesOf slanted) plotBoards ≡ given 0)
-    × (mapAnswer countOfGraph (generateGraph (rectangle 4 2) (tilesOf slanted) (4 * plotNodes) plotNodes (2 * plotEdges)) ≡ given 0)
+    × (mapAnswer countOfGraph (generateGraph (rectangle 4 2) (tilesOf slanted) (4 * plotNodes) (countSpan plotNodes) (2 * plotEdges)) ≡ given 0)
 unfolding number newBoard
 slanted-counted = known-plots-counted slantedRow slanted-row (rectangle 4 2) (tilesOf slanted) refl (known-tiles-read slantedRow slanted-row)
 

@@ -18,11 +18,11 @@ use Rattle.tiles.specs.StoredLaws.{readTiles-tilesOf, readTiles-orbit}
 use Rattle.tiles.specs.EqualLaws.{readEqualTiles-equal, readEqualTiles-unequal}
 use Rattle.board.specs.declared.RectangularBoard.{RectangularBoard}
 use Rattle.rectangle.specs.Board.{Board}
-use Rattle.board.specs.Board.{boardOf, readBoard}
+use Rattle.board.specs.Board.{boardOf, ofMarks, readBoard}
 use Rattle.covers.specs.Cuttings.{Exactly}
 use Rattle.covers.specs.Counts.{Entry}
 use Rattle.graph.specs.Rooms.{layerRoom, nodeRoom, edgeRoom}
-use Rattle.expansion.specs.Plots.{readPlot}
+use Rattle.expansion.specs.Plots.{readPlot, stepOf}
 use Rattle.layers.specs.LayerCounts.{judgeLayer, judgeLayers, layersOf, countTilings}
 use Rattle.tiler.specs.Graphs.{Graph, countOfGraph, judgeGraph, graphFor, generateGraph}
 use Rattle.known_plots.specs.KnownPlots.{D as dominoes}
@@ -66,6 +66,11 @@ few-count-words = refl
 few-edge-words : graphFor (board 2 2 0 0) dominoes (nodeRoom 16 4) (edgeRoom 7) ≡ refused 10
 unfolding graphFor nodeRoom edgeRoom dominoes step
 few-edge-words = refl
+
+-- each piece covers two cells; with no tiles the number is 1
+piece-cells : (stepOf dominoes ≡ 2) × (stepOf [] ≡ 1)
+unfolding stepOf dominoes step
+piece-cells = (refl, refl)
 
 -- ---- the least plots
 
@@ -134,7 +139,7 @@ abbrev pub set : ℕ → Cells
 set n = record { w0 = n; w1 = 0; w2 = 0; w3 = 0 }
 
 abbrev pub rectangle : ℕ → ℕ → RectangularBoard
-rectangle w h = record { width = w; height = h; fixed = set 0; laid = set 0 }
+rectangle w h = ofMarks w h (set 0) (set 0)
 
 -- Right, and Right Right
 abbrev unequal : List Path

@@ -1,6 +1,6 @@
 -- 01's known plots: "The starred twelve are shown of the definitions, as rows under one common statement". Both counts of each row compute
 -- (`known-plots`), and are what the calls answer by their contracts (`known-plots-counted`). Of the last row also that "one cutting exists". What stands in quotation marks is
--- 01's. Rests on tiler's `CuttingLaws` and covers' `SequenceLaws`. Assumes nothing.
+-- 01's. Rests on expansion's `CuttingLaws` and covers' `SequenceLaws`. Assumes nothing.
 use mathlib.Core.Path.{_≡_, refl, sym, ap, _∙_, subst, fun-ext}
 use mathlib.Core.Logic.{⊎-elim}
 use mathlib.Core.Bool.{Bool, true, So, _&&_, and-eq-true-iff}
@@ -29,6 +29,8 @@ use Rattle.fit.specs.LayLaws.{piece-free, piece-iff, piece-some}
 use Rattle.covers.specs.Cuttings.{Exactly, CuttingOf}
 use Rattle.covers.specs.NumberingLaws.{exactly-one, one-is, one-only}
 use Rattle.covers.specs.SequenceLaws.{cutting-add, sequence-cutting}
+use Rattle.path_count.specs.PathCounts.{countSpan}
+use Rattle.graph.specs.RoomLaws.{node-room-plot}
 use Rattle.graph.specs.Rooms.{nodeRoom, edgeRoom, plotBoards, plotNodes, plotEdges}
 use Rattle.expansion.specs.Boards.{From, setting}
 use Rattle.expansion.specs.Plots.{readPlot}
@@ -136,14 +138,17 @@ module _ (b : RectangularBoard) (ts : Tiles) (board : Board) (paths : List Path)
   unfolding countTilings layersOf bindAnswer
   layers-called = rw plot-read
 
-  graph-called : generateGraph b ts (4 * plotNodes) plotNodes (2 * plotEdges) ≡ graphFor board paths plotNodes plotEdges
-  unfolding generateGraph graphFor nodeRoom edgeRoom bindAnswer
-  graph-called = rw plot-read
+  graph-called : generateGraph b ts (4 * plotNodes) (countSpan plotNodes) (2 * plotEdges) ≡ graphFor board paths plotNodes plotEdges
+  unfolding generateGraph edgeRoom bindAnswer
+  graph-called =
+      ap (λ (a : Answer (Board × List Path)). bindAnswer a (λ p. graphFor (p .0) (p .1) (nodeRoom (4 * plotNodes) (countSpan plotNodes)) plotEdges)) plot-read
+      ∙ ap (λ (n : ℕ). graphFor board paths n plotEdges) node-room-plot
 
 -- For a board that is made as the row says and tiles that are read as the row's, what the contracts say that `count_tilings` with layers of 512 boards and
--- `generate_graph` with 4,096 node words, 1,024 count words and 8,192 edge words (four a node and two an edge) answer is the row's count.
+-- `generate_graph` with 4,096 node words and 8,192 edge words (four a node and two an edge) and as many count words as 1,024 counts take answer is the row's
+-- count.
 pub known-plots-counted : (r : Row) → Mem r rows → (b : RectangularBoard) (ts : Tiles) → given (boardOf b) ≡ r .board → readEqualTiles ts ≡ given (r .tiles)
-    → (countTilings b ts plotBoards ≡ given (r .count)) × (mapAnswer countOfGraph (generateGraph b ts (4 * plotNodes) plotNodes (2 * plotEdges)) ≡ given (r .count))
+    → (countTilings b ts plotBoards ≡ given (r .count)) × (mapAnswer countOfGraph (generateGraph b ts (4 * plotNodes) (countSpan plotNodes) (2 * plotEdges)) ≡ given (r .count))
 unfolding countsOf bindAnswer
 known-plots-counted r m b ts made read =
     let same = readBoard-given b (known-board-accepted r m (boardOf b) made) in

@@ -293,25 +293,25 @@ module _ (room : ℕ) (bs cs : List ℕ) (layer : Layer) (f : ℕ → ℕ) (k : 
 
 -- ---- the layer behind a layer
 
-module _ (room : ℕ) (next totals : List ℕ) (layer : Layer) where
+module _ (room : ℕ) (nextBoards nextCounts : List ℕ) (layer : Layer) where
   -- the children and the paths, given by another list and another number that are theirs
-  pub grown-by : (bs bs′ : List ℕ) (k k′ : ℕ) (es : List (Entry ℕ)) → bs ≡ bs′ → k ≡ k′ → HoldsLayer room next totals layer (addEach bs k es)
-      → HoldsLayer room next totals layer (addEach bs′ k′ es)
+  pub grown-by : (bs bs′ : List ℕ) (k k′ : ℕ) (es : List (Entry ℕ)) → bs ≡ bs′ → k ≡ k′ → HoldsLayer room nextBoards nextCounts layer (addEach bs k es)
+      → HoldsLayer room nextBoards nextCounts layer (addEach bs′ k′ es)
   grown-by bs bs′ k k′ es e q h = rw (← e, ← q) h
 
   module _ (b : Board) (paths : List Path) (bs cs : List ℕ) where
     pub grown-more : (i : ℕ)
-        → HoldsLayer room next totals layer (addEach (childBoards (setting b paths) (setAt bs i)) (countIn cs i) (nextOf (setting b paths) (entriesIn bs cs i)))
-        → HoldsLayer room next totals layer (nextOf (setting b paths) (entriesIn bs cs (i + 1)))
-    grown-more i h = subst (HoldsLayer room next totals layer) (next-more b paths bs cs i) h
+        → HoldsLayer room nextBoards nextCounts layer (addEach (childBoards (setting b paths) (setAt bs i)) (countIn cs i) (nextOf (setting b paths) (entriesIn bs cs i)))
+        → HoldsLayer room nextBoards nextCounts layer (nextOf (setting b paths) (entriesIn bs cs (i + 1)))
+    grown-more i h = subst (HoldsLayer room nextBoards nextCounts layer) (next-more b paths bs cs i) h
 
-    pub grown-all : (i n : ℕ) → i ≤ n → n ≤ i → HoldsLayer room next totals layer (nextOf (setting b paths) (entriesIn bs cs i))
-        → HoldsLayer room next totals layer (nextOf (setting b paths) (entriesIn bs cs n))
-    grown-all i n l m h = let e : i ≡ n = omega arith in subst (λ (j : ℕ). HoldsLayer room next totals layer (nextOf (setting b paths) (entriesIn bs cs j))) e h
+    pub grown-all : (i n : ℕ) → i ≤ n → n ≤ i → HoldsLayer room nextBoards nextCounts layer (nextOf (setting b paths) (entriesIn bs cs i))
+        → HoldsLayer room nextBoards nextCounts layer (nextOf (setting b paths) (entriesIn bs cs n))
+    grown-all i n l m h = let e : i ≡ n = omega arith in subst (λ (j : ℕ). HoldsLayer room nextBoards nextCounts layer (nextOf (setting b paths) (entriesIn bs cs j))) e h
 
-pub grown-none : (room : ℕ) (next totals : List ℕ) (b : Board) (paths : List Path) (bs cs : List ℕ)
-    → HoldsLayer room next totals (L.Boards 0 false) (nextOf (setting b paths) (entriesIn bs cs 0))
-grown-none room next totals b paths bs cs = subst (HoldsLayer room next totals (L.Boards 0 false)) (next-none b paths bs cs) (held-none room next totals)
+pub grown-none : (room : ℕ) (nextBoards nextCounts : List ℕ) (b : Board) (paths : List Path) (bs cs : List ℕ)
+    → HoldsLayer room nextBoards nextCounts (L.Boards 0 false) (nextOf (setting b paths) (entriesIn bs cs 0))
+grown-none room nextBoards nextCounts b paths bs cs = subst (HoldsLayer room nextBoards nextCounts (L.Boards 0 false)) (next-none b paths bs cs) (held-none room nextBoards nextCounts)
 
 -- ---- the count of a last layer: x is what is told
 

@@ -1,12 +1,11 @@
--- What a layer count that is given says: board and tiles are not refused, it is the count of the definition, it fits 64 bits, and under demand 3's
--- conditions it is the number of cuttings; and the counts 0 and 1 in code. Rests on expansion's laws and covers' `Theorems`. Assumes nothing.
+-- What a layer count that is given says: board and tiles are not refused, it is the count of the definition, it is below the limit, and under demand 3's
+-- conditions it is the number of cuttings. Rests on expansion's laws and covers' `Theorems`. Assumes nothing.
 use mathlib.Core.Path.{_≡_, refl, sym, _∙_, subst}
 use mathlib.Core.Logic.{⊎-elim}
 use mathlib.Core.Bool.{Bool, true, false, cond, false≢true}
 use mathlib.Core.List.{List, List·Memᴰ as Mem, List·Memᴰ·append-cases as append-cases, Memᴰ·map as mem-map, Memᴰ·of-map as of-map}
 use mathlib.Core.Option.{Option, none, some}
-use Prim.Native.Nat.{ℕ, zero, suc, _+_, _-_, _*_, _^_, _<_, min}
-use native.Mathlib.Omega.{arith}
+use Prim.Native.Nat.{ℕ, zero, suc, _<_}
 use borrow.Author.Tests.{leb-false}
 use lib.Dec.{leb, lit<}
 use lib.ListN.{length, getD}
@@ -120,11 +119,3 @@ pub layers-small : (b : RectangularBoard) → Sound (b .fixed) → Sound (b .lai
 unfolding countTilings
 layers-small b fixed laid ts room n told =
     subst (λ (k : ℕ). k < countLimit) (sym (layers-count b fixed laid ts room n told .1)) (given-small (settingOf b ts) (startOf b) room n (from-read b ts _ n told .1))
-
--- ---- the counts 0 and 1, as `of_words` makes them
-
-pub count-none : (x : ℕ) → x ≡ min (0 + 2 ^ 64 * 0) (countLimit - 1) → x ≡ 0
-count-none x e = omega arith
-
-pub count-one : (x : ℕ) → x ≡ min (1 + 2 ^ 64 * 0) (countLimit - 1) → x ≡ 1
-count-one x e = omega arith

@@ -41,20 +41,29 @@ pub fn run(
     tiles: Tiles,
     boards: &mut [u64],
     counts: &mut [u64],
-    next: &mut [u64],
-    totals: &mut [u64],
+    next_boards: &mut [u64],
+    next_counts: &mut [u64],
     n: usize,
     room: usize,
     left: usize,
     size: usize,
 ) -> Count
-    requires { ⌜ Accepted board tiles × (size ≡ stepOf (pathsIn tiles)) × LayerLent room (now boards) (now counts) × LayerLent room (now next) (now totals) × (n ≤ room) × Ready (settingOf board tiles) left (entriesIn (now boards) (now counts) n) ⌝ }
+    requires { ⌜ Accepted board tiles × (size ≡ stepOf (pathsIn tiles)) × LayerLent room (now boards) (now counts) × LayerLent room (now «next_boards») (now «next_counts») × (n ≤ room) × Ready (settingOf board tiles) left (entriesIn (now boards) (now counts) n) ⌝ }
     ensures { λ r. ⌜ ((k : ℕ) → left ≤ k → countAnswer r ≡ countFrom (settingOf board tiles) room k (entriesIn (now (boards .entry)) (now (counts .entry)) n)) ⌝ }
 {
     if left < size {
         return last_count(counts, n, left);
     }
-    let grown = layer::grow(board, tiles, boards, counts, n, next, totals, room);
+    let grown = layer::grow(
+        board,
+        tiles,
+        boards,
+        counts,
+        n,
+        next_boards,
+        next_counts,
+        room,
+    );
     let Layer::Boards(m, over) = grown else {
         return Count::Refused(Refusal::NoRoom);
     };
@@ -64,8 +73,8 @@ pub fn run(
     run(
         board,
         tiles,
-        next,
-        totals,
+        next_boards,
+        next_counts,
         boards,
         counts,
         m,

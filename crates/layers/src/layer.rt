@@ -87,19 +87,19 @@ fn grow_by(
     boards: &[u64],
     counts: &[u64],
     i: usize,
-    next: &mut [u64],
-    totals: &mut [u64],
+    next_boards: &mut [u64],
+    next_counts: &mut [u64],
     children: &mut [u64],
     layer: Layer,
     room: usize,
 ) -> Layer
-    requires { ⌜ Accepted board tiles × From (boardOf board) (setAt (now boards) i) × (8448 ≤ length (now children)) × (boardsIn layer ≤ room) × LayerLent room (now next) (now totals) ⌝ }
-    ensures { λ r. ⌜ AddsToLayer room (now (next .entry)) (now (totals .entry)) layer (now (next .exit)) (now (totals .exit)) r (addEach (childBoards (settingOf board tiles) (setAt (now (boards .entry)) i)) (countIn (now (counts .entry)) i)) ⌝ }
+    requires { ⌜ Accepted board tiles × From (boardOf board) (setAt (now boards) i) × (8448 ≤ length (now children)) × (boardsIn layer ≤ room) × LayerLent room (now «next_boards») (now «next_counts») ⌝ }
+    ensures { λ r. ⌜ AddsToLayer room (now («next_boards» .entry)) (now («next_counts» .entry)) layer (now («next_boards» .exit)) (now («next_counts» .exit)) r (addEach (childBoards (settingOf board tiles) (setAt (now (boards .entry)) i)) (countIn (now (counts .entry)) i)) ⌝ }
 {
     let n = expansion::expand(board, tiles, list::get(boards, i), children);
     add_all(
-        next,
-        totals,
+        next_boards,
+        next_counts,
         layer,
         room,
         children,
@@ -115,12 +115,12 @@ pub fn grow(
     boards: &[u64],
     counts: &[u64],
     n: usize,
-    next: &mut [u64],
-    totals: &mut [u64],
+    next_boards: &mut [u64],
+    next_counts: &mut [u64],
     room: usize,
 ) -> Layer
-    requires { ⌜ Accepted board tiles × ((i : ℕ) → i < n → From (boardOf board) (setAt (now boards) i)) × LayerLent room (now next) (now totals) ⌝ }
-    ensures { λ r. ⌜ (boardsIn r ≤ room) × HoldsLayer room (now (next .exit)) (now (totals .exit)) r (nextOf (settingOf board tiles) (entriesIn (now (boards .entry)) (now (counts .entry)) n)) ⌝ }
+    requires { ⌜ Accepted board tiles × ((i : ℕ) → i < n → From (boardOf board) (setAt (now boards) i)) × LayerLent room (now «next_boards») (now «next_counts») ⌝ }
+    ensures { λ r. ⌜ (boardsIn r ≤ room) × HoldsLayer room (now («next_boards» .exit)) (now («next_counts» .exit)) r (nextOf (settingOf board tiles) (entriesIn (now (boards .entry)) (now (counts .entry)) n)) ⌝ }
 {
     let mut children = [0u64; 8448];
     let mut state = Layer::Boards(0, false);
@@ -132,8 +132,8 @@ pub fn grow(
             boards,
             counts,
             i,
-            next,
-            totals,
+            next_boards,
+            next_counts,
             &mut children,
             state,
             room,

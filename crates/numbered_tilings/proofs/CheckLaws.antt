@@ -103,8 +103,8 @@ first-told es count v r one e q o t f = rw (f, q, e, o)
 
 -- ---- the whole graph: the causes in order, each where those before it do not stand
 
-pub edges-lent : (words count space : ℕ) → space ≡ edgeRoom words → count ≤ space → 2 * count ≤ words
-edges-lent words count space e h = edge-room count words (subst (λ (k : ℕ). count ≤ k) e h)
+pub edges-lent : (words count room : ℕ) → room ≡ edgeRoom words → count ≤ room → 2 * count ≤ words
+edges-lent words count room e h = edge-room count words (subst (λ (k : ℕ). count ≤ k) e h)
 
 module _ (r : GraphResult) (nodes : ℕ) (counts edges : List ℕ) where
   pub no-nodes : r .nodes ≡ 0 → true ≡ badGraph r nodes counts edges
@@ -116,8 +116,8 @@ module _ (r : GraphResult) (nodes : ℕ) (counts edges : List ℕ) where
     unfolding badGraph
     nodes-pass h = rw (ne-eqb (r .nodes) 0 some, lt-ltb (nodeRoom nodes (length counts)) (r .nodes) (omega arith))
 
-    module _ (lent : r .nodes ≤ room) (space : ℕ) (is-space : space ≡ edgeRoom (length edges)) where
-      pub edges-pass : space < r .edges → true ≡ badGraph r nodes counts edges
+    module _ (lent : r .nodes ≤ room) (edges-room : ℕ) (is-edges-room : edges-room ≡ edgeRoom (length edges)) where
+      pub edges-pass : edges-room < r .edges → true ≡ badGraph r nodes counts edges
       unfolding badGraph
       edges-pass h =
           rw (
@@ -126,7 +126,7 @@ module _ (r : GraphResult) (nodes : ℕ) (counts edges : List ℕ) where
             lt-ltb (edgeRoom (length edges)) (r .edges) (omega arith),
           )
 
-      module _ (within : r .edges ≤ space) where
+      module _ (within : r .edges ≤ edges-room) where
         -- the edges that the result tells are lent, so three causes are left
         causes-left : badGraph r nodes counts edges
             ≡ (isPast (r .nodes) (completeNode (r .complete))
@@ -138,7 +138,7 @@ module _ (r : GraphResult) (nodes : ℕ) (counts edges : List ℕ) where
               ne-eqb (r .nodes) 0 some,
               le-ltb (nodeRoom nodes (length counts)) (r .nodes) (omega arith),
               le-ltb (edgeRoom (length edges)) (r .edges) (omega arith),
-              edgesIn-lent edges (r .edges) (edges-lent (length edges) (r .edges) space is-space within),
+              edgesIn-lent edges (r .edges) (edges-lent (length edges) (r .edges) edges-room is-edges-room within),
             )
 
         pub full-past : isPast (r .nodes) (completeNode (r .complete)) ≡ true → true ≡ badGraph r nodes counts edges

@@ -17,7 +17,7 @@ use Rattle.cells.specs.Arrays.{listFrom, listOf}
 use Rattle.cells.specs.ArrayLaws.{getD-snoc}
 use Rattle.cells.specs.Lists.{clearedFrom}
 use Rattle.refusal.specs.Refusal.{Answer, refused, given, mapAnswer, valueOr}
-use Rattle.refusal.specs.RefusalLaws.{refused-given}
+use Rattle.refusal.specs.RefusalLaws.{refused-value}
 use Rattle.refusal.specs.declared.Refusal.{Refusal}
 use Rattle.covers.specs.Counts.{parentsOf, turn, tiling, SumRule, atNode}
 use Rattle.covers.specs.WalkLaws.{share, turn-pass, turn-hit, walk-first, tiling-next, back-in}
@@ -212,12 +212,6 @@ module _ (n : ℕ) (es : List (ℕ × ℕ)) (count : ℕ → ℕ) (S : SumRule n
 
 -- ---- the answer
 
--- no list is given
-none-given : (a : Answer (List ℕ)) (k : ℕ) → refused k ≡ mapAnswer length a → valueOr [] a ≡ []
-unfolding mapAnswer valueOr
-none-given (refused n) k e = refl
-none-given (given ns) k e = absurd (refused-given k (length ns) e)
-
 module _ (r : GraphResult) (nodeWords : ℕ) (counts edges : List ℕ) (m : ℕ) where
   abbrev full : Option ℕ
   full = completeNode (r .complete)
@@ -240,12 +234,12 @@ module _ (r : GraphResult) (nodeWords : ℕ) (counts edges : List ℕ) (m : ℕ)
     edges-all : edgesIn edges (r .edges) ≡ listOf (edgeAt edges) (r .edges)
     edges-all = edgesIn-lent edges (r .edges) edges-lent
 
-    module _ (total : ℕ) (t : total ≡ countFromGraph full counts) where
-      pub answers-none : (room : ℕ) → total ≤ m → refused 12 ≡ answer room
+    module _ (count : ℕ) (t : count ≡ countFromGraph full counts) where
+      pub answers-none : (room : ℕ) → count ≤ m → refused 12 ≡ answer room
       unfolding tilingByNumber mapAnswer
       answers-none room h = rw (sound, le-ltb m (countFromGraph full counts) (omega (arith, t)))
 
-      module _ (h : m < total) (last : ℕ) (e : last ≡ atNode (λ v. v) full) where
+      module _ (h : m < count) (last : ℕ) (e : last ≡ atNode (λ v. v) full) where
         at-full : (o : Option ℕ) → full ≡ o → m < atNode (countIn counts) o
             → (atNode (λ v. v) o < r .nodes) × (m < countIn counts (atNode (λ v. v) o))
         unfolding atNode
@@ -285,7 +279,7 @@ module _ (r : GraphResult) (nodes counts edges : List ℕ) (m : ℕ) (old : List
     (told : tilingAnswer t ≡ answer r (length nodes) counts edges m (length old)) where
   pub gives-none : (q : Refusal) → t ≡ T.Refused q → (new : List ℕ) → new ≡ clearedFrom 0 old → GivesTiling r nodes counts edges m old new t
   gives-none q e new f =
-      let none = none-given (tilingByNumber r (length nodes) counts edges m (length old)) _ (sym (ap tilingAnswer e) ∙ told) in
+      let none = refused-value length (tilingByNumber r (length nodes) counts edges m (length old)) _ [] (sym (ap tilingAnswer e) ∙ told) in
       record { answer = told; words = rw none (f ∙ cleared-numbers old [] (omega arith) (λ k a. absurd (omega arith))) }
 
   module _ (size : ℕ) (e : t ≡ T.Length size) where

@@ -23,8 +23,8 @@ pub enum Tiling {
     Refused(Refusal),
 }
 
-// The full board's node, 0 with none.
-fn full_node(complete: Complete) -> usize
+// The node at which a list ends: the full board's, 0 with none.
+fn last_node(complete: Complete) -> usize
     ensures { λ r. ⌜ r ≡ atNode (λ v. v) (completeNode complete) ⌝ }
 {
     match complete {
@@ -47,12 +47,12 @@ fn judged(
     if check::is_bad_graph(graph, nodes, counts, edges) {
         return Tiling::Refused(Refusal::BadGraph);
     }
-    let total = graph::count_tilings_from_graph(graph, counts);
-    if !m.less(total) {
+    let count = graph::count_tilings_from_graph(graph, counts);
+    if !m.less(count) {
         return Tiling::Refused(Refusal::NoSuchTiling);
     }
     let complete = graph.complete;
-    let last = full_node(complete);
+    let last = last_node(complete);
     let size = walk::list_length(counts, edges, graph.edges, graph.nodes, last, m);
     if room < size {
         return Tiling::Refused(Refusal::NoRoom);
@@ -81,7 +81,7 @@ pub fn tiling_by_number(
         return answer;
     };
     let complete = graph.complete;
-    let last = full_node(complete);
+    let last = last_node(complete);
     walk::write_list(
         counts,
         edges,

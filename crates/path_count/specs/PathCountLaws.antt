@@ -1,5 +1,5 @@
 -- Laws of path counts: a count is below the limit; what is stored in words is read back; words that hold the counts of a function or of a list; and
--- what a sum tells. Other crates cite these and unfold nothing. Rests on `PathCounts` and `cells`. Assumes nothing.
+-- what a sum tells. Laws and proofs of other crates cite these and unfold nothing (but see `PathCounts`). Rests on `PathCounts` and `cells`. Assumes nothing.
 use mathlib.Core.Path.{_≡_, refl, sym, ap, ap₂, _∙_}
 use mathlib.Core.Bool.{Bool, true, false, cond}
 use mathlib.Core.List.{List, [], _∷_, _++_}
@@ -18,7 +18,7 @@ use Rattle.cells.specs.Lists.{clearedFrom}
 use Rattle.path_count.specs.declared.PathCount.{PathCount}
 use Rattle.path_count.specs.declared.Sum.{Sum}
 use Rattle.path_count.specs.declared.Sum.the-variants as S
-use Rattle.path_count.specs.PathCounts.{countLimit, countValue, sumAnswer, countRoom, countIn, withCount, countWords, countsFor, AddsCount}
+use Rattle.path_count.specs.PathCounts.{countLimit, countValue, sumAnswer, countRoom, countSpan, countIn, withCount, countWords, countsFor, AddsCount}
 
 -- ---- one count
 
@@ -37,6 +37,10 @@ count-halves n = omega arith
 -- a number that is a count's is kept whole
 pub count-whole : (n : ℕ) → n < countLimit → min n (countLimit - 1) ≡ n
 count-whole n h = omega arith
+
+-- a word is the count of itself, as `of_words` makes it
+pub word-count : (n : ℕ) → n < 2 ^ 64 → (x : ℕ) → x ≡ min (n + 2 ^ 64 * 0) (countLimit - 1) → x ≡ n
+word-count n h x e = omega arith
 
 -- ---- a sum
 
@@ -58,6 +62,11 @@ module _ (r : Sum) (n : ℕ) (e : sumAnswer r ≡ cond (leb countLimit n) none (
       go false p f = absurd (Option·none-ne-some n f)
 
 -- ---- one count in words
+
+-- the words that so many counts take hold as many
+pub room-span : (n : ℕ) → countRoom (countSpan n) ≡ n
+unfolding countRoom countSpan
+room-span n = refl
 
 pub countIn-small : (ws : List ℕ) → Small ws → (i : ℕ) → countIn ws i < countLimit
 unfolding countIn

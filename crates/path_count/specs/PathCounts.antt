@@ -1,5 +1,6 @@
 -- Definitions: the limit of a path count, the number that a count is, and path counts in lent words, one word a count. What stands in quotation marks
--- is 01's, from its sections on the layer count and the graph. No other crate unfolds what is said of words. Assumes nothing.
+-- is 01's, from its sections on the layer count and the graph. No law and no proof of another crate unfolds what is said of words, but one law of
+-- report (`counts-lent`, how long its arrays are); definitions do, so that they compute, and examples. Assumes nothing.
 use mathlib.Core.Path.{_≡_}
 use mathlib.Core.Bool.{Bool, cond}
 use mathlib.Core.List.{List}
@@ -33,6 +34,10 @@ sumAnswer S.TooLarge = none
 -- how many counts so many "count words" hold
 unfoldable pub countRoom : ℕ → ℕ
 countRoom words = words
+
+-- how many words so many counts take
+unfoldable pub countSpan : ℕ → ℕ
+countSpan n = n
 
 -- "Beside each node stands its path count": count i of the words, 0 where it is not lent
 unfoldable pub countIn : List ℕ → ℕ → ℕ

@@ -113,9 +113,9 @@ pub fn add(words: &mut [u64], i: usize, count: PathCount) -> bool
     ensures { λ r. ⌜ AddsCount (now (words .entry)) i (countValue count) (now (words .exit)) r ⌝ }
 {
     let sum = get(words, i).plus(count);
-    let Sum::Is(total) = sum else {
+    let Sum::Is(more) = sum else {
         return true;
     };
-    put(words, i, total);
+    put(words, i, more);
     false
 }

@@ -1,5 +1,5 @@
 -- What the tests of sizes and cells and the steps of the code come to: a size, a cell in the rectangle, the place at a position, and the place one
--- step on. Rests on `BoardLaws` and `PlaceLaws`. Assumes nothing.
+-- step on. Rests on `Board`, `Place` and direction's laws. Assumes nothing.
 use native.Mathlib.Decide.{decLt}
 use mathlib.Core.Path.{_≡_, refl, sym, ap, _∙_, ap₂, subst}
 use mathlib.Core.Bool.{true, false, or-false, and-false}
@@ -19,7 +19,7 @@ use Rattle.direction.specs.Direction.{step, onCode, offsetAnswer}
 use Rattle.rectangle.specs.Board.{positionOf, inside, below, sizeOk}
 use Rattle.rectangle.specs.declared.Place.{Place}
 use Rattle.rectangle.specs.declared.Place.the-variants as P
-use Rattle.rectangle.specs.Place.{placeIf, placeAfter}
+use Rattle.rectangle.specs.Place.{placeAnswer, placeIf, placeAfter}
 
 -- ---- sizes
 
@@ -49,26 +49,26 @@ module _ (w h cell : ℕ) where
 -- ---- the place at a position
 
 module _ (w h : ℕ) where
-  pub place-above : (r c : ℤ) → ltZ r (pos 0) ≡ true → P.Nowhere ≡ placeIf (inside w h) (at r c)
+  pub place-above : (r c : ℤ) → ltZ r (pos 0) ≡ true → placeAnswer P.Nowhere ≡ placeIf (inside w h) (at r c)
   unfolding placeIf inside below
   place-above (pos n) c e = absurd (omega (arith, ltb-true n 0 e))
   place-above (negsuc n) c e = refl
 
-  pub place-left : (r c : ℤ) → ltZ c (pos 0) ≡ true → P.Nowhere ≡ placeIf (inside w h) (at r c)
+  pub place-left : (r c : ℤ) → ltZ c (pos 0) ≡ true → placeAnswer P.Nowhere ≡ placeIf (inside w h) (at r c)
   unfolding placeIf inside below
   place-left r (pos n) e = absurd (omega (arith, ltb-true n 0 e))
   place-left r (negsuc n) e = rw (and-false (below h r))
 
   module _ (m n : ℕ) (r c : ℤ) (p : pos m ≡ r) (q : pos n ≡ c) where
-    pub place-below : h ≤ m → P.Nowhere ≡ placeIf (inside w h) (at r c)
+    pub place-below : h ≤ m → placeAnswer P.Nowhere ≡ placeIf (inside w h) (at r c)
     unfolding placeIf inside below
     place-below l = rw (← p, ← q, le-ltb m h l)
 
-    pub place-right : m < h → w ≤ n → P.Nowhere ≡ placeIf (inside w h) (at r c)
+    pub place-right : m < h → w ≤ n → placeAnswer P.Nowhere ≡ placeIf (inside w h) (at r c)
     unfolding placeIf inside below
     place-right l k = rw (← p, ← q, lt-ltb m h l, le-ltb n w k)
 
-    pub place-inside : m < h → n < w → P.At m n ≡ placeIf (inside w h) (at r c)
+    pub place-inside : m < h → n < w → placeAnswer (P.At m n) ≡ placeIf (inside w h) (at r c)
     unfolding placeIf inside below
     place-inside l k = rw (← p, ← q, lt-ltb m h l, lt-ltb n w k)
 
@@ -84,15 +84,15 @@ step-small =
 
 -- a row or a column that no board has
 module _ (w h row col code : ℕ) where
-  pub after-row : 15 < row → P.Nowhere ≡ placeAfter w h row col code
+  pub after-row : 15 < row → placeAnswer P.Nowhere ≡ placeAfter w h row col code
   unfolding placeAfter
   after-row l = rw (le-ltb row 16 (omega arith))
 
-  pub after-col : 15 < col → P.Nowhere ≡ placeAfter w h row col code
+  pub after-col : 15 < col → placeAnswer P.Nowhere ≡ placeAfter w h row col code
   unfolding placeAfter
   after-col l = rw (le-ltb col 16 (omega arith), and-false (ltb row 16))
 
-  pub after-code : 8 ≤ code → P.Nowhere ≡ placeAfter w h row col code
+  pub after-code : 8 ≤ code → placeAnswer P.Nowhere ≡ placeAfter w h row col code
   unfolding placeAfter
   after-code l = rw (le-ltb code 8 l, and-false (ltb col 16), and-false (ltb row 16))
 
@@ -127,6 +127,6 @@ module _ (o : Offset) (code : ℕ) (e : offsetAnswer o ≡ onCode code (step cod
           absurd (omega arith)
 
 -- the place one step on
-pub place-step : (w h m n code : ℕ) (x y d f : ℤ) (p : Place) → p ≡ placeIf (inside w h) (at x y) → x ≡ pos m +ℤ d → y ≡ pos n +ℤ f → at d f ≡ step code → p ≡ placeIf (inside w h) (shift (at (pos m) (pos n)) (step code))
+pub place-step : (w h m n code : ℕ) (x y d f : ℤ) (p : Place) → placeAnswer p ≡ placeIf (inside w h) (at x y) → x ≡ pos m +ℤ d → y ≡ pos n +ℤ f → at d f ≡ step code → placeAnswer p ≡ placeIf (inside w h) (shift (at (pos m) (pos n)) (step code))
 place-step w h m n code x y d f p e a b s =
     e ∙ ap₂ (λ (u v : ℤ). placeIf (inside w h) (at u v)) a b ∙ ap (λ (q : Position). placeIf (inside w h) (shift (at (pos m) (pos n)) q)) s

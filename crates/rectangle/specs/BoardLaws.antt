@@ -17,6 +17,7 @@ use Rattle.cells.specs.FirstsLaws.{so-eq}
 use Rattle.cells.specs.Arrays.{allBelow}
 use Rattle.cells.specs.ArrayLaws.{allBelow-at}
 use Rattle.refusal.specs.Refusal.{refused, given, refusalOf}
+use Rattle.refusal.specs.RefusalLaws.{refused-given, given-inj}
 use Rattle.direction.specs.Position.{Position, at}
 use Rattle.rectangle.specs.Board.{Board, cellOf, positionOf, below, inside, marks, isMarked, freeAt, isFree, freeSet, freeCount, isFull, sizeOk, markOk, valid, freeIn, acceptBoard}
 
@@ -207,6 +208,23 @@ module _ (b : Board) where
       go : (t : Bool) → valid b ≡ t → 0 ≡ refusalOf (cond t (given b) (refused 4)) → valid b ≡ true
       go true f g = f
       go false f g = absurd (omega arith)
+
+  -- a board that is given is the board itself, and a refusal has a number above 0
+  pub acceptBoard-is : (board : Board) → acceptBoard b ≡ given board → (b ≡ board) × So (valid b)
+  unfolding acceptBoard
+  acceptBoard-is board e = go (valid b) refl e
+    where
+      go : (t : Bool) → valid b ≡ t → cond t (given b) (refused 4) ≡ given board → (b ≡ board) × So (valid b)
+      go true f g = (given-inj b board g, f)
+      go false f g = absurd (refused-given 4 board g)
+
+  pub acceptBoard-positive : (n : ℕ) → acceptBoard b ≡ refused n → 0 < n
+  unfolding acceptBoard refusalOf
+  acceptBoard-positive n e = go (valid b) e
+    where
+      go : (t : Bool) → cond t (given b) (refused 4) ≡ refused n → 0 < n
+      go true g = absurd (refused-given n b (sym g))
+      go false g = omega (arith, ap refusalOf g)
 
 -- ---- the set of the free cells
 

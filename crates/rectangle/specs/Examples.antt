@@ -2,11 +2,11 @@
 use mathlib.Core.Path.{_≡_, refl}
 use mathlib.Core.Bool.{true, false}
 use mathlib.Core.List.{[], _∷_, map}
+use mathlib.Core.Option.{none, some}
 use Prim.Native.Nat.{ℕ, _+_, _^_}
 use Rattle.refusal.specs.Refusal.{refused, given}
 use Rattle.rectangle.specs.Board.{Board, sizeOk, valid, acceptBoard, freeCount, isFull, lay, boardAt}
 use Rattle.rectangle.specs.Place.{placeAfter}
-use Rattle.rectangle.specs.declared.Place.the-variants as P
 
 -- boards of a width and a height with fixed and laid marks
 abbrev board : ℕ → ℕ → ℕ → ℕ → Board
@@ -36,7 +36,7 @@ unfolding acceptBoard
 accepted = (refl, refl)
 
 -- Down and Right from (0, 0) of 2 by 2; Up leaves the board; so does Right from (0, 1); row 16, column 16 and code 8 lead nowhere
-steps : placeAfter 2 2 0 0 1 ∷ placeAfter 2 2 0 0 3 ∷ placeAfter 2 2 0 0 0 ∷ placeAfter 2 2 0 1 3 ∷ placeAfter 2 2 16 0 0 ∷ placeAfter 2 2 0 16 2 ∷ placeAfter 2 2 0 0 8 ∷ [] ≡ P.At 1 0 ∷ P.At 0 1 ∷ P.Nowhere ∷ P.Nowhere ∷ P.Nowhere ∷ P.Nowhere ∷ P.Nowhere ∷ []
+steps : placeAfter 2 2 0 0 1 ∷ placeAfter 2 2 0 0 3 ∷ placeAfter 2 2 0 0 0 ∷ placeAfter 2 2 0 1 3 ∷ placeAfter 2 2 16 0 0 ∷ placeAfter 2 2 0 16 2 ∷ placeAfter 2 2 0 0 8 ∷ [] ≡ some (1, 0) ∷ some (0, 1) ∷ none ∷ none ∷ none ∷ none ∷ none ∷ []
 unfolding placeAfter
 steps = refl
 

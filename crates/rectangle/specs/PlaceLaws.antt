@@ -2,6 +2,7 @@
 -- Assumes nothing.
 use mathlib.Core.Path.{_≡_, refl, sym, ap, ap₂, _∙_}
 use mathlib.Core.Bool.{Bool, true, false, So, cond}
+use mathlib.Core.Option.{none, some}
 use Prim.Native.Nat.{ℕ, _+_, _*_, _<_}
 use native.Mathlib.Omega.{arith}
 use borrow.Author.Tests.{lt-ltb}
@@ -11,7 +12,7 @@ use Rattle.direction.specs.Direction.{step}
 use Rattle.rectangle.specs.declared.Place.{Place}
 use Rattle.rectangle.specs.declared.Place.the-variants as P
 use Rattle.rectangle.specs.Board.{cellOf, inside}
-use Rattle.rectangle.specs.Place.{placeIf, placeAfter}
+use Rattle.rectangle.specs.Place.{placeAnswer, placeIf, placeAfter}
 use Rattle.rectangle.specs.BoardLaws.{inside-parts}
 
 -- from a row and a column that a board has, by a direction
@@ -21,19 +22,21 @@ placeAfter-is w h row col code a b c = rw (lt-ltb row 16 a, lt-ltb col 16 b, lt-
 
 -- ---- what a place tells of its position
 
-pub place-true : (test : Position → Bool) (p : Position) (r c : ℕ) → P.At r c ≡ placeIf test p → (test p ≡ true) × (natAbs (p .row) ≡ r) × (natAbs (p .col) ≡ c)
+pub place-true : (test : Position → Bool) (p : Position) (r c : ℕ) → placeAnswer (P.At r c) ≡ placeIf test p → (test p ≡ true) × (natAbs (p .row) ≡ r) × (natAbs (p .col) ≡ c)
 unfolding placeIf
 place-true test p r c e = go (test p) e
   where
-    go : (t : Bool) → P.At r c ≡ cond t (P.At (natAbs (p .row)) (natAbs (p .col))) P.Nowhere → (t ≡ true) × (natAbs (p .row) ≡ r) × (natAbs (p .col) ≡ c)
-    go true q = (refl, cc, cc)
+    go : (t : Bool) → placeAnswer (P.At r c) ≡ cond t (some (natAbs (p .row), natAbs (p .col))) none → (t ≡ true) × (natAbs (p .row) ≡ r) × (natAbs (p .col) ≡ c)
+    go true q =
+        let s : _≡_ {A = ℕ × ℕ} (natAbs (p .row), natAbs (p .col)) (r, c) = cc in
+        (refl, ap (λ (z : ℕ × ℕ). z .0) s, ap (λ (z : ℕ × ℕ). z .1) s)
     go false q = let z : _≡_ {A = ℕ} 0 1 = cc in absurd (omega arith)
 
-pub place-false : (test : Position → Bool) (p : Position) → P.Nowhere ≡ placeIf test p → test p ≡ false
+pub place-false : (test : Position → Bool) (p : Position) → placeAnswer P.Nowhere ≡ placeIf test p → test p ≡ false
 unfolding placeIf
 place-false test p e = go (test p) e
   where
-    go : (t : Bool) → P.Nowhere ≡ cond t (P.At (natAbs (p .row)) (natAbs (p .col))) P.Nowhere → t ≡ false
+    go : (t : Bool) → placeAnswer P.Nowhere ≡ cond t (some (natAbs (p .row), natAbs (p .col))) none → t ≡ false
     go true q = let z : _≡_ {A = ℕ} 0 1 = cc in absurd (omega arith)
     go false q = refl
 
@@ -56,8 +59,8 @@ placed w h p r c i a b =
       col = omega (arith, s .4);
     }
 
-pub place-placed : (w h : ℕ) (p : Position) (r c : ℕ) (x : Place) → x ≡ placeIf (inside w h) p → x ≡ P.At r c → Placed w h p r c
-place-placed w h p r c x e f = let s = place-true (inside w h) p r c (sym f ∙ e) in placed w h p r c (s .0) (s .1) (s .2)
+pub place-placed : (w h : ℕ) (p : Position) (r c : ℕ) (x : Place) → placeAnswer x ≡ placeIf (inside w h) p → x ≡ P.At r c → Placed w h p r c
+place-placed w h p r c x e f = let s = place-true (inside w h) p r c (sym (ap placeAnswer f) ∙ e) in placed w h p r c (s .0) (s .1) (s .2)
 
 pub placed-cell : (w h : ℕ) (p : Position) (r c : ℕ) → Placed w h p r c → cellOf p ≡ 16 * r + c
 unfolding cellOf

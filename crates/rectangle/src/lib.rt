@@ -4,7 +4,7 @@ use direction::Offset;
 ghost use mathlib.Core.Path.{_≡_};
 ghost use Rattle.direction.specs.Position.{at};
 ghost use Rattle.rectangle.specs.Board.{positionOf, inside, sizeOk};
-ghost use Rattle.rectangle.specs.Place.{placeIf, placeAfter};
+ghost use Rattle.rectangle.specs.Place.{placeAnswer, placeIf, placeAfter};
 
 // A place of the board by its row and column, or none.
 pub enum Place {
@@ -41,7 +41,7 @@ pub fn is_inside(width: usize, height: usize, cell: usize) -> bool
 // The place at a position, which may lie off the board: row and column are signed while they are
 // stepped, and compared with nought before use.
 fn place_at(width: usize, height: usize, row: i64, col: i64) -> Place
-    ensures { λ r. ⌜ r ≡ placeIf (inside width height) (at row col) ⌝ }
+    ensures { λ r. ⌜ placeAnswer r ≡ placeIf (inside width height) (at row col) ⌝ }
 {
     if row < 0 {
         return Place::Nowhere;
@@ -63,7 +63,7 @@ fn place_at(width: usize, height: usize, row: i64, col: i64) -> Place
 // Where one step from a place leads: nowhere off the board, from a row or a column that no board has,
 // and by a code that is no direction.
 pub fn move_in_direction(width: usize, height: usize, row: usize, col: usize, code: u8) -> Place
-    ensures { λ r. ⌜ r ≡ placeAfter width height row col code ⌝ }
+    ensures { λ r. ⌜ placeAnswer r ≡ placeAfter width height row col code ⌝ }
 {
     if 15 < row {
         return Place::Nowhere;

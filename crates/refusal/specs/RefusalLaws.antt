@@ -64,6 +64,12 @@ module _ {A B : Type 0} where
   map-refused f (refused m) n = (λ e. ap refused (refused-inj m n e), λ e. ap (mapAnswer f) e)
   map-refused f (given x) n = (λ e. absurd (refused-given n (f x) (sym e)), λ e. ap (mapAnswer f) e)
 
+  -- where a refusal came back there is no value
+  pub refused-value : (f : A → B) (a : Answer A) (n : ℕ) (x : A) → refused n ≡ mapAnswer f a → valueOr x a ≡ x
+  unfolding mapAnswer valueOr
+  refused-value f (refused m) n x e = refl
+  refused-value f (given y) n x e = absurd (refused-given n (f y) e)
+
   -- a value that f answered
   pub bind-given : (a : Answer A) (f : A → Answer B) (y : B) → bindAnswer a f ≡ given y → (x : A) × (a ≡ given x) × (f x ≡ given y)
   unfolding bindAnswer

@@ -75,11 +75,11 @@ fn count(
 // edges unless it is given, and for 4,096 and 16,384 at most.
 pub fn graph(line: &[u8]) {
     let room = least(text::room_in(field(line, 6), 1024), 4096);
-    let space = least(text::room_in(field(line, 7), 4096), 16384);
+    let edge_room = least(text::room_in(field(line, 7), 4096), 16384);
     let turn = room % 2;
     let node_words = 4 * lent(room, turn, 0) + 3;
     let count_words = lent(room, turn, 1);
-    let edge_words = 2 * space + 1;
+    let edge_words = 2 * edge_room + 1;
     let mut nodes = [u64::MAX; 16391];
     let mut counts = [u64::MAX; 4097];
     let mut edges = [u64::MAX; 32769];

@@ -1,4 +1,4 @@
--- Laws of the answers of a count: which refusals a layer count and a graph have; and that a count is its low word, and a word the count of itself.
+-- Laws of the answers of a count: which refusals a layer count and a graph have; and that a count is its low word.
 -- Assumes nothing.
 use mathlib.Core.Path.{_≡_}
 use mathlib.Core.Bool.{true, false}
@@ -15,6 +15,7 @@ use Rattle.rectangle.specs.Board.{marks}
 use Rattle.covers.specs.Counts.{Entry, counts, layerOf}
 use Rattle.graph.specs.Rooms.{plotBoards, plotNodes, plotEdges}
 use Rattle.path_count.specs.PathCounts.{countLimit}
+use Rattle.path_count.specs.PathCountLaws.{word-count}
 use Rattle.expansion.specs.Boards.{setting}
 use Rattle.layers.specs.LayerCounts.{tooLarge, judgeLayer, judgeLayers, layersAnswer}
 use Rattle.tiler.specs.Graphs.{graphOf, judgeGraph}
@@ -68,13 +69,10 @@ graph-refusals plot =
 pub low-is : (n : ℕ) → n < countLimit → (low : ℕ) → low ≡ n % 2 ^ 64 → low ≡ n
 low-is n h low e = omega arith
 
-pub word-is : (m r : ℕ) → m < 2 ^ 64 → r ≡ min (m + 2 ^ 64 * 0) (countLimit - 1) → r ≡ m
-word-is m r h e = omega arith
-
 -- whether the count of a small number is below a count, which is told
 module _ (m r count : ℕ) (small : m ≤ 16) (e : r ≡ min (m + 2 ^ 64 * 0) (countLimit - 1)) where
   pub not-below : ltb r count ≡ false → count ≤ m
-  not-below t = omega (arith, word-is m r (omega arith) e, ltb-false r count t)
+  not-below t = omega (arith, word-count m (omega arith) r e, ltb-false r count t)
 
   pub is-below : ltb r count ≡ true → m < count
-  is-below t = omega (arith, word-is m r (omega arith) e, ltb-true r count t)
+  is-below t = omega (arith, word-count m (omega arith) r e, ltb-true r count t)

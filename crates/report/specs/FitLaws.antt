@@ -19,7 +19,7 @@ use Rattle.tiler.specs.Graphs.{Graph, countOfGraph, nodeListOf}
 use Rattle.tiler.specs.NumberLaws.{graph-count-small, list-below}
 use Rattle.plot_file.specs.Ascii.{ascii}
 use Rattle.plot_file.specs.PlotFile.{Plot}
-use Rattle.report.specs.Report.{plotLayers, plotGraph, listed, decimal, field, feed, refusedLine, boardLine, tilesLine, layersLine, graphLine, tilingLine, graphLines, plotLines}
+use Rattle.report.specs.Report.{plotLayers, plotGraph, listed, decimal, field, feed, refusedLine, boardLine, tilesLine, layersLine, graphLine, tilingLine, graphLines, plotLines, longestText}
 use Rattle.report.specs.DecimalLaws.{decimal-length}
 use Rattle.report.specs.CountLaws.{layers-refusals, graph-refusals}
 use Rattle.report.specs.BuiltLaws.{list-short}
@@ -129,11 +129,6 @@ graphs-length plot ok = go (plotGraph plot) refl
     go (given g) e = lines-length plot ok g e
 
 -- ---- the text of a plot
-
--- no text has more bytes: the board's line has at most 21, the tiles' 9, the layers' 28, the graph's 49, and each of 16 tiling lines 1,296
--- ("tiling ", two digits, ":", 257 times a blank and four digits, and the line feed)
-abbrev pub longestText : ℕ
-longestText = 20843
 
 four-parts : (a b c d : List ℕ) → length a ≤ 21 → length b ≤ 9 → length c ≤ 28 → length d ≤ 20785 → length (a ++ b ++ c ++ d) ≤ longestText
 four-parts a b c d p q r s = simp length-append (omega arith)

@@ -1,23 +1,26 @@
--- What structs of the code that hold a plot say: its board, its free cells and its tiles, and that both counts of the code are the plot's, also as the
--- contract of `count_tilings` says it. Rests on tile's `EqualLaws`, board's `Board` and tiler's `Counting`. Assumes nothing.
+-- The rooms that the code lends; and what structs of the code that hold a plot say: its board, its free cells and its tiles, and that both counts of the code
+-- are the plot's, also as the contract of `count_tilings` says it. Rests on path_count's `PathCountLaws`, tiles' `EqualLaws`, board's `Board`, layers'
+-- `LayerCounts` and tiler's `Graphs`. Assumes nothing.
 use mathlib.Core.Path.{_≡_, refl, sym, ap, ap₂, _∙_}
-use mathlib.Core.Bool.{Bool, true, false, So, cond}
+use mathlib.Core.Bool.{Bool, true, false, cond}
 use mathlib.Core.List.{List}
 use Prim.Native.Nat.{ℕ, _*_}
 use lib.ListN.{length}
 use Rattle.cells.specs.ArrayLaws.{length-listOf}
 use Rattle.tiles.specs.declared.Tiles.{Tiles}
 use Rattle.refusal.specs.Refusal.{Answer, refused, given, mapAnswer, bindAnswer, valueOr}
-use Rattle.refusal.specs.RefusalLaws.{refused-given, given-inj}
 use Rattle.tile.specs.Path.{Path}
 use Rattle.tiles.specs.Paths.{equalCounts}
 use Rattle.tiles.specs.Stored.{pathAt, pathsIn}
 use Rattle.tiles.specs.ReadLaws.{readTiles-sound}
 use Rattle.tiles.specs.EqualLaws.{readEqualTiles-equal, readEqualTiles-unequal}
 use Rattle.board.specs.declared.RectangularBoard.{RectangularBoard}
-use Rattle.rectangle.specs.Board.{Board, freeCount, valid}
+use Rattle.rectangle.specs.Board.{Board, freeCount}
 use Rattle.board.specs.Board.{boardOf, readBoard}
-use Rattle.graph.specs.Rooms.{layerRoom, nodeRoom, edgeRoom, plotBoards, plotNodes, plotEdges}
+use Rattle.board.specs.BoardLaws.{readBoard-is}
+use Rattle.path_count.specs.PathCounts.{countSpan}
+use Rattle.graph.specs.Rooms.{layerRoom, edgeRoom, plotBoards, plotNodes, plotEdges}
+use Rattle.graph.specs.RoomLaws.{layer-room-plot, node-room-plot}
 use Rattle.layers.specs.declared.Count.{Count}
 use Rattle.expansion.specs.Plots.{readPlot}
 use Rattle.layers.specs.LayerCounts.{layersOf, countTilings, countAnswer, CountsTilings}
@@ -26,20 +29,18 @@ use Rattle.plot_file.specs.PlotFile.{Plot}
 use Rattle.report.specs.Report.{withEqualTiles, plotLayers, plotGraph}
 use Rattle.report.specs.Inner.{HoldsPlot}
 
--- a board that is read is accepted, and is the one that is stored
-pub read-board : (b : RectangularBoard) (board : Board) → readBoard b ≡ given board → (boardOf b ≡ board) × So (valid (boardOf b))
-unfolding readBoard
-read-board b board e = go (valid (boardOf b)) refl e
-  where
-    go : (t : Bool) → valid (boardOf b) ≡ t → cond t (given (boardOf b)) (refused 4) ≡ given board → (boardOf b ≡ board) × So (valid (boardOf b))
-    go true q h = (given-inj (boardOf b) board h, q)
-    go false q h = absurd (refused-given 4 board h)
+-- ---- the rooms that the code lends
+
+-- the arrays of counts of `put_layers` and of `put_graph` have as many words as 512 and 1,024 counts take
+pub counts-lent : (512 ≡ countSpan plotBoards) × (1024 ≡ countSpan plotNodes)
+unfolding countSpan
+counts-lent = (refl, refl)
 
 -- ---- what is held
 
 module _ (plot : Plot) (board : RectangularBoard) (tiles : Tiles) (h : HoldsPlot plot board tiles) where
   pub held-board : boardOf board ≡ plot .board
-  held-board = read-board board (plot .board) (h .boardIs) .0
+  held-board = readBoard-is board (plot .board) (h .boardIs) .0
 
   pub held-free : valueOr 0 (mapAnswer freeCount (readBoard board)) ≡ freeCount (plot .board)
   unfolding valueOr mapAnswer
@@ -76,9 +77,9 @@ module _ (plot : Plot) (board : RectangularBoard) (tiles : Tiles) (h : HoldsPlot
       go false e = ap (λ a. bindAnswer a answer) (plot-unequal e) ∙ sym (ap (λ t. cond t (answer (plot .board, plot .tiles)) (refused 7)) e)
 
   -- and so is the graph
-  pub held-graph : generateGraph board tiles (4 * plotNodes) plotNodes (2 * plotEdges) ≡ plotGraph plot
-  unfolding generateGraph plotGraph withEqualTiles bindAnswer nodeRoom edgeRoom
-  held-graph = go (equalCounts (plot .tiles)) refl
+  pub held-graph : generateGraph board tiles (4 * plotNodes) (countSpan plotNodes) (2 * plotEdges) ≡ plotGraph plot
+  unfolding generateGraph plotGraph withEqualTiles bindAnswer edgeRoom
+  held-graph = ap (λ (n : ℕ). bindAnswer (readPlot board tiles) (λ p. graphFor (p .0) (p .1) n plotEdges)) node-room-plot ∙ go (equalCounts (plot .tiles)) refl
     where
       answer : Board × List Path → Answer Graph
       answer p = graphFor (p .0) (p .1) plotNodes plotEdges
@@ -91,9 +92,8 @@ module _ (plot : Plot) (board : RectangularBoard) (tiles : Tiles) (h : HoldsPlot
   -- as the contract of `count_tilings` says it, with layers of 512 boards
   pub held-counted : (boardsA countsA boardsB countsB boardsA′ countsA′ boardsB′ countsB′ : List ℕ) (r : Count)
       → CountsTilings board tiles boardsA countsA boardsB countsB boardsA′ countsA′ boardsB′ countsB′ r
-      → length boardsA ≡ 4 * plotBoards → length countsA ≡ plotBoards → length boardsB ≡ 4 * plotBoards → length countsB ≡ plotBoards → countAnswer r ≡ plotLayers plot
-  unfolding layerRoom
+      → length boardsA ≡ 4 * plotBoards → length countsA ≡ countSpan plotBoards → length boardsB ≡ 4 * plotBoards → length countsB ≡ countSpan plotBoards → countAnswer r ≡ plotLayers plot
   held-counted boardsA countsA boardsB countsB boardsA′ countsA′ boardsB′ countsB′ r c a b d e =
       c .answer
-      ∙ ap (countTilings board tiles) (ap₂ (λ (x y : ℕ). layerRoom x y (length boardsB) (length countsB)) a b ∙ ap₂ (λ (x y : ℕ). layerRoom (4 * plotBoards) plotBoards x y) d e)
+      ∙ ap (countTilings board tiles) (ap₂ (λ (x y : ℕ). layerRoom x y (length boardsB) (length countsB)) a b ∙ ap₂ (λ (x y : ℕ). layerRoom (4 * plotBoards) (countSpan plotBoards) x y) d e ∙ layer-room-plot)
       ∙ held-layers

@@ -1,5 +1,5 @@
 -- Laws of the tilings that are listed: what `tiling_by_number` gives for a graph that is built is the graph's list, a list is not longer than the words
--- lent for it, and the lines of the first tilings come one by one up to the last that is listed. Rests on `Inner`, `TextLaws` and graph's `TilingLaws`.
+-- lent for it, and the lines of the first tilings come one by one up to the last that is listed. Rests on `Inner`, `TextLaws` and numbered_tilings' `TilingLaws`.
 -- Assumes nothing.
 use mathlib.Core.Path.{_≡_, sym, ap, _∙_, subst}
 use mathlib.Core.List.{List, flatMap}

@@ -13,6 +13,7 @@ use Rattle.refusal.specs.RefusalLaws.{refused-of}
 use Rattle.board.specs.declared.RectangularBoard.{RectangularBoard}
 use Rattle.rectangle.specs.Board.{Board, freeCount}
 use Rattle.board.specs.Board.{readBoard}
+use Rattle.path_count.specs.PathCounts.{countSpan}
 use Rattle.graph.specs.declared.GraphResult.{GraphResult}
 use Rattle.graph.specs.Rooms.{plotNodes, plotEdges}
 use Rattle.graph.specs.Result.{completeNode, countFromGraph}
@@ -50,11 +51,11 @@ graph-line built count e = let c = e ∙ built .count in cc
 -- ---- the graph
 
 module _ (plot : Plot) (board : RectangularBoard) (tiles : Tiles) (h : HoldsPlot plot board tiles) (nodes counts edges : List ℕ)
-    (n : length nodes ≡ 4 * plotNodes) (c : length counts ≡ plotNodes) (d : length edges ≡ 2 * plotEdges) {nodes′ counts′ edges′ : List ℕ} {made : MadeGraph}
+    (n : length nodes ≡ 4 * plotNodes) (c : length counts ≡ countSpan plotNodes) (d : length edges ≡ 2 * plotEdges) {nodes′ counts′ edges′ : List ℕ} {made : MadeGraph}
     (generated : GeneratesGraph board tiles nodes counts edges nodes′ counts′ edges′ made) where
   answer-is : generateGraph board tiles (length nodes) (length counts) (length edges) ≡ plotGraph plot
   answer-is =
-      ap₂ (λ (x y : ℕ). generateGraph board tiles x y (length edges)) n c ∙ ap (generateGraph board tiles (4 * plotNodes) plotNodes) d ∙ held-graph plot board tiles h
+      ap₂ (λ (x y : ℕ). generateGraph board tiles x y (length edges)) n c ∙ ap (generateGraph board tiles (4 * plotNodes) (countSpan plotNodes)) d ∙ held-graph plot board tiles h
 
   pub made-refused : (x : Refusal) → made .verdict ≡ Verdicts.Refused x → plotGraph plot ≡ refused (refusalNumber x)
   made-refused x e =

@@ -1,16 +1,14 @@
 -- Laws of the counts of a plot: there are structs of the code that hold the plot of an accepted file, so that what tiler knows of calls holds of the plot's
 -- counts too (`of-graph`). Its layer count fits 64 bits; its graph has at most 1,024 nodes and 4,096 edges; both counts are the number of cuttings. Rests on
 -- `HoldsLaws`, `CountLaws` and tiler's `GivenLaws`, `NumberLaws` and `Theorems`. Assumes nothing.
-use mathlib.Core.Path.{_≡_, sym, ap, ap₂, _∙_, subst}
+use mathlib.Core.Path.{_≡_, sym, ap, _∙_, subst}
 use mathlib.Core.Bool.{So}
 use mathlib.Core.List.{List}
-use Prim.Native.Nat.{ℕ, _*_, _/_, _%_, _^_, _≤_, _<_}
-use native.Mathlib.Omega.{arith}
+use Prim.Native.Nat.{ℕ, _*_, _^_, _≤_, _<_}
 use lib.Dec.{lit<}
 use lib.ListN.{length}
-use Rattle.cells.specs.declared.Cells.{Cells}
-use Rattle.cells.specs.Words.{Sound, wordsOf, number}
-use Rattle.cells.specs.WordLaws.{value-wordsOf}
+use Rattle.cells.specs.Words.{Sound}
+use Rattle.cells.specs.WordLaws.{sound-cellsOf}
 use Rattle.tiles.specs.declared.Tiles.{Tiles}
 use Rattle.refusal.specs.Refusal.{given}
 use Rattle.tile.specs.Path.{Path}
@@ -19,11 +17,11 @@ use Rattle.tiles.specs.StoredLaws.{readTiles-tilesOf}
 use Rattle.board.specs.declared.RectangularBoard.{RectangularBoard}
 use Rattle.rectangle.specs.Board.{Board, valid}
 use Rattle.board.specs.Board.{boardOf}
-use Rattle.board.specs.BoardLaws.{readBoard-given}
+use Rattle.board.specs.BoardLaws.{structOf, board-struct, readBoard-given}
 use Rattle.covers.specs.Cuttings.{Exactly, Numbering}
-use Rattle.graph.specs.Rooms.{nodeRoom, edgeRoom, plotBoards, plotNodes, plotEdges}
+use Rattle.graph.specs.Rooms.{edgeRoom, plotBoards, plotNodes, plotEdges}
 use Rattle.layers.specs.CountLaws.{layers-small}
-use Rattle.path_count.specs.PathCounts.{countLimit}
+use Rattle.path_count.specs.PathCounts.{countLimit, countSpan}
 use Rattle.layers.specs.LayerCounts.{countTilings}
 use Rattle.tiler.specs.Graphs.{Graph, countOfGraph, cuttingOf, generateGraph}
 use Rattle.expansion.specs.Cuttings.{IsCutting, HasFreeCell, AllEdgeJoined}
@@ -34,6 +32,7 @@ use Rattle.tiler.specs.Theorems.{counts-agree}
 use Rattle.plot_file.specs.PlotFile.{Plot}
 use Rattle.report.specs.Report.{plotLayers, plotGraph}
 use Rattle.report.specs.Inner.{HoldsPlot}
+use Rattle.graph.specs.RoomLaws.{node-room-plot}
 use Rattle.report.specs.HoldsLaws.{held-board, held-tiles, held-layers, held-graph}
 
 -- what is known of the plot of an accepted file: its board is accepted and has no laid marks, its fixed marks are a set of 256 cells, and its tiles, at most
@@ -47,49 +46,23 @@ pub record AcceptedPlot (plot : Plot) : Type 0 where
 
 -- ---- structs that hold a plot
 
--- the words of a set
-abbrev pub cellsOf : ℕ → Cells
-cellsOf n = record { w0 = n % 2 ^ 64; w1 = n / 2 ^ 64 % 2 ^ 64; w2 = n / 2 ^ 64 / 2 ^ 64 % 2 ^ 64; w3 = n / 2 ^ 64 / 2 ^ 64 / 2 ^ 64 % 2 ^ 64 }
-
-pub number-cellsOf : (n : ℕ) → n < 2 ^ 256 → number (cellsOf n) ≡ n
-unfolding number wordsOf
-number-cellsOf n h = value-wordsOf n h
-
-word-lt : (n : ℕ) → n % 2 ^ 64 < 2 ^ 64
-word-lt n = omega arith
-
-pub sound-cellsOf : (n : ℕ) → Sound (cellsOf n)
-sound-cellsOf n = record {
-  s0 = word-lt n;
-  s1 = word-lt (n / 2 ^ 64);
-  s2 = word-lt (n / 2 ^ 64 / 2 ^ 64);
-  s3 = word-lt (n / 2 ^ 64 / 2 ^ 64 / 2 ^ 64);
-}
-
--- the board of a plot, as the code has it; its tiles are `tilesOf (plot .tiles)`
-abbrev pub structOf : Plot → RectangularBoard
-structOf plot = record { width = plot .board .width; height = plot .board .height; fixed = cellsOf (plot .board .fixed); laid = cellsOf (plot .board .laid) }
-
 module _ (plot : Plot) (ok : AcceptedPlot plot) where
-  board-struct : boardOf (structOf plot) ≡ plot .board
-  board-struct =
-      let none : plot .board .laid < 2 ^ 256 = subst (λ (n : ℕ). n < 2 ^ 256) (sym (ok .laid)) (lit< tt) in
-      ap₂ (λ (f l : ℕ). record { width = plot .board .width; height = plot .board .height; fixed = f; laid = l })
-      (number-cellsOf (plot .board .fixed) (ok .fixed)) (number-cellsOf (plot .board .laid) none)
+  abbrev b : RectangularBoard
+  b = structOf (plot .board)
 
-  pub holds-struct : HoldsPlot plot (structOf plot) (tilesOf (plot .tiles))
+  abbrev ts : Tiles
+  ts = tilesOf (plot .tiles)
+
+  same-board : boardOf b ≡ plot .board
+  same-board = board-struct (plot .board) (ok .fixed) (subst (λ (n : ℕ). n < 2 ^ 256) (sym (ok .laid)) (lit< tt))
+
+  pub holds-struct : HoldsPlot plot b ts
   holds-struct = record {
-    boardIs = readBoard-given (structOf plot) (ap valid board-struct ∙ ok .board) ∙ ap given board-struct;
+    boardIs = readBoard-given b (ap valid same-board ∙ ok .board) ∙ ap given same-board;
     tilesAre = readTiles-tilesOf (plot .tiles) (ok .few) (ok .storable);
   }
 
   -- ---- the counts of those structs are the plot's
-
-  abbrev b : RectangularBoard
-  b = structOf plot
-
-  abbrev ts : Tiles
-  ts = tilesOf (plot .tiles)
 
   fixed : Sound (b .fixed)
   fixed = sound-cellsOf (plot .board .fixed)
@@ -120,26 +93,25 @@ module _ (plot : Plot) (ok : AcceptedPlot plot) where
         of-plot (λ d paths. Exactly n (IsCutting d paths)) (count-cuttings b fixed laid ts (free-struct free) (joined-struct joined) plotBoards n told)
 
   module _ (g : Graph) (e : plotGraph plot ≡ given g) where
-    made : generateGraph b ts (4 * plotNodes) plotNodes (2 * plotEdges) ≡ given g
+    made : generateGraph b ts (4 * plotNodes) (countSpan plotNodes) (2 * plotEdges) ≡ given g
     made = held-graph plot b ts holds-struct ∙ e
 
     -- what tiler knows of every graph that is given is known of the plot's
     pub of-graph : {A : Type 0} → ((d : RectangularBoard) → Sound (d .fixed) → Sound (d .laid) → (us : Tiles) (x y z : ℕ) → generateGraph d us x y z ≡ given g → A) → A
-    of-graph law = law b fixed laid ts (4 * plotNodes) plotNodes (2 * plotEdges) made
+    of-graph law = law b fixed laid ts (4 * plotNodes) (countSpan plotNodes) (2 * plotEdges) made
 
     pub nodes-few : length (g .nodes) ≤ plotNodes
-    unfolding nodeRoom
-    nodes-few = graph-room b fixed laid ts (4 * plotNodes) plotNodes (2 * plotEdges) g made .nodesFit
+    nodes-few = subst (λ (n : ℕ). length (g .nodes) ≤ n) node-room-plot (graph-room b fixed laid ts (4 * plotNodes) (countSpan plotNodes) (2 * plotEdges) g made .nodesFit)
 
     pub edges-few : length (g .edges) ≤ plotEdges
     unfolding edgeRoom
-    edges-few = graph-room b fixed laid ts (4 * plotNodes) plotNodes (2 * plotEdges) g made .edgesFit
+    edges-few = graph-room b fixed laid ts (4 * plotNodes) (countSpan plotNodes) (2 * plotEdges) g made .edgesFit
 
     pub counts-same : (n : ℕ) → plotLayers plot ≡ given n → countOfGraph g ≡ n
-    counts-same n q = counts-agree b fixed laid ts plotBoards n (told n q) (4 * plotNodes) plotNodes (2 * plotEdges) g made
+    counts-same n q = counts-agree b fixed laid ts plotBoards n (told n q) (4 * plotNodes) (countSpan plotNodes) (2 * plotEdges) g made
 
     pub lists-cuttings : HasFreeCell (plot .board) → AllEdgeJoined (plot .tiles)
         → Numbering (IsCutting (plot .board) (plot .tiles)) (countOfGraph g) (cuttingOf g)
     lists-cuttings free joined =
         of-plot (λ d paths. Numbering (IsCutting d paths) (countOfGraph g) (cuttingOf g))
-        (lists-number-cuttings b fixed laid ts (4 * plotNodes) plotNodes (2 * plotEdges) g made (free-struct free) (joined-struct joined))
+        (lists-number-cuttings b fixed laid ts (4 * plotNodes) (countSpan plotNodes) (2 * plotEdges) g made (free-struct free) (joined-struct joined))

@@ -126,3 +126,8 @@ report file = linesFor (plotIn file)
 pub record WritesReport (file out out′ : List ℕ) (r : ℕ) : Type 0 where
   pub bytes : out′ ≡ take (length out) (report file) ++ drop (length (report file)) out
   pub length : r ≡ min (length out) (length (report file))
+
+-- no text has more bytes: the board's line has at most 21, the tiles' 9, the layers' 28, the graph's 49, and each of 16 tiling lines 1,296
+-- ("tiling ", two digits, ":", 257 times a blank and four digits, and the line feed)
+abbrev pub longestText : ℕ
+longestText = 20843

@@ -16,12 +16,12 @@ use Rattle.expansion.specs.Cuttings.{IsCutting, HasFreeCell, AllEdgeJoined}
 use Rattle.tiler.specs.NumberLaws.{list-chain, list-below}
 use Rattle.plot_file.specs.PlotFile.{Plot, plotIn}
 use Rattle.plot_file.specs.Theorems.{refusal-listed, accepted-plot, accepted-fixed, four-thousand-settle}
-use Rattle.report.specs.Report.{plotLayers, plotGraph, listed, linesFor, report, WritesReport}
+use Rattle.report.specs.Report.{plotLayers, plotGraph, listed, linesFor, report, WritesReport, longestText}
 use Rattle.report.specs.CountLaws as Count
 use Rattle.report.specs.BuiltLaws.{list-short}
 use Rattle.report.specs.PlotLaws as P
 use Rattle.report.specs.PlotLaws.{AcceptedPlot}
-use Rattle.report.specs.FitLaws.{longestText, refused-length, plot-length}
+use Rattle.report.specs.FitLaws.{refused-length, plot-length}
 
 -- ---- 1. Refusals
 

@@ -63,7 +63,8 @@ fn free_cells(board: RectangularBoard) -> usize
     }
 }
 
-// The line of the layer count, with room for 512 boards a layer.
+// The line of the layer count, with room for 512 boards a layer: the arrays of counts have as many
+// words as 512 counts take.
 fn put_layers(out: &mut [u8], at: usize, board: RectangularBoard, tiles: Tiles) -> usize
     requires { ⌜ at ≤ length (now out) ⌝ }
     ensures text { λ r. ⌜ ((p : Plot) → HoldsPlot p board tiles → Puts (now (out .entry)) at (layersLine (plotLayers p)) (now (out .exit)) r) ⌝ }
@@ -84,7 +85,8 @@ fn put_layers(out: &mut [u8], at: usize, board: RectangularBoard, tiles: Tiles) 
     lines::put_count(out, at, count)
 }
 
-// The line of the graph and those of its tilings, with room for 1,024 nodes and 4,096 edges.
+// The line of the graph and those of its tilings, with room for 1,024 nodes and 4,096 edges: the
+// array of counts has as many words as 1,024 counts take.
 fn put_graph(out: &mut [u8], at: usize, board: RectangularBoard, tiles: Tiles) -> usize
     requires { ⌜ at ≤ length (now out) ⌝ }
     ensures text { λ r. ⌜ ((p : Plot) → HoldsPlot p board tiles → Puts (now (out .entry)) at (graphLines (plotGraph p)) (now (out .exit)) r) ⌝ }

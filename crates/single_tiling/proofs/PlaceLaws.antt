@@ -26,7 +26,7 @@ use Rattle.fit.specs.declared.Fit.{Fit}
 use Rattle.fit.specs.declared.Fit.the-variants as F
 use Rattle.rectangle.specs.Board.{Board, marks, isFull, valid}
 use Rattle.board.specs.Board.{boardOf, readBoard, allMarkedAnswer}
-use Rattle.choice.specs.Choice.{countOf, chosen, withCount, chosenCount, chosenAnswer}
+use Rattle.choice.specs.Choice.{countOf, chosen, cellWithCount, chosenCount, chosenAnswer}
 use Rattle.children.specs.Children.{pruned}
 use Rattle.fit.specs.Fit.{fitFor, fitIn, fitPieces}
 use Rattle.fit.specs.FitForLaws.{fitIn-is-fitFor}
@@ -65,20 +65,20 @@ module _ (b : RectangularBoard) (good : So (valid (boardOf b))) where
     chosen-refused q h = refused-given (refusalNumber q) (chosenCount (boardOf b)) (sym (ap chosenAnswer h) ∙ e ∙ read-given chosenCount)
 
     pub place-full : r ≡ H.Full → (paths : List Path) → P.Nowhere ≡ placeFor (boardOf b) paths
-    unfolding chosenCount withCount placeFor placeOf
+    unfolding chosenCount cellWithCount placeFor placeOf
     place-full h paths = go (pruned (boardOf b) paths) (chosen (boardOf b)) (given-inj none (chosenCount (boardOf b)) (sym (ap chosenAnswer h) ∙ e ∙ read-given chosenCount))
       where
-        go : (t : Bool) (o : Option ℕ) → none ≡ withCount (boardOf b) o → P.Nowhere ≡ cond t P.Nowhere (placeOf o)
+        go : (t : Bool) (o : Option ℕ) → none ≡ cellWithCount (boardOf b) o → P.Nowhere ≡ cond t P.Nowhere (placeOf o)
         go true o q = refl
         go false none q = refl
         go false (some cell) q = let z : _≡_ {A = ℕ} 0 1 = cc in absurd (omega arith)
 
     module _ (cell n : ℕ) (h : r ≡ H.Cell cell n) where
       told : (chosen (boardOf b) ≡ some cell) × (n ≡ countOf (boardOf b) cell)
-      unfolding chosenCount withCount
+      unfolding chosenCount cellWithCount
       told = go (chosen (boardOf b)) (given-inj (some (cell, n)) (chosenCount (boardOf b)) (sym (ap chosenAnswer h) ∙ e ∙ read-given chosenCount))
         where
-          go : (o : Option ℕ) → some (cell, n) ≡ withCount (boardOf b) o → (o ≡ some cell) × (n ≡ countOf (boardOf b) cell)
+          go : (o : Option ℕ) → some (cell, n) ≡ cellWithCount (boardOf b) o → (o ≡ some cell) × (n ≡ countOf (boardOf b) cell)
           go none q = let z : _≡_ {A = ℕ} 0 1 = cc in absurd (omega arith)
           go (some c) q =
               let x : cell ≡ c = ap (λ (p : Option (ℕ × ℕ)). pairIn p .0) q in

@@ -1,6 +1,6 @@
 -- Tilings and cuttings: the pieces that a tiling's steps mark are a cutting of the start; and under demand 3's conditions each cutting is that of a
--- tiling. Rests on `TilingLaws`, tiler's `CuttingLaws` and covers' `ChildLaws` and `SequenceLaws`. Assumes nothing.
-use mathlib.Core.Path.{_≡_, sym, ap, _∙_, subst, fun-ext}
+-- tiling. Rests on `TilingLaws`, expansion's `CuttingLaws` and covers' `ChildLaws` and `SequenceLaws`. Assumes nothing.
+use mathlib.Core.Path.{_≡_, sym, ap, _∙_, subst}
 use mathlib.Core.Bool.{Bool, false, So}
 use mathlib.Core.List.{List, List·Memᴰ as Mem}
 use Prim.Native.Nat.{ℕ, _^_, _<_}
@@ -8,23 +8,18 @@ use lib.Dec.{eqb}
 use Rattle.cells.specs.Firsts.{holds}
 use Rattle.tile.specs.Path.{Path, codesOk}
 use Rattle.rectangle.specs.Board.{Board, marks, isFree, isFull, valid}
-use Rattle.children.specs.Children.{childrenAt}
-use Rattle.covers.specs.Cuttings.{childBoards}
 use Rattle.covers.specs.Counts.{ChildSequence, piecesOf}
 use Rattle.covers.specs.ChildLaws.{sequence-children, children-sequence}
 use Rattle.covers.specs.SequenceLaws.{free-not-full, sequence-cutting, cutting-sequence}
 use Rattle.graph.specs.Result.{stepPiece, markedBy}
 use Rattle.expansion.specs.Boards.{setting}
 use Rattle.expansion.specs.Cuttings.{IsCutting, HasFreeCell, AllEdgeJoined}
-use Rattle.expansion.specs.SettingLaws.{children-are, setting-laws, start-at, start-ok}
+use Rattle.expansion.specs.SettingLaws.{same-children, setting-laws, start-at, start-ok}
 use Rattle.expansion.specs.CuttingLaws.{sound-pruning, cutting-start}
 use Rattle.single_tiling.specs.SingleTiling.{Tiling}
 use Rattle.single_tiling.specs.TilingLaws.{sequence-tiling}
 
 module _ (b : Board) (good : So (valid b)) (paths : List Path) (fixedLt : b .fixed < 2 ^ 256) (laidLt : b .laid < 2 ^ 256) where
-  same-children : childBoards (setting b paths) ≡ childrenAt b paths
-  same-children = fun-ext (children-are b paths)
-
   -- the pieces that a tiling's steps mark
   pub tiling-cutting : (xs : List ℕ) → Tiling b paths xs → IsCutting b paths (markedBy xs)
   unfolding setting
@@ -33,7 +28,7 @@ module _ (b : Board) (good : So (valid b)) (paths : List Path) (fixedLt : b .fix
       cutting-start b paths good fixedLt laidLt (markedBy xs) .0
       (sequence-cutting (setting b paths) (setting-laws b paths good) (marks b) (piecesOf stepPiece xs) ok
       (children-sequence (setting b paths) (setting-laws b paths good) (marks b) (t .last) xs ok (t .full)
-      (subst (λ (ch : ℕ → List ℕ). ChildSequence ch (marks b) (t .last) xs) (sym same-children) (t .sequence))))
+      (subst (λ (ch : ℕ → List ℕ). ChildSequence ch (marks b) (t .last) xs) (sym (same-children b paths)) (t .sequence))))
 
   -- a board with a free cell is not full
   free-start : HasFreeCell b → isFull b ≡ false
@@ -54,6 +49,6 @@ module _ (b : Board) (good : So (valid b)) (paths : List Path) (fixedLt : b .fix
       let s = sequence-children (setting b paths) L (marks b) (c .0) ok (c .1) in (
         s .1,
         sequence-tiling b good paths fixedLt laidLt (free-start free) (s .0) (s .3) (s .1)
-            (subst (λ (ch : ℕ → List ℕ). ChildSequence ch (marks b) (s .0) (s .1)) same-children (s .4)),
+            (subst (λ (ch : ℕ → List ℕ). ChildSequence ch (marks b) (s .0) (s .1)) (same-children b paths) (s .4)),
         ap (holds eqb) (s .5) ∙ c .2,
       )

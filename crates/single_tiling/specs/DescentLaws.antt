@@ -1,6 +1,6 @@
 -- Laws of the first tiling from a board: what it is for a full board, for one on which no piece is put, and for one with a chosen cell, by the index
 -- of the fits on it; how long it is; and what `singleOf` finds is a tiling of one piece or more, or there is none. Rests on `FirstLaws`, `IndexLaws`,
--- `TilingLaws` and tiler's `SettingLaws`. Assumes nothing.
+-- `TilingLaws` and expansion's `SettingLaws`. Assumes nothing.
 use mathlib.Core.Path.{_≡_, refl, sym, ap, _∙_, subst}
 use mathlib.Core.Logic.{⊎-elim}
 use mathlib.Core.Bool.{Bool, true, false, So, cond}

@@ -1,6 +1,6 @@
 -- Laws of the fits on a cell by an index, tile i / 33 and its point i % 33: they are those of the tiles in order, repeats included, and the pieces are
 -- their first appearances; so what is found first among the pieces is found first by the index. Each fit is a piece, and laying it keeps a board
--- accepted and leaves fewer free cells. Rests on `FirstLaws`, and on board's and tile's laws. Assumes nothing.
+-- accepted and leaves fewer free cells. Rests on `FirstLaws`, and on the laws of `tile`, `rectangle` and `fit`. Assumes nothing.
 use mathlib.Core.Path.{_≡_, refl, sym, ap, ap₂, _∙_, subst}
 use mathlib.Core.Bool.{Bool, true, false, So, _&&_, cond}
 use mathlib.Core.List.{List, [], _∷_, flatMap, nil≢cons, List·Memᴰ as Mem, List·Memᴰ·head as here, List·Memᴰ·tail as there}

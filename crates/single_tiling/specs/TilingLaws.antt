@@ -1,6 +1,6 @@
 -- Laws of tilings: a child of an accepted board of the start is one too, and has as many free cells fewer as a tile has cells; so a tiling has at most
 -- one board more than cells are free, and each is a set of 256 cells; a full start has no tiling, and from another every child sequence to a full board
--- is one. Then what a search reads, answers and leaves. Rests on tiler's `SettingLaws`, covers' `NodeLaws` and board's laws. Assumes nothing.
+-- is one. Then what a search reads, answers and leaves. Rests on expansion's `SettingLaws`, covers' `NodeLaws` and the laws of `rectangle`, `fit` and `children`. Assumes nothing.
 use mathlib.Core.Path.{_≡_, refl, sym, ap, ap₂, _∙_, subst}
 use mathlib.Core.Logic.{_↔_}
 use mathlib.Core.Bool.{Bool, true, false, So, cond, false≢true}
@@ -9,13 +9,13 @@ use mathlib.Core.Option.{Option, none, some, Option·none-ne-some, Option·some-
 use Prim.Native.Nat.{ℕ, _+_, _*_, _/_, _^_, _≤_, _<_}
 use native.Mathlib.Omega.{arith}
 use borrow.Author.Tests.{eqb-true, leb-true}
-use lib.Dec.{lit<, leb}
+use lib.Dec.{leb}
 use lib.ListN.{length, getD, replicate}
 use Rattle.cells.specs.ArrayLaws.{listOf-ext, replicate-listOf}
 use Rattle.cells.specs.Lists.{setsIn, wordAt, wordsFor}
 use Rattle.cells.specs.ListLaws.{wordAt-past, setsIn-wordsFor}
 use Rattle.refusal.specs.Refusal.{Answer, refused, given, mapAnswer, bindAnswer, valueOr}
-use Rattle.refusal.specs.RefusalLaws.{refused-given, given-inj}
+use Rattle.refusal.specs.RefusalLaws.{refused-given, given-inj, bind-given}
 use Rattle.tiles.specs.declared.Tiles.{Tiles}
 use Rattle.tile.specs.Path.{Path, cellCount}
 use Rattle.tiles.specs.Stored.{pathsIn, readTiles}
@@ -24,6 +24,7 @@ use Rattle.tiles.specs.ReadLaws.{readTiles-sound}
 use Rattle.board.specs.declared.RectangularBoard.{RectangularBoard}
 use Rattle.rectangle.specs.Board.{Board, boardAt, marks, freeCount, isFull, valid}
 use Rattle.board.specs.Board.{boardOf, readBoard}
+use Rattle.board.specs.BoardLaws.{readBoard-is}
 use Rattle.fit.specs.Fit.{IsPiece}
 use Rattle.children.specs.Children.{childrenAt}
 use Rattle.rectangle.specs.BoardLaws.{none-full}
@@ -34,7 +35,7 @@ use Rattle.covers.specs.Counts.{Steps, ChildSequence}
 use Rattle.covers.specs.NodeLaws.{chain-good}
 use Rattle.expansion.specs.Boards.{From}
 use Rattle.expansion.specs.SettingLaws.{marks-at, lay-at, lay-from, start-at, start-ok}
-use Rattle.expansion.specs.ExpansionLaws.{below-at}
+use Rattle.expansion.specs.ExpansionLaws.{small-at}
 use Rattle.single_tiling.specs.declared.SingleTiling.{SingleTiling}
 use Rattle.single_tiling.specs.SingleTiling.{Tiling, Finds, readSearch, boardsFound, numberFound, singleAnswer, GetsSingleTiling}
 
@@ -94,7 +95,7 @@ module _ (b : Board) (good : So (valid b)) (paths : List Path) where
     -- each board is one of the start, a set of 256 cells
     pub tiling-small : (xs : List ℕ) → Tiling b paths xs → (i : ℕ) → getD xs i 0 < 2 ^ 256
     tiling-small xs t =
-        below-at (2 ^ 256) (lit< tt) xs
+        small-at xs
         (λ n m. chain-good (λ s u. Mem u (childrenAt b paths s)) (From b) child-from (marks b) (t .last) xs (start-ok b paths good fixedLt laidLt) (t .sequence) n m .small)
 
     -- a full start has no child, and so no tiling
@@ -123,25 +124,23 @@ module _ (b : Board) (good : So (valid b)) (paths : List Path) where
 
 pub search-read : (b : RectangularBoard) (ts : Tiles) (room : ℕ) (p : Board × List Path) → readSearch b ts room ≡ given p
     → (p ≡ (boardOf b, pathsIn ts)) × So (valid (boardOf b)) × (readTiles ts ≡ given (pathsIn ts)) × (freeCount (boardOf b) + 1 ≤ room)
-unfolding readSearch readBoard bindAnswer
-search-read b ts room p e = go (valid (boardOf b)) refl (readTiles ts) refl (leb (freeCount (boardOf b) + 1) room) refl e
+unfolding readSearch
+search-read b ts room p e =
+    let x = bind-given (readBoard b) (λ board. bindAnswer (readTiles ts) (λ paths. cond (leb (freeCount board + 1) room) (given (board, paths)) (refused 8))) p e in
+    let y = bind-given (readTiles ts) (λ paths. cond (leb (freeCount (x .0) + 1) room) (given (x .0, paths)) (refused 8)) p (x .2) in
+    let board = readBoard-is b (x .0) (x .1) in
+    let tiles = readTiles-sound ts (y .0) (y .1) .2 in
+    let last = within (x .0) (y .0) (leb (freeCount (x .0) + 1) room) refl (y .2) in (
+      sym (last .1) ∙ ap₂ (λ (d : Board) (ps : List Path). (d, ps)) (sym (board .0)) tiles,
+      board .1,
+      y .1 ∙ ap given tiles,
+      subst (λ (d : Board). freeCount d + 1 ≤ room) (sym (board .0)) (last .0),
+    )
   where
-    go : (t : Bool) → valid (boardOf b) ≡ t → (a : Answer (List Path)) → readTiles ts ≡ a → (l : Bool) → leb (freeCount (boardOf b) + 1) room ≡ l
-        → bindAnswer (cond t (given (boardOf b)) (refused 4))
-        (λ board. bindAnswer a (λ paths. cond (leb (freeCount board + 1) room) (given (board, paths)) (refused 8))) ≡ given p
-        → (p ≡ (boardOf b, pathsIn ts)) × So (valid (boardOf b)) × (readTiles ts ≡ given (pathsIn ts)) × (freeCount (boardOf b) + 1 ≤ room)
-    go false v a q l w f = absurd (refused-given 4 p f)
-    go true v (refused n) q l w f = absurd (refused-given n p f)
-    go true v (given paths) q false w f =
-        absurd (refused-given 8 p (subst (λ (t : Bool). cond t (given (boardOf b, paths)) (refused 8) ≡ given p) w f))
-    go true v (given paths) q true w f =
-        let r = readTiles-sound ts paths q .2 in
-        let g : given (boardOf b, paths) ≡ given p = subst (λ (t : Bool). cond t (given (boardOf b, paths)) (refused 8) ≡ given p) w f in (
-          sym (given-inj (boardOf b, paths) p g) ∙ ap (λ (ps : List Path). (boardOf b, ps)) r,
-          v,
-          q ∙ ap given r,
-          leb-true (freeCount (boardOf b) + 1) room w,
-        )
+    within : (board : Board) (paths : List Path) (t : Bool) → leb (freeCount board + 1) room ≡ t → cond t (given (board, paths)) (refused 8) ≡ given p
+        → (freeCount board + 1 ≤ room) × ((board, paths) ≡ p)
+    within board paths true w f = (leb-true (freeCount board + 1) room w, given-inj (board, paths) p f)
+    within board paths false w f = absurd (refused-given 8 p f)
 
 -- ---- what is found
 

@@ -1,6 +1,6 @@
 -- Laws of paths: a path from elsewhere has its points shifted; a symmetry of the plane takes points to points, so the number of cells and being
 -- edge-joined are kept; a tile has one cell exactly if its path is empty; turns and reflections are the symmetries of a square, and keep a path's
--- length and codes. Rests on `PositionLaws` and `DirectionLaws`. Assumes nothing.
+-- length and codes. Rests on direction's `PositionLaws` and `DirectionLaws`. Assumes nothing.
 use mathlib.Core.Path.{_≡_, refl, sym, ap, ap₂, _∙_, subst}
 use mathlib.Core.Logic.{_↔_}
 use mathlib.Core.Bool.{false, So, and-eq-true-iff}

@@ -21,7 +21,7 @@ use Rattle.refusal.specs.Refusal.{refused, given, refusalNumber, refusalOf, ver
 use Rattle.tile.specs.Path.{Path, codesOk, isPath}
 use Rattle.tile.specs.Stored.{pathIn, readTile, readPath, tileOf}
 use Rattle.tile.specs.Inner.{CleanTile}
-use Rattle.refusal.specs.RefusalLaws.{clash, refused-of, Refuses, refuses-one, refuses-cond}
+use Rattle.refusal.specs.RefusalLaws.{clash, refused-of, given-inj, Refuses, refuses-one, refuses-cond}
 
 -- ---- some codes are a path
 
@@ -133,6 +133,14 @@ module _ (t : Tile) where
       go (yes h) b e = absurd (none (readTile-long h))
       go (no h) true e = (omega arith, e)
       go (no h) false e = absurd (none (readTile-codes e))
+
+  -- what is read is a path of at most 32 codes
+  pub readTile-is : (p : Path) → readTile t ≡ given p → (length p ≤ 32) × So (codesOk p)
+  unfolding refusalOf
+  readTile-is p e =
+      let ok = readTile-accepted (sym (ap refusalOf e)) in
+      let is : p ≡ pathIn t = given-inj p (pathIn t) (sym e ∙ readTile-given (ok .0) (ok .1)) in
+      (subst (λ (q : Path). length q ≤ 32) (sym is) (omega (arith, length-pathIn t, ok .0)), subst (λ (q : Path). So (codesOk q)) (sym is) (ok .1))
 
 -- a tile is refused by 5 only
 pub readTile-refuses : (t : Tile) (In : ℕ → Type 0) → In 5 → Refuses In (readTile t)

@@ -10,7 +10,6 @@ use native.Mathlib.Omega.{arith}
 use borrow.Author.Tests.{le-leb, lt-leb, leb-true, leb-false}
 use lib.Dec.{eqb, leb}
 use lib.ListN.{length, getD, set, length-append}
-use Rattle.cells.specs.Set.{unionOf}
 use Rattle.cells.specs.Words.{number}
 use Rattle.cells.specs.Firsts.{holds}
 use Rattle.cells.specs.FirstsLaws.{addNew-old, addNew-new, holds-iff, mem-getD}
@@ -23,7 +22,6 @@ use Rattle.tiles.specs.declared.Tiles.{Tiles}
 use Rattle.tiles.specs.Stored.{pathsIn}
 use Rattle.board.specs.declared.RectangularBoard.{RectangularBoard}
 use Rattle.board.specs.Board.{boardOf}
-use Rattle.rectangle.specs.Board.{marks}
 use Rattle.rectangle.specs.BoardLaws.{marks-lt}
 use Rattle.covers.specs.Cuttings.{Setting, childBoards, Laws, EqualSteps}
 use Rattle.covers.specs.Counts.{numberIn, nodesOf, graphEdges}
@@ -71,41 +69,41 @@ module _ (room : ℕ) (ws : List ℕ) (n : ℕ) (es : List (ℕ × ℕ)) (k : Ho
 
 -- ---- what the state tells
 
-module _ (room space : ℕ) (g : List ℕ × List (ℕ × ℕ)) where
-  pub size-held : (n e : ℕ) → G.Size n e ≡ growthOf room space g
-      → (length (g .0) ≤ room) × (n ≡ length (g .0)) × (e ≡ min (length (g .1)) (suc space))
+module _ (room edges-room : ℕ) (g : List ℕ × List (ℕ × ℕ)) where
+  pub size-held : (n e : ℕ) → G.Size n e ≡ growthOf room edges-room g
+      → (length (g .0) ≤ room) × (n ≡ length (g .0)) × (e ≡ min (length (g .1)) (suc edges-room))
   unfolding growthOf
   size-held n e q = go (leb (length (g .0)) room) (leb-true (length (g .0)) room) q
     where
-      go : (t : Bool) → (t ≡ true → length (g .0) ≤ room) → G.Size n e ≡ cond t (G.Size (length (g .0)) (min (length (g .1)) (suc space))) G.NoRoom
-          → (length (g .0) ≤ room) × (n ≡ length (g .0)) × (e ≡ min (length (g .1)) (suc space))
+      go : (t : Bool) → (t ≡ true → length (g .0) ≤ room) → G.Size n e ≡ cond t (G.Size (length (g .0)) (min (length (g .1)) (suc edges-room))) G.NoRoom
+          → (length (g .0) ≤ room) × (n ≡ length (g .0)) × (e ≡ min (length (g .1)) (suc edges-room))
       go true f q = (f refl, cc, cc)
       go false f q = let z : _≡_ {A = ℕ} 0 1 = cc in absurd (omega arith)
 
-  pub no-room-held : G.NoRoom ≡ growthOf room space g → room < length (g .0)
+  pub no-room-held : G.NoRoom ≡ growthOf room edges-room g → room < length (g .0)
   unfolding growthOf
   no-room-held q = go (leb (length (g .0)) room) (leb-false (length (g .0)) room) q
     where
-      go : (t : Bool) → (t ≡ false → room < length (g .0)) → G.NoRoom ≡ cond t (G.Size (length (g .0)) (min (length (g .1)) (suc space))) G.NoRoom
+      go : (t : Bool) → (t ≡ false → room < length (g .0)) → G.NoRoom ≡ cond t (G.Size (length (g .0)) (min (length (g .1)) (suc edges-room))) G.NoRoom
           → room < length (g .0)
       go true f q = let z : _≡_ {A = ℕ} 0 1 = cc in absurd (omega arith)
       go false f q = f refl
 
-  size-is : length (g .0) ≤ room → G.Size (length (g .0)) (min (length (g .1)) (suc space)) ≡ growthOf room space g
+  size-is : length (g .0) ≤ room → G.Size (length (g .0)) (min (length (g .1)) (suc edges-room)) ≡ growthOf room edges-room g
   unfolding growthOf
   size-is h = rw (le-leb (length (g .0)) room h)
 
-  no-room-is : room < length (g .0) → G.NoRoom ≡ growthOf room space g
+  no-room-is : room < length (g .0) → G.NoRoom ≡ growthOf room edges-room g
   unfolding growthOf
   no-room-is h = rw (lt-leb (length (g .0)) room h)
 
   -- nothing is asked of the words where the nodes pass the room
-  no-room-graph : (ns es : List ℕ) → room < length (g .0) → HoldsGraph room space ns es G.NoRoom g
+  no-room-graph : (ns es : List ℕ) → room < length (g .0) → HoldsGraph room edges-room ns es G.NoRoom g
   no-room-graph ns es h = record { state = no-room-is h; nodes = λ l. absurd (omega arith); edges = λ l. absurd (omega arith) }
 
   -- nodes that have room, and edges
   size-graph : (ns es : List ℕ) (n e : ℕ) → length (g .0) ≤ room → n ≡ length (g .0) → listOf (setAt ns) (length (g .0)) ≡ g .0
-      → HoldsEdges space es e (g .1) → HoldsGraph room space ns es (G.Size n e) g
+      → HoldsEdges edges-room es e (g .1) → HoldsGraph room edges-room ns es (G.Size n e) g
   size-graph ns es n e h m held k =
       record { state = ap₂ G.Size m (k .number) ∙ size-is h; nodes = λ l. held; edges = λ l. k .edges }
 
@@ -115,19 +113,19 @@ size-within room n e growth s h = subst (λ (d : Growth). nodesIn d ≤ room) s 
 
 -- ---- one child more
 
-module _ (room space : ℕ) (ns es : List ℕ) (growth : Growth) (g : List ℕ × List (ℕ × ℕ)) (k : HoldsGraph room space ns es growth g) (p x : ℕ) where
+module _ (room edges-room : ℕ) (ns es : List ℕ) (growth : Growth) (g : List ℕ × List (ℕ × ℕ)) (k : HoldsGraph room edges-room ns es growth g) (p x : ℕ) where
   -- room was gone before
-  pub child-no-room : growth ≡ G.NoRoom → HoldsGraph room space ns es G.NoRoom (addChild eqb p x g)
+  pub child-no-room : growth ≡ G.NoRoom → HoldsGraph room edges-room ns es G.NoRoom (addChild eqb p x g)
   unfolding addChildren
   child-no-room e =
-      no-room-graph room space (addChild eqb p x g) ns es
-      (omega (arith, no-room-held room space g (sym e ∙ k .state), addChildren-longer eqb p (x ∷ []) g .0))
+      no-room-graph room edges-room (addChild eqb p x g) ns es
+      (omega (arith, no-room-held room edges-room g (sym e ∙ k .state), addChildren-longer eqb p (x ∷ []) g .0))
 
   module _ (n e : ℕ) (s : growth ≡ G.Size n e) (lent : 4 * room ≤ length ns) (r : Found) (f : foundAnswer r ≡ findSet ns 0 n x) where
-    sizes : (length (g .0) ≤ room) × (n ≡ length (g .0)) × (e ≡ min (length (g .1)) (suc space))
-    sizes = size-held room space g n e (sym s ∙ k .state)
+    sizes : (length (g .0) ≤ room) × (n ≡ length (g .0)) × (e ≡ min (length (g .1)) (suc edges-room))
+    sizes = size-held room edges-room g n e (sym s ∙ k .state)
 
-    held : HoldsEdges space es e (g .1)
+    held : HoldsEdges edges-room es e (g .1)
     held = record { number = sizes .2; edges = k .edges (sizes .0) }
 
     sought : foundAnswer r ≡ cond (holds eqb (g .0) x) (some (numberIn eqb (g .0) x)) none
@@ -152,19 +150,19 @@ module _ (room space : ℕ) (ns es : List ℕ) (growth : Growth) (g : List ℕ �
 
     -- it is a node already
     pub child-old : (i : ℕ) → r ≡ F.At i → (vs : List ℕ) (m : ℕ)
-        → ((ds : List (ℕ × ℕ)) → HoldsEdges space es e ds → HoldsEdges space vs m (ds ++ (p, i) ∷ []))
-        → HoldsGraph room space ns vs (G.Size n m) (addChild eqb p x g)
+        → ((ds : List (ℕ × ℕ)) → HoldsEdges edges-room es e ds → HoldsEdges edges-room vs m (ds ++ (p, i) ∷ []))
+        → HoldsGraph room edges-room ns vs (G.Size n m) (addChild eqb p x g)
     unfolding addChild
     child-old i q vs m more =
         let t = there-is i q in
         rw (addNew-old eqb (g .0) x (t .0), ← t .1)
-        (size-graph room space (g .0, g .1 ++ (p, i) ∷ []) ns vs n m (sizes .0) (sizes .1) (k .nodes (sizes .0)) (more (g .1) held))
+        (size-graph room edges-room (g .0, g .1 ++ (p, i) ∷ []) ns vs n m (sizes .0) (sizes .1) (k .nodes (sizes .0)) (more (g .1) held))
 
     -- there is no room for it
-    pub child-over : r ≡ F.Nothing → room ≤ n → HoldsGraph room space ns es G.NoRoom (addChild eqb p x g)
+    pub child-over : r ≡ F.Nothing → room ≤ n → HoldsGraph room edges-room ns es G.NoRoom (addChild eqb p x g)
     unfolding addChild
     child-over q h =
-        no-room-graph room space (addChild eqb p x g) ns es
+        no-room-graph room edges-room (addChild eqb p x g) ns es
         (omega (arith, ap length (addNew-new eqb (g .0) x (there-is-none q)), length-append (g .0) (x ∷ []), sizes .1))
 
     -- its number is the next
@@ -199,41 +197,41 @@ module _ (room space : ℕ) (ns es : List ℕ) (growth : Growth) (g : List ℕ �
         (setAt-same ns n x (in-lent n (length ns) (new-lent h)) small)
 
     pub child-put : r ≡ F.Nothing → n < room → x < 2 ^ 256 → (us : List ℕ) → us ≡ withSet ns n x → (vs : List ℕ) (m : ℕ)
-        → ((ds : List (ℕ × ℕ)) → HoldsEdges space es e ds → HoldsEdges space vs m (ds ++ (p, n) ∷ []))
-        → HoldsGraph room space us vs (G.Size (n + 1) m) (addChild eqb p x g)
+        → ((ds : List (ℕ × ℕ)) → HoldsEdges edges-room es e ds → HoldsEdges edges-room vs m (ds ++ (p, n) ∷ []))
+        → HoldsGraph room edges-room us vs (G.Size (n + 1) m) (addChild eqb p x g)
     unfolding addChild
     child-put q h small us w vs m more =
         rw (addNew-new eqb (g .0) x (there-is-none q), new-number q, w)
-        (size-graph room space (g .0 ++ x ∷ [], g .1 ++ (p, n) ∷ []) (withSet ns n x) vs (n + 1) m
+        (size-graph room edges-room (g .0 ++ x ∷ [], g .1 ++ (p, n) ∷ []) (withSet ns n x) vs (n + 1) m
         (new-fits h) (sym new-length) (new-nodes h small) (more (g .1) held))
 
 -- ---- children one after another
 
-module _ (room space : ℕ) (ns es : List ℕ) (growth : Growth) (g : List ℕ × List (ℕ × ℕ)) (p : ℕ) (f : ℕ → ℕ) where
-  pub children-none : HoldsGraph room space ns es growth g → HoldsGraph room space ns es growth (addChildren eqb p (listOf f 0) g)
+module _ (room edges-room : ℕ) (ns es : List ℕ) (growth : Growth) (g : List ℕ × List (ℕ × ℕ)) (p : ℕ) (f : ℕ → ℕ) where
+  pub children-none : HoldsGraph room edges-room ns es growth g → HoldsGraph room edges-room ns es growth (addChildren eqb p (listOf f 0) g)
   unfolding addChildren listOf listFrom
   children-none k = k
 
-  pub children-more : (i x : ℕ) → x ≡ f i → HoldsGraph room space ns es growth (addChild eqb p x (addChildren eqb p (listOf f i) g))
-      → HoldsGraph room space ns es growth (addChildren eqb p (listOf f (i + 1)) g)
+  pub children-more : (i x : ℕ) → x ≡ f i → HoldsGraph room edges-room ns es growth (addChild eqb p x (addChildren eqb p (listOf f i) g))
+      → HoldsGraph room edges-room ns es growth (addChildren eqb p (listOf f (i + 1)) g)
   children-more i x e k =
-      subst (HoldsGraph room space ns es growth)
+      subst (HoldsGraph room edges-room ns es growth)
       (sym (addChildren-snoc eqb p (listOf f i) x g)
       ∙ ap (λ (l : List ℕ). addChildren eqb p l g) (ap (λ (y : ℕ). listOf f i ++ y ∷ []) e ∙ sym (listOf-snoc f i)))
       k
 
-  pub children-all : (i n : ℕ) → i ≤ n → n ≤ i → HoldsGraph room space ns es growth (addChildren eqb p (listOf f i) g)
-      → HoldsGraph room space ns es growth (addChildren eqb p (listOf f n) g)
+  pub children-all : (i n : ℕ) → i ≤ n → n ≤ i → HoldsGraph room edges-room ns es growth (addChildren eqb p (listOf f i) g)
+      → HoldsGraph room edges-room ns es growth (addChildren eqb p (listOf f n) g)
   children-all i n h l k =
       let e : i ≡ n = omega arith in
-      subst (λ (j : ℕ). HoldsGraph room space ns es growth (addChildren eqb p (listOf f j) g)) e k
+      subst (λ (j : ℕ). HoldsGraph room edges-room ns es growth (addChildren eqb p (listOf f j) g)) e k
 
 -- the children of a node that was read
-pub children-read : (b : RectangularBoard) (ts : Tiles) (room space : ℕ) (ns es : List ℕ) (growth : Growth) (g : List ℕ × List (ℕ × ℕ)) (p : ℕ)
-    (cs : List ℕ) (m n : ℕ) → cs ≡ childBoards (settingOf b ts) m → m ≡ n → HoldsGraph room space ns es growth (addChildren eqb p cs g)
-    → HoldsGraph room space ns es growth (addChildren eqb p (childBoards (settingOf b ts) n) g)
-children-read b ts room space ns es growth g p cs m n e q k =
-    subst (λ (l : List ℕ). HoldsGraph room space ns es growth (addChildren eqb p l g)) (e ∙ ap (childBoards (settingOf b ts)) q) k
+pub children-read : (b : RectangularBoard) (ts : Tiles) (room edges-room : ℕ) (ns es : List ℕ) (growth : Growth) (g : List ℕ × List (ℕ × ℕ)) (p : ℕ)
+    (cs : List ℕ) (m n : ℕ) → cs ≡ childBoards (settingOf b ts) m → m ≡ n → HoldsGraph room edges-room ns es growth (addChildren eqb p cs g)
+    → HoldsGraph room edges-room ns es growth (addChildren eqb p (childBoards (settingOf b ts) n) g)
+children-read b ts room edges-room ns es growth g p cs m n e q k =
+    subst (λ (l : List ℕ). HoldsGraph room edges-room ns es growth (addChildren eqb p l g)) (e ∙ ap (childBoards (settingOf b ts)) q) k
 
 -- ---- board and tiles that are not refused
 
@@ -247,10 +245,6 @@ wholeGraph b ts = (nodesOf (settingOf b ts) (startOf b), graphEdges (settingOf b
 -- the start is stored as node 0
 zero-lent : (room n : ℕ) → (room ≡ 0 → ⊥) → 4 * room ≤ n → 4 * 0 + 4 ≤ n
 zero-lent room n h r = omega arith
-
-pub start-marks : (b : RectangularBoard) (x : ℕ) → x ≡ unionOf (number (b .fixed)) (number (b .laid)) → x ≡ startOf b
-unfolding marks
-start-marks b x e = e
 
 pub start-put : (b : RectangularBoard) (room : ℕ) (ws : List ℕ) → (room ≡ 0 → ⊥) → 4 * room ≤ length ws → (x : ℕ) → x ≡ startOf b
     → (vs : List ℕ) → vs ≡ withSet ws 0 x → setAt vs 0 ≡ startOf b
@@ -287,24 +281,24 @@ module _ (b : RectangularBoard) (ts : Tiles) (ok : Accepted b ts) (fixedLt : num
   found-few : (i : ℕ) → length (found i) ≤ length nodes
   found-few i = let r = found-prefix S L a E s good i in omega (arith, ap length (r .1), length-append (found i) (r .0))
 
-  module _ (room space : ℕ) (ns es : List ℕ) where
+  module _ (room edges-room : ℕ) (ns es : List ℕ) where
     -- no room for the start
-    pub build-no-room : room ≡ 0 → HoldsGraph room space ns es G.NoRoom (wholeGraph b ts)
-    build-no-room e = no-room-graph room space (wholeGraph b ts) ns es (omega (arith, some-node S L s good))
+    pub build-no-room : room ≡ 0 → HoldsGraph room edges-room ns es G.NoRoom (wholeGraph b ts)
+    build-no-room e = no-room-graph room edges-room (wholeGraph b ts) ns es (omega (arith, some-node S L s good))
 
-    pub build-start : 0 < room → setAt ns 0 ≡ startOf b → HoldsGraph room space ns es (G.Size 1 0) (foundGraph b ts 0)
+    pub build-start : 0 < room → setAt ns 0 ≡ startOf b → HoldsGraph room edges-room ns es (G.Size 1 0) (foundGraph b ts 0)
     unfolding listOf listFrom
     build-start h e =
         rw (found-zero S L a E s good, edges-zero S L a E s good)
-        (size-graph room space (s ∷ [], []) ns es 1 0 (omega arith) refl (ap (λ (x : ℕ). x ∷ []) e)
+        (size-graph room edges-room (s ∷ [], []) ns es 1 0 (omega arith) refl (ap (λ (x : ℕ). x ∷ []) e)
         (record { number = omega arith; edges = λ l. refl }))
 
-    module _ (growth : Growth) (i : ℕ) (k : HoldsGraph room space ns es growth (foundGraph b ts i)) (n : ℕ) (told : n ≡ nodesIn growth) where
+    module _ (growth : Growth) (i : ℕ) (k : HoldsGraph room edges-room ns es growth (foundGraph b ts i)) (n : ℕ) (told : n ≡ nodesIn growth) where
       counted : i < n → (length (found i) ≤ room) × (i < length (found i))
       counted h = go growth refl (subst (λ (m : ℕ). i < m) told h)
         where
           go : (d : Growth) → growth ≡ d → i < nodesIn d → (length (found i) ≤ room) × (i < length (found i))
-          go (G.Size m e) q l = let r = size-held room space (foundGraph b ts i) m e (sym q ∙ k .state) in (r .0, omega (arith, r .1))
+          go (G.Size m e) q l = let r = size-held room edges-room (foundGraph b ts i) m e (sym q ∙ k .state) in (r .0, omega (arith, r .1))
           go G.NoRoom q l = absurd (omega arith)
 
       below : i < n → i < length nodes
@@ -324,11 +318,11 @@ module _ (b : RectangularBoard) (ts : Tiles) (ok : Accepted b ts) (fixedLt : num
 
       -- one node expanded
       pub build-more : i < n → (us vs : List ℕ) (next : Growth)
-          → HoldsGraph room space us vs next (addChildren eqb i (childBoards (settingOf b ts) (setAt ns i)) (foundGraph b ts i))
-          → HoldsGraph room space us vs next (foundGraph b ts (i + 1))
+          → HoldsGraph room edges-room us vs next (addChildren eqb i (childBoards (settingOf b ts) (setAt ns i)) (foundGraph b ts i))
+          → HoldsGraph room edges-room us vs next (foundGraph b ts (i + 1))
       unfolding setting
       build-more h us vs next m =
-          subst (HoldsGraph room space us vs next)
+          subst (HoldsGraph room edges-room us vs next)
           (ap (λ (x : ℕ). addChildren eqb i (childBoards S x) (foundGraph b ts i)) (node-is h)
           ∙ expanded S L a E s good i (below h)
           ∙ ap (foundGraph b ts) (sym (add-one i)))
@@ -338,7 +332,7 @@ module _ (b : RectangularBoard) (ts : Tiles) (ok : Accepted b ts) (fixedLt : num
       build-below h = omega (arith, below h)
 
       -- no node is left to be expanded
-      pub build-end : i ≤ length nodes → n ≤ i → HoldsGraph room space ns es growth (wholeGraph b ts)
+      pub build-end : i ≤ length nodes → n ≤ i → HoldsGraph room edges-room ns es growth (wholeGraph b ts)
       build-end h l = go growth refl (subst (λ (m : ℕ). m ≤ i) told l)
         where
           all : length (found i) ≤ i → foundGraph b ts i ≡ wholeGraph b ts
@@ -347,10 +341,10 @@ module _ (b : RectangularBoard) (ts : Tiles) (ok : Accepted b ts) (fixedLt : num
               let q = edges-all S L a E s good i (omega (arith, ap length e)) in
               ap₂ (λ (x : List ℕ) (y : List (ℕ × ℕ)). (x, y)) e q
 
-          go : (d : Growth) → growth ≡ d → nodesIn d ≤ i → HoldsGraph room space ns es growth (wholeGraph b ts)
+          go : (d : Growth) → growth ≡ d → nodesIn d ≤ i → HoldsGraph room edges-room ns es growth (wholeGraph b ts)
           go (G.Size m e) q l =
-              let r = size-held room space (foundGraph b ts i) m e (sym q ∙ k .state) in
-              subst (HoldsGraph room space ns es growth) (all (omega (arith, r .1))) k
+              let r = size-held room edges-room (foundGraph b ts i) m e (sym q ∙ k .state) in
+              subst (HoldsGraph room edges-room ns es growth) (all (omega (arith, r .1))) k
           go G.NoRoom q l =
-              let past = no-room-held room space (foundGraph b ts i) (sym q ∙ k .state) in
-              rw q (no-room-graph room space (wholeGraph b ts) ns es (omega (arith, past, found-few i)))
+              let past = no-room-held room edges-room (foundGraph b ts i) (sym q ∙ k .state) in
+              rw q (no-room-graph room edges-room (wholeGraph b ts) ns es (omega (arith, past, found-few i)))

@@ -135,24 +135,24 @@ makes-as a a′ n n₁ c c₁ e e₁ ns cs es r p q s t m = rw (p, ← q, ← s,
 
 -- ---- what is judged
 
-module _ (room space : ℕ) (g : Graph) where
-  judgeGraph-nodes : room < length (g .nodes) → judgeGraph room space g ≡ refused 8
+module _ (room edges-room : ℕ) (g : Graph) where
+  judgeGraph-nodes : room < length (g .nodes) → judgeGraph room edges-room g ≡ refused 8
   unfolding judgeGraph
   judgeGraph-nodes h = rw (lt-leb (length (g .nodes)) room h)
 
   module _ (h : length (g .nodes) ≤ room) where
-    judgeGraph-edges : space < length (g .edges) → judgeGraph room space g ≡ refused 10
+    judgeGraph-edges : edges-room < length (g .edges) → judgeGraph room edges-room g ≡ refused 10
     unfolding judgeGraph
-    judgeGraph-edges l = rw (le-leb (length (g .nodes)) room h, lt-leb (length (g .edges)) space l)
+    judgeGraph-edges l = rw (le-leb (length (g .nodes)) room h, lt-leb (length (g .edges)) edges-room l)
 
-    module _ (l : length (g .edges) ≤ space) where
-      judgeGraph-large : tooLarge (g .counts) ≡ true → judgeGraph room space g ≡ refused 9
+    module _ (l : length (g .edges) ≤ edges-room) where
+      judgeGraph-large : tooLarge (g .counts) ≡ true → judgeGraph room edges-room g ≡ refused 9
       unfolding judgeGraph
-      judgeGraph-large t = rw (le-leb (length (g .nodes)) room h, le-leb (length (g .edges)) space l, t)
+      judgeGraph-large t = rw (le-leb (length (g .nodes)) room h, le-leb (length (g .edges)) edges-room l, t)
 
-      judgeGraph-given : tooLarge (g .counts) ≡ false → judgeGraph room space g ≡ given g
+      judgeGraph-given : tooLarge (g .counts) ≡ false → judgeGraph room edges-room g ≡ given g
       unfolding judgeGraph
-      judgeGraph-given t = rw (le-leb (length (g .nodes)) room h, le-leb (length (g .edges)) space l, t)
+      judgeGraph-given t = rw (le-leb (length (g .nodes)) room h, le-leb (length (g .edges)) edges-room l, t)
 
 -- ---- the graph of a board and tiles
 
@@ -178,10 +178,10 @@ module _ (b : RectangularBoard) (ts : Tiles) (accepted : Accepted b ts) (fixed :
   ok : S .Ok start
   ok = accepted-start b ts accepted (number-lt (b .fixed) fixed) (number-lt (b .laid) laid)
 
-  module _ (room space : ℕ) (ns es : List ℕ) (growth : Growth) (n e : ℕ) (holds : HoldsGraph room space ns es growth (nodes, edges))
+  module _ (room edges-room : ℕ) (ns es : List ℕ) (growth : Growth) (n e : ℕ) (holds : HoldsGraph room edges-room ns es growth (nodes, edges))
       (size : growth ≡ G.Size n e) where
-    sized : (length nodes ≤ room) × (n ≡ length nodes) × (e ≡ min (length edges) (suc space))
-    sized = size-held room space (nodes, edges) n e (sym size ∙ holds .state)
+    sized : (length nodes ≤ room) × (n ≡ length nodes) × (e ≡ min (length edges) (suc edges-room))
+    sized = size-held room edges-room (nodes, edges) n e (sym size ∙ holds .state)
 
     -- the nodes and the edges stand in the words
     stored-nodes : listOf (setAt ns) n ≡ nodes
@@ -194,8 +194,8 @@ module _ (b : RectangularBoard) (ts : Tiles) (accepted : Accepted b ts) (fixed :
         (ap (λ (l : List ℕ). getD l i 0) (sym stored-nodes) ∙ getD-listOf (setAt ns) n i 0 h)
         (node-ok S laws start ok (getD nodes i 0) (mem-getD nodes i 0 (omega (arith, sized .1))))
 
-    module _ (few : e ≤ space) where
-      all-edges : (e ≡ length edges) × (length edges ≤ space)
+    module _ (few : e ≤ edges-room) where
+      all-edges : (e ≡ length edges) × (length edges ≤ edges-room)
       all-edges = let q = sized .2 in (omega arith, omega arith)
 
       stored-edges : listOf (edgeAt es) e ≡ edges
@@ -215,7 +215,7 @@ module _ (b : RectangularBoard) (ts : Tiles) (accepted : Accepted b ts) (fixed :
 
       -- the words of the nodes and edges, and the full board's node
       module _ (ns′ es′ : List ℕ) (r : MadeGraph) (small : (i : ℕ) → getD ns i 0 < 2 ^ 64) (longNodes : 4 * room ≤ length ns)
-          (longEdges : 2 * space ≤ length es) (finish : Finishes (boardOf b) ns es n e ns′ es′ r) where
+          (longEdges : 2 * edges-room ≤ length es) (finish : Finishes (boardOf b) ns es n e ns′ es′ r) where
         finished-nodes : ns′ ≡ wordsFor nodes (length ns)
         finished-nodes =
             finish .nodeWords
@@ -237,54 +237,54 @@ module _ (b : RectangularBoard) (ts : Tiles) (accepted : Accepted b ts) (fixed :
 
   -- ---- what is made of so many lent words
 
-  module _ (wn wc we room space : ℕ) (atRoom : room ≡ nodeRoom wn wc) (atSpace : space ≡ edgeRoom we)
-      (ns es : List ℕ) (growth : Growth) (holds : HoldsGraph room space ns es growth (nodes, edges))
+  module _ (wn wc we room edges-room : ℕ) (atRoom : room ≡ nodeRoom wn wc) (atEdgesRoom : edges-room ≡ edgeRoom we)
+      (ns es : List ℕ) (growth : Growth) (holds : HoldsGraph room edges-room ns es growth (nodes, edges))
       (longNodes : length ns ≡ wn) (longEdges : length es ≡ we) where
     abbrev answer : Answer Graph
     answer = judgeGraph (nodeRoom wn wc) (edgeRoom we) (graphOf S start)
 
-    rooms : answer ≡ judgeGraph room space (graphOf S start)
-    rooms = rw (← atRoom, ← atSpace)
+    rooms : answer ≡ judgeGraph room edges-room (graphOf S start)
+    rooms = rw (← atRoom, ← atEdgesRoom)
 
     pub made-no-room : (ns′ cs′ es′ : List ℕ) (r : MadeGraph) → growth ≡ G.NoRoom → Makes (refused 8) (length ns) wc (length es) ns′ cs′ es′ r
         → Makes answer wn wc we ns′ cs′ es′ r
     unfolding graphOf
     made-no-room ns′ cs′ es′ r q =
         makes-as answer (refused 8) wn (length ns) wc wc we (length es) ns′ cs′ es′ r
-        (rooms ∙ judgeGraph-nodes room space (graphOf S start) (no-room-held room space (nodes, edges) (sym q ∙ holds .state))) longNodes refl longEdges
+        (rooms ∙ judgeGraph-nodes room edges-room (graphOf S start) (no-room-held room edges-room (nodes, edges) (sym q ∙ holds .state))) longNodes refl longEdges
 
     module _ (n e : ℕ) (size : growth ≡ G.Size n e) where
       -- what the calls ask
-      pub count-asks : e ≤ space → (2 * e ≤ length es) × EndsBelow es e (countRoom wc)
+      pub count-asks : e ≤ edges-room → (2 * e ≤ length es) × EndsBelow es e (countRoom wc)
       count-asks few =
           let inRoom = node-room room wn wc (le-of-eq atRoom) .1 in (
-            omega (arith, edge-room space we (le-of-eq atSpace)),
+            omega (arith, edge-room edges-room we (le-of-eq atEdgesRoom)),
             λ i h.
-                let ends = edge-ends room space ns es growth n e holds size few i h in
+                let ends = edge-ends room edges-room ns es growth n e holds size few i h in
                 (omega (arith, ends .0), omega (arith, ends .1)),
           )
 
-      pub finish-asks : e ≤ space → ((i : ℕ) → i < n → From (boardOf b) (setAt ns i)) × (4 * n ≤ length ns) × (2 * e ≤ length es)
+      pub finish-asks : e ≤ edges-room → ((i : ℕ) → i < n → From (boardOf b) (setAt ns i)) × (4 * n ≤ length ns) × (2 * e ≤ length es)
       finish-asks few =
-          let fits = sized room space ns es growth n e holds size in (
-            node-from room space ns es growth n e holds size,
+          let fits = sized room edges-room ns es growth n e holds size in (
+            node-from room edges-room ns es growth n e holds size,
             omega (arith, node-room room wn wc (le-of-eq atRoom) .0, fits .0, fits .1),
-            omega (arith, edge-room space we (le-of-eq atSpace)),
+            omega (arith, edge-room edges-room we (le-of-eq atEdgesRoom)),
           )
 
-      pub made-no-room-for-edges : (ns′ cs′ es′ : List ℕ) (r : MadeGraph) → space < e → Makes (refused 10) (length ns) wc (length es) ns′ cs′ es′ r
+      pub made-no-room-for-edges : (ns′ cs′ es′ : List ℕ) (r : MadeGraph) → edges-room < e → Makes (refused 10) (length ns) wc (length es) ns′ cs′ es′ r
           → Makes answer wn wc we ns′ cs′ es′ r
       unfolding graphOf
       made-no-room-for-edges ns′ cs′ es′ r h =
-          let fits = sized room space ns es growth n e holds size in
+          let fits = sized room edges-room ns es growth n e holds size in
           let q = fits .2 in
           makes-as answer (refused 10) wn (length ns) wc wc we (length es) ns′ cs′ es′ r
-          (rooms ∙ judgeGraph-edges room space (graphOf S start) (fits .0) (omega arith)) longNodes refl longEdges
+          (rooms ∙ judgeGraph-edges room edges-room (graphOf S start) (fits .0) (omega arith)) longNodes refl longEdges
 
-      module _ (few : e ≤ space) (cs : List ℕ) (t : Bool) (longCounts : length cs ≡ wc)
+      module _ (few : e ≤ edges-room) (cs : List ℕ) (t : Bool) (longCounts : length cs ≡ wc)
           (pass : PassesEdges wc (listOf (edgeAt es) e) cs t) where
         all : PassesEdges wc edges cs t
-        all = passes room space ns es growth n e holds size few wc cs t pass
+        all = passes room edges-room ns es growth n e holds size few wc cs t pass
 
         pub made-large : (ns′ cs′ es′ : List ℕ) (r : MadeGraph) → t ≡ false → Makes (refused 9) (length ns) (length cs) (length es) ns′ cs′ es′ r
             → Makes answer wn wc we ns′ cs′ es′ r
@@ -292,8 +292,8 @@ module _ (b : RectangularBoard) (ts : Tiles) (accepted : Accepted b ts) (fixed :
         made-large ns′ cs′ es′ r f =
             makes-as answer (refused 9) wn (length ns) wc (length cs) we (length es) ns′ cs′ es′ r
             (rooms
-            ∙ judgeGraph-large room space (graphOf S start) (sized room space ns es growth n e holds size .0)
-            (all-edges room space ns es growth n e holds size few .1)
+            ∙ judgeGraph-large room edges-room (graphOf S start) (sized room edges-room ns es growth n e holds size .0)
+            (all-edges room edges-room ns es growth n e holds size few .1)
             (pass-too-large S laws (stepOf (pathsIn ts)) equal start ok wc cs t all f))
             longNodes longCounts longEdges
 
@@ -301,20 +301,20 @@ module _ (b : RectangularBoard) (ts : Tiles) (accepted : Accepted b ts) (fixed :
             → Finishes (boardOf b) ns es n e ns′ es′ r → Makes answer wn wc we ns′ cs es′ r
         unfolding graphOf refusalOf valueOr
         made-finished ns′ es′ r smallNodes f finish =
-            let fits = sized room space ns es growth n e holds size in
+            let fits = sized room edges-room ns es growth n e holds size in
             makes-as answer (given (graphOf S start)) wn (length ns) wc wc we (length es) ns′ cs es′ r
             (rooms
-            ∙ judgeGraph-given room space (graphOf S start) (fits .0) (all-edges room space ns es growth n e holds size few .1)
+            ∙ judgeGraph-given room edges-room (graphOf S start) (fits .0) (all-edges room edges-room ns es growth n e holds size few .1)
             (are .1))
             longNodes refl longEdges
             (record {
               verdict = finish .verdict;
               nodeNumber = finish .nodeNumber ∙ fits .1;
-              edgeNumber = finish .edgeNumber ∙ all-edges room space ns es growth n e holds size few .0;
-              complete = finished-complete room space ns es growth n e holds size few ns′ es′ r smallNodes wideNodes wideEdges finish;
-              nodes = finished-nodes room space ns es growth n e holds size few ns′ es′ r smallNodes wideNodes wideEdges finish;
+              edgeNumber = finish .edgeNumber ∙ all-edges room edges-room ns es growth n e holds size few .0;
+              complete = finished-complete room edges-room ns es growth n e holds size few ns′ es′ r smallNodes wideNodes wideEdges finish;
+              nodes = finished-nodes room edges-room ns es growth n e holds size few ns′ es′ r smallNodes wideNodes wideEdges finish;
               counts = are .0;
-              edges = finished-edges room space ns es growth n e holds size few ns′ es′ r smallNodes wideNodes wideEdges finish;
+              edges = finished-edges room edges-room ns es growth n e holds size few ns′ es′ r smallNodes wideNodes wideEdges finish;
             })
           where
             are : (cs ≡ countsFor (counts (entriesOf S start)) wc) × (tooLarge (counts (entriesOf S start)) ≡ false)
@@ -323,8 +323,8 @@ module _ (b : RectangularBoard) (ts : Tiles) (accepted : Accepted b ts) (fixed :
             wideNodes : 4 * room ≤ length ns
             wideNodes = omega (arith, node-room room wn wc (le-of-eq atRoom) .0)
 
-            wideEdges : 2 * space ≤ length es
-            wideEdges = omega (arith, edge-room space we (le-of-eq atSpace))
+            wideEdges : 2 * edges-room ≤ length es
+            wideEdges = omega (arith, edge-room edges-room we (le-of-eq atEdgesRoom))
 
 -- ---- board and tiles that are judged
 

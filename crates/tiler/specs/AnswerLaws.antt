@@ -35,13 +35,13 @@ use Rattle.tiler.specs.Graphs.{Graph, graphOf, judgeGraph, generateGraph
 use Rattle.expansion.specs.AcceptedLaws.{plot-refusal}
 
 -- a graph that is given has room, and its counts fit
-pub judged-graph : (room space : ℕ) (g k : Graph) → judgeGraph room space g ≡ given k → (g ≡ k) × (length (g .nodes) ≤ room) × (length (g .edges) ≤ space) × (tooLarge (g .counts) ≡ false)
+pub judged-graph : (room edges-room : ℕ) (g k : Graph) → judgeGraph room edges-room g ≡ given k → (g ≡ k) × (length (g .nodes) ≤ room) × (length (g .edges) ≤ edges-room) × (tooLarge (g .counts) ≡ false)
 unfolding judgeGraph
-judged-graph room space g k e = go (leb (length (g .nodes)) room) refl (leb (length (g .edges)) space) refl (tooLarge (g .counts)) refl e
+judged-graph room edges-room g k e = go (leb (length (g .nodes)) room) refl (leb (length (g .edges)) edges-room) refl (tooLarge (g .counts)) refl e
   where
-    go : (s : Bool) → leb (length (g .nodes)) room ≡ s → (t : Bool) → leb (length (g .edges)) space ≡ t → (u : Bool) → tooLarge (g .counts) ≡ u
+    go : (s : Bool) → leb (length (g .nodes)) room ≡ s → (t : Bool) → leb (length (g .edges)) edges-room ≡ t → (u : Bool) → tooLarge (g .counts) ≡ u
         → cond s (cond t (cond u (refused 9) (given g)) (refused 10)) (refused 8) ≡ given k
-        → (g ≡ k) × (length (g .nodes) ≤ room) × (length (g .edges) ≤ space) × (tooLarge (g .counts) ≡ false)
+        → (g ≡ k) × (length (g .nodes) ≤ room) × (length (g .edges) ≤ edges-room) × (tooLarge (g .counts) ≡ false)
     go false p t q u r h = absurd (refused-given 8 k h)
     go true p false q u r h = absurd (refused-given 10 k h)
     go true p true q true r h = absurd (refused-given 9 k h)
@@ -53,9 +53,9 @@ unfolding fullNode fullFrom
 node-behind full [] v d e = absurd (Option·none-ne-some v e)
 node-behind full (n ∷ ns) v d e = fullNode-some full n ns v d e
 
-graph-refusal : (room space : ℕ) (g : Graph) → refusalOf (judgeGraph room space g) ≡ 0 → (k : Graph) × (judgeGraph room space g ≡ given k)
+graph-refusal : (room edges-room : ℕ) (g : Graph) → refusalOf (judgeGraph room edges-room g) ≡ 0 → (k : Graph) × (judgeGraph room edges-room g ≡ given k)
 unfolding judgeGraph refusalOf
-graph-refusal room space g e = go (leb (length (g .nodes)) room) (leb (length (g .edges)) space) (tooLarge (g .counts)) e
+graph-refusal room edges-room g e = go (leb (length (g .nodes)) room) (leb (length (g .edges)) edges-room) (tooLarge (g .counts)) e
   where
     go : (s t u : Bool) → refusalOf (cond s (cond t (cond u (refused 9) (given g)) (refused 10)) (refused 8)) ≡ 0
         → (k : Graph) × (cond s (cond t (cond u (refused 9) (given g)) (refused 10)) (refused 8) ≡ given k)

@@ -82,8 +82,8 @@ module _ (b : RectangularBoard) (fixed : Sound (b .fixed)) (laid : Sound (b .lai
       layer-count-is-number-of-cuttings b fixed laid ts boardsA countsA boardsB countsB boardsA′ countsA′ boardsB′ countsB′ count counted free joined n countGiven
 
   -- The numbers below n are path counts, as the numbered call takes them.
-  pub numbers-are-words : n < countLimit
-  numbers-are-words =
+  pub numbers-are-path-counts : n < countLimit
+  numbers-are-path-counts =
       subst (λ (k : ℕ). k < countLimit) both-counts (words-count-small b fixed laid ts nodes counts edges nodes′ counts′ edges′ made generated (graph .0) (graph .1))
 
   -- "The numbered call is then handed the graph and its result as they were built for that board and tiles, and an output"

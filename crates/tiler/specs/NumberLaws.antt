@@ -50,7 +50,7 @@ module _ (b : RectangularBoard) (fixed : Sound (b .fixed)) (laid : Sound (b .lai
   -- ---- a graph that is given
 
   module _ (nodeWords countWords edgeWords : ℕ) (g : Graph) (made : generateGraph b ts nodeWords countWords edgeWords ≡ given g) where
-    -- its count fits a word
+    -- its count is below the limit of a path count
     pub graph-count-small : countOfGraph g < countLimit
     unfolding countOfGraph atNode
     graph-count-small = go (g .complete)

@@ -2,7 +2,7 @@
 -- of first finding; a path count is the number of child sequences that reach the board; our own graph meets every condition of refusal 11; the layer
 -- count is the number of child sequences to the full board; and both counts agree. Each statement is for every board and tiles of the code (a set of
 -- the code has words of 64 bits: `Sound`) and every number of lent words. Rests on `GivenLaws`, layers' `CountLaws` and covers' `Theorems`. Assumes nothing.
-use mathlib.Core.Path.{_≡_, sym, ap, _∙_, subst, fun-ext}
+use mathlib.Core.Path.{_≡_, sym, ap, _∙_, subst}
 use mathlib.Core.Logic.{_↔_}
 use mathlib.Core.Bool.{false, So}
 use mathlib.Core.List.{List, _∷_, flatMap, List·Memᴰ as Mem}
@@ -35,14 +35,11 @@ use Rattle.numbered_tilings.specs.TilingLaws.{sound-not-bad}
 use Rattle.layers.specs.LayerCounts.{countTilings}
 use Rattle.tiler.specs.Graphs.{Graph, graphOf, generateGraph, GeneratesGraph, pathCountAt, countOfGraph}
 use Rattle.expansion.specs.Plots.{Accepted, stepOf}
-use Rattle.expansion.specs.SettingLaws.{children-are}
+use Rattle.expansion.specs.SettingLaws.{same-children}
 use Rattle.expansion.specs.AcceptedLaws.{accepted-laws, accepted-steps, accepted-at, start-accepted}
 use Rattle.layers.specs.CountLaws.{layers-count}
 use Rattle.tiler.specs.AnswerLaws.{node-behind, given-graph, nodes-back, counts-back, edges-back, sound-words, only-start}
 use Rattle.tiler.specs.GivenLaws.{graph-is, graph-laws, graph-steps, graph-start, nodes-are, nodes-small, graph-sums, graph-room, graph-count, graph-stored, words-count}
-
-same-children : (b : RectangularBoard) (ts : Tiles) → childBoards (settingOf b ts) ≡ childrenAt (boardOf b) (pathsIn ts)
-same-children b ts = fun-ext (children-are (boardOf b) (pathsIn ts))
 
 module _ (b : RectangularBoard) (fixed : Sound (b .fixed)) (laid : Sound (b .laid)) (ts : Tiles) where
   -- "child sequences that reach it": from the start to a board
@@ -70,7 +67,7 @@ module _ (b : RectangularBoard) (fixed : Sound (b .fixed)) (laid : Sound (b .lai
     -- The nodes are the boards that child sequences reach.
     pub nodes-are-boards-reached : (t : ℕ) → Mem t (g .nodes) ↔ ((xs : List ℕ) × Reaches t xs)
     nodes-are-boards-reached t =
-        subst (λ (ch : ℕ → List ℕ). Mem t (g .nodes) ↔ ((xs : List ℕ) × ChildSequence ch (startOf b) t xs)) (same-children b ts)
+        subst (λ (ch : ℕ → List ℕ). Mem t (g .nodes) ↔ ((xs : List ℕ) × ChildSequence ch (startOf b) t xs)) (same-children (boardOf b) (pathsIn ts))
         (subst (λ (ns : List ℕ). Mem t ns ↔ ((xs : List ℕ) × ChildSequence (childBoards (settingOf b ts)) (startOf b) t xs)) (sym nodes-is)
         (nodes-are-reached (settingOf b ts) laws (startOf b) ok t))
 
@@ -78,7 +75,7 @@ module _ (b : RectangularBoard) (fixed : Sound (b .fixed)) (laid : Sound (b .lai
     pub nodes-in-order : g .nodes ≡ firsts eqb (startOf b ∷ flatMap (childrenAt (boardOf b) (pathsIn ts)) (g .nodes))
     unfolding setting
     nodes-in-order =
-        subst (λ (ch : ℕ → List ℕ). g .nodes ≡ firsts eqb (startOf b ∷ flatMap ch (g .nodes))) (same-children b ts)
+        subst (λ (ch : ℕ → List ℕ). g .nodes ≡ firsts eqb (startOf b ∷ flatMap ch (g .nodes))) (same-children (boardOf b) (pathsIn ts))
         (subst (λ (ns : List ℕ). ns ≡ firsts eqb (startOf b ∷ flatMap (childBoards (settingOf b ts)) ns)) (sym nodes-is)
         (nodes-by-first-finding (settingOf b ts) laws (startOf b) ok (stepOf (pathsIn ts)) steps))
 
@@ -91,7 +88,7 @@ module _ (b : RectangularBoard) (fixed : Sound (b .fixed)) (laid : Sound (b .lai
         ↔ ((p < length (k .nodes)) × (c < length (k .nodes)) × Mem (getD (k .nodes) c (startOf b)) (childrenAt (boardOf b) (pathsIn ts) (getD (k .nodes) p (startOf b))))) is
         (subst (λ (ch : ℕ → List ℕ). Mem (p, c) (graphEdges (settingOf b ts) (startOf b))
         ↔ ((p < length (nodesOf (settingOf b ts) (startOf b))) × (c < length (nodesOf (settingOf b ts) (startOf b)))
-        × Mem (getD (nodesOf (settingOf b ts) (startOf b)) c (startOf b)) (ch (getD (nodesOf (settingOf b ts) (startOf b)) p (startOf b))))) (same-children b ts)
+        × Mem (getD (nodesOf (settingOf b ts) (startOf b)) c (startOf b)) (ch (getD (nodesOf (settingOf b ts) (startOf b)) p (startOf b))))) (same-children (boardOf b) (pathsIn ts))
         (graph-edges-are-children (settingOf b ts) laws (startOf b) ok (stepOf (pathsIn ts)) steps p c))
 
     -- "Beside each node stands its path count", and "A board's path count is the number of child sequences that reach it".
@@ -99,10 +96,10 @@ module _ (b : RectangularBoard) (fixed : Sound (b .fixed)) (laid : Sound (b .lai
     unfolding graphOf
     path-count-is-number-of-sequences v h =
         subst (λ (k : Graph). Exactly (pathCountAt (k .counts) v) (Reaches (getD (k .nodes) v (startOf b)))) is
-        (subst (λ (ch : ℕ → List ℕ). Exactly (pathCountOf (settingOf b ts) (startOf b) v) (ChildSequence ch (startOf b) (getD (nodesOf (settingOf b ts) (startOf b)) v (startOf b)))) (same-children b ts)
+        (subst (λ (ch : ℕ → List ℕ). Exactly (pathCountOf (settingOf b ts) (startOf b) v) (ChildSequence ch (startOf b) (getD (nodesOf (settingOf b ts) (startOf b)) v (startOf b)))) (same-children (boardOf b) (pathsIn ts))
         (_, graph-tilings (settingOf b ts) laws (startOf b) ok (stepOf (pathsIn ts)) steps v (subst (λ (ns : List ℕ). v < length ns) nodes-is h)))
 
-    -- Each path count is below 2^64.
+    -- Each path count is below the limit, 2^64.
     pub path-counts-fit : (v : ℕ) → pathCountAt (g .counts) v < countLimit
     path-counts-fit = graph-room b fixed laid ts nodeWords countWords edgeWords g made .countsFit
 
@@ -170,11 +167,11 @@ module _ (b : RectangularBoard) (fixed : Sound (b .fixed)) (laid : Sound (b .lai
         → Exactly n (Reaches t)
     unfolding setting
     layer-count-is-number-of-sequences free t full xs r =
-        subst (λ (ch : ℕ → List ℕ). Exactly n (ChildSequence ch (startOf b) t)) (same-children b ts)
+        subst (λ (ch : ℕ → List ℕ). Exactly n (ChildSequence ch (startOf b) t)) (same-children (boardOf b) (pathsIn ts))
         (subst (λ (k : ℕ). Exactly k (ChildSequence (childBoards (settingOf b ts)) (startOf b) t)) (sym count-is)
         (count-is-child-sequences (settingOf b ts) (accepted-laws b ts plot) (stepOf (pathsIn ts)) (accepted-steps b ts plot) (startOf b)
         start (ap isFull same-start ∙ free) t full xs
-        (subst (λ (ch : ℕ → List ℕ). ChildSequence ch (startOf b) t xs) (sym (same-children b ts)) r)))
+        (subst (λ (ch : ℕ → List ℕ). ChildSequence ch (startOf b) t xs) (sym (same-children (boardOf b) (pathsIn ts))) r)))
 
     -- 0 where none is reached; and 0 for a full start, which is reached by no piece.
     pub layer-count-of-none : ((t : ℕ) → So (isFull (boardAt (boardOf b) t)) → (xs : List ℕ) → Reaches t xs → ⊥) → n ≡ 0
@@ -183,7 +180,7 @@ module _ (b : RectangularBoard) (fixed : Sound (b .fixed)) (laid : Sound (b .lai
         count-is
         ∙ none-reached-counts-none (settingOf b ts) (accepted-laws b ts plot) (stepOf (pathsIn ts)) (accepted-steps b ts plot) (startOf b)
         start
-        (λ t full xs r. never t full xs (subst (λ (ch : ℕ → List ℕ). ChildSequence ch (startOf b) t xs) (same-children b ts) r))
+        (λ t full xs r. never t full xs (subst (λ (ch : ℕ → List ℕ). ChildSequence ch (startOf b) t xs) (same-children (boardOf b) (pathsIn ts)) r))
 
     pub layer-count-of-full-start : So (isFull (boardOf b)) → n ≡ 0
     unfolding setting

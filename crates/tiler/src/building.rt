@@ -1,6 +1,5 @@
 // The graph in lent words: nodes and edges found in order, then the path counts by one pass over the
-// edges. Private helpers; they ask that board and tiles have been tested, and that the rooms are lent:
-// `room` is the nodes' room, `space` the edges' room (`room` in `add_edge`, which has no other).
+// edges. Private helpers; they ask that board and tiles have been tested, and that the rooms are lent.
 use crate::MadeGraph;
 use board::AllMarked;
 use board::RectangularBoard;
@@ -44,12 +43,12 @@ pub enum Growth {
 }
 
 // One more edge, stored if there is room for it.
-fn add_edge(edges: &mut [u64], n: usize, room: usize, parent: usize, child: usize) -> usize
-    requires { ⌜ (2 * room ≤ length (now edges)) ⌝ }
-    ensures { λ r. ⌜ ((es : List (ℕ × ℕ)) → HoldsEdges room (now (edges .entry)) n es → HoldsEdges room (now (edges .exit)) r (es ++ (parent, child) ∷ [])) ⌝ }
+fn add_edge(edges: &mut [u64], n: usize, edge_room: usize, parent: usize, child: usize) -> usize
+    requires { ⌜ (2 * «edge_room» ≤ length (now edges)) ⌝ }
+    ensures { λ r. ⌜ ((es : List (ℕ × ℕ)) → HoldsEdges «edge_room» (now (edges .entry)) n es → HoldsEdges «edge_room» (now (edges .exit)) r (es ++ (parent, child) ∷ [])) ⌝ }
 {
-    if room <= n {
-        return room + 1;
+    if edge_room <= n {
+        return edge_room + 1;
     }
     let at = 2 * n;
     edges[at] = parent as u64;
@@ -62,26 +61,26 @@ fn add_child(
     nodes: &mut [u64],
     edges: &mut [u64],
     growth: Growth,
-    room: usize,
-    space: usize,
+    node_room: usize,
+    edge_room: usize,
     parent: usize,
     child: Cells,
 ) -> Growth
-    requires { ⌜ (nodesIn growth ≤ room) × (4 * room ≤ length (now nodes)) × (2 * space ≤ length (now edges)) ⌝ }
-    ensures { λ r. ⌜ AddsToGraph room space (now (nodes .entry)) (now (edges .entry)) growth (now (nodes .exit)) (now (edges .exit)) r (addChild eqb parent (number child)) ⌝ }
+    requires { ⌜ (nodesIn growth ≤ «node_room») × (4 * «node_room» ≤ length (now nodes)) × (2 * «edge_room» ≤ length (now edges)) ⌝ }
+    ensures { λ r. ⌜ AddsToGraph «node_room» «edge_room» (now (nodes .entry)) (now (edges .entry)) growth (now (nodes .exit)) (now (edges .exit)) r (addChild eqb parent (number child)) ⌝ }
 {
     let Growth::Size(n, e) = growth else {
         return Growth::NoRoom;
     };
     let found = list::find(nodes, 0, n, child);
     let Found::At(i) = found else {
-        if room <= n {
+        if node_room <= n {
             return Growth::NoRoom;
         }
         list::put(nodes, n, child);
-        return Growth::Size(n + 1, add_edge(edges, e, space, parent, n));
+        return Growth::Size(n + 1, add_edge(edges, e, edge_room, parent, n));
     };
-    Growth::Size(n, add_edge(edges, e, space, parent, i))
+    Growth::Size(n, add_edge(edges, e, edge_room, parent, i))
 }
 
 // The first children of a list, one after the other.
@@ -89,14 +88,14 @@ fn add_children(
     nodes: &mut [u64],
     edges: &mut [u64],
     growth: Growth,
-    room: usize,
-    space: usize,
+    node_room: usize,
+    edge_room: usize,
     parent: usize,
     children: &[u64],
     n: usize,
 ) -> Growth
-    requires { ⌜ (nodesIn growth ≤ room) × (4 * room ≤ length (now nodes)) × (2 * space ≤ length (now edges)) ⌝ }
-    ensures { λ r. ⌜ AddsToGraph room space (now (nodes .entry)) (now (edges .entry)) growth (now (nodes .exit)) (now (edges .exit)) r (addChildren eqb parent (listOf (setAt (now (children .entry))) n)) ⌝ }
+    requires { ⌜ (nodesIn growth ≤ «node_room») × (4 * «node_room» ≤ length (now nodes)) × (2 * «edge_room» ≤ length (now edges)) ⌝ }
+    ensures { λ r. ⌜ AddsToGraph «node_room» «edge_room» (now (nodes .entry)) (now (edges .entry)) growth (now (nodes .exit)) (now (edges .exit)) r (addChildren eqb parent (listOf (setAt (now (children .entry))) n)) ⌝ }
 {
     let mut state = growth;
     let mut i = 0;
@@ -105,8 +104,8 @@ fn add_children(
             nodes,
             edges,
             state,
-            room,
-            space,
+            node_room,
+            edge_room,
             parent,
             list::get(children, i),
         );
@@ -123,15 +122,15 @@ fn expand_node(
     edges: &mut [u64],
     children: &mut [u64],
     growth: Growth,
-    room: usize,
-    space: usize,
+    node_room: usize,
+    edge_room: usize,
     i: usize,
 ) -> Growth
-    requires { ⌜ Accepted board tiles × From (boardOf board) (setAt (now nodes) i) × (8448 ≤ length (now children)) × (nodesIn growth ≤ room) × (4 * room ≤ length (now nodes)) × (2 * space ≤ length (now edges)) ⌝ }
-    ensures { λ r. ⌜ AddsToGraph room space (now (nodes .entry)) (now (edges .entry)) growth (now (nodes .exit)) (now (edges .exit)) r (addChildren eqb i (childBoards (settingOf board tiles) (setAt (now (nodes .entry)) i))) ⌝ }
+    requires { ⌜ Accepted board tiles × From (boardOf board) (setAt (now nodes) i) × (8448 ≤ length (now children)) × (nodesIn growth ≤ «node_room») × (4 * «node_room» ≤ length (now nodes)) × (2 * «edge_room» ≤ length (now edges)) ⌝ }
+    ensures { λ r. ⌜ AddsToGraph «node_room» «edge_room» (now (nodes .entry)) (now (edges .entry)) growth (now (nodes .exit)) (now (edges .exit)) r (addChildren eqb i (childBoards (settingOf board tiles) (setAt (now (nodes .entry)) i))) ⌝ }
 {
     let n = expansion::expand(board, tiles, list::get(nodes, i), children);
-    add_children(nodes, edges, growth, room, space, i, children, n)
+    add_children(nodes, edges, growth, node_room, edge_room, i, children, n)
 }
 
 // How many nodes there are.
@@ -151,17 +150,27 @@ fn build(
     nodes: &mut [u64],
     edges: &mut [u64],
     children: &mut [u64],
-    room: usize,
-    space: usize,
+    node_room: usize,
+    edge_room: usize,
 ) -> Growth
-    requires { ⌜ Accepted board tiles × (8448 ≤ length (now children)) × (0 < room) × (4 * room ≤ length (now nodes)) × (2 * space ≤ length (now edges)) × (setAt (now nodes) 0 ≡ startOf board) ⌝ }
-    ensures { λ r. ⌜ (nodesIn r ≤ room) × HoldsGraph room space (now (nodes .exit)) (now (edges .exit)) r (nodesOf (settingOf board tiles) (startOf board), graphEdges (settingOf board tiles) (startOf board)) ⌝ }
+    requires { ⌜ Accepted board tiles × (8448 ≤ length (now children)) × (0 < «node_room») × (4 * «node_room» ≤ length (now nodes)) × (2 * «edge_room» ≤ length (now edges)) × (setAt (now nodes) 0 ≡ startOf board) ⌝ }
+    ensures { λ r. ⌜ (nodesIn r ≤ «node_room») × HoldsGraph «node_room» «edge_room» (now (nodes .exit)) (now (edges .exit)) r (nodesOf (settingOf board tiles) (startOf board), graphEdges (settingOf board tiles) (startOf board)) ⌝ }
 {
     let mut growth = Growth::Size(1, 0);
     let mut n: usize = 1;
     let mut i = 0;
     while i < n {
-        growth = expand_node(board, tiles, nodes, edges, children, growth, room, space, i);
+        growth = expand_node(
+            board,
+            tiles,
+            nodes,
+            edges,
+            children,
+            growth,
+            node_room,
+            edge_room,
+            i,
+        );
         n = node_count(growth);
         i += 1;
     }
@@ -174,19 +183,26 @@ fn grown(
     tiles: Tiles,
     nodes: &mut [u64],
     edges: &mut [u64],
-    room: usize,
-    space: usize,
+    node_room: usize,
+    edge_room: usize,
 ) -> Growth
-    requires { ⌜ Accepted board tiles × (4 * room ≤ length (now nodes)) × (2 * space ≤ length (now edges)) ⌝ }
-    ensures { λ r. ⌜ (nodesIn r ≤ room) × HoldsGraph room space (now (nodes .exit)) (now (edges .exit)) r (nodesOf (settingOf board tiles) (startOf board), graphEdges (settingOf board tiles) (startOf board)) ⌝ }
+    requires { ⌜ Accepted board tiles × (4 * «node_room» ≤ length (now nodes)) × (2 * «edge_room» ≤ length (now edges)) ⌝ }
+    ensures { λ r. ⌜ (nodesIn r ≤ «node_room») × HoldsGraph «node_room» «edge_room» (now (nodes .exit)) (now (edges .exit)) r (nodesOf (settingOf board tiles) (startOf board), graphEdges (settingOf board tiles) (startOf board)) ⌝ }
 {
-    if room == 0 {
+    if node_room == 0 {
         return Growth::NoRoom;
     }
-    let fixed = board.fixed;
-    list::put(nodes, 0, fixed.union(board.laid));
+    list::put(nodes, 0, board.marks());
     let mut children = [0u64; 8448];
-    build(board, tiles, nodes, edges, &mut children, room, space)
+    build(
+        board,
+        tiles,
+        nodes,
+        edges,
+        &mut children,
+        node_room,
+        edge_room,
+    )
 }
 
 // Edge i adds its parent's count to its child's, unless the sum would be too large.
@@ -217,13 +233,13 @@ fn pass_edges(edges: &[u64], n: usize, counts: &mut [u64]) -> bool
 }
 
 // The path counts of all nodes; whether none is too large.
-fn count_paths(edges: &[u64], n: usize, sums: &mut [u64]) -> bool
-    requires { ⌜ (2 * n ≤ length (now edges)) × EndsBelow (now edges) n (countRoom (length (now sums))) ⌝ }
-    ensures { λ r. ⌜ PassesEdges (length (now (sums .entry))) (listOf (edgeAt (now (edges .entry))) n) (now (sums .exit)) r ⌝ }
+fn count_paths(edges: &[u64], n: usize, counts: &mut [u64]) -> bool
+    requires { ⌜ (2 * n ≤ length (now edges)) × EndsBelow (now edges) n (countRoom (length (now counts))) ⌝ }
+    ensures { λ r. ⌜ PassesEdges (length (now (counts .entry))) (listOf (edgeAt (now (edges .entry))) n) (now (counts .exit)) r ⌝ }
 {
-    list::clear_from(sums, 0);
-    path_count::put(sums, 0, PathCount::of_words(1, 0));
-    pass_edges(edges, n, sums)
+    list::clear_from(counts, 0);
+    path_count::put(counts, 0, PathCount::of_words(1, 0));
+    pass_edges(edges, n, counts)
 }
 
 // Whether a board of the start is full.
@@ -310,13 +326,13 @@ pub fn made(
     requires { ⌜ Accepted board tiles ⌝ }
     ensures { λ r. ⌜ MakesGraph board tiles (now (nodes .entry)) (now (counts .entry)) (now (edges .entry)) (now (nodes .exit)) (now (counts .exit)) (now (edges .exit)) r ⌝ }
 {
-    let room = rooms::node_room(nodes.len(), counts.len());
-    let space = rooms::edge_room(edges.len());
-    let growth = grown(board, tiles, nodes, edges, room, space);
+    let node_room = rooms::node_room(nodes.len(), counts.len());
+    let edge_room = rooms::edge_room(edges.len());
+    let growth = grown(board, tiles, nodes, edges, node_room, edge_room);
     let Growth::Size(n, e) = growth else {
         return refused(Refusal::NoRoom, nodes, counts, edges);
     };
-    if space < e {
+    if edge_room < e {
         return refused(Refusal::NoRoomForEdges, nodes, counts, edges);
     }
     if !count_paths(edges, e, counts) {

@@ -1,5 +1,5 @@
 -- Laws of the orbit: it has 1, 4 or 8 tiles, 1 only for the empty path; it is closed under the turn and both reflections; it is the orbit of each of its
--- tiles; what a turn and a reflection keep, as the number of cells and being edge-joined, all its tiles share. Rests on `PathLaws`. Assumes nothing.
+-- tiles; what a turn and a reflection keep, as the number of cells and being edge-joined, all its tiles share. Rests on tile's `PathLaws`. Assumes nothing.
 use mathlib.Core.Path.{_≡_, refl, sym, ap, ap₂, _∙_, subst}
 use mathlib.Core.Logic.{_⊎_, inl, inr, _↔_, ⊎-elim}
 use mathlib.Core.Bool.{Bool, true, false, So, false≢true, and-eq-true-iff}

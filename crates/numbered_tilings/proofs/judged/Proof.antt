@@ -26,14 +26,14 @@ list-length-requires : tie.Need-list-length-requires
 list-length-requires c κs =
     let less = c .before .before in
     walkable _ _ _ _ _ (sound (less .before .before)) _ (less .before .count-tilings-from-graph .ensures)
-    (ltb-true _ _ (sym (less .less .ensures) ∙ not-false _ (c .before .if2 .left))) _ (c .full-node .ensures)
+    (ltb-true _ _ (sym (less .less .ensures) ∙ not-false _ (c .before .if2 .left))) _ (c .last-node .ensures)
 
 returns-3 : tie.Need-returns-3
 returns-3 c =
     let full = c .before .before in
     let less = full .before .before in
     answers-short _ _ _ _ _ (sound (less .before .before)) _ (less .before .count-tilings-from-graph .ensures)
-    (ltb-true _ _ (sym (less .less .ensures) ∙ not-false _ (full .before .if2 .left))) _ (full .full-node .ensures) _ _ (c .before .list-length .ensures)
+    (ltb-true _ _ (sym (less .less .ensures) ∙ not-false _ (full .before .if2 .left))) _ (full .last-node .ensures) _ _ (c .before .list-length .ensures)
     (c .if3 .taken)
 
 returns-4 : tie.Need-returns-4
@@ -41,7 +41,7 @@ returns-4 c =
     let full = c .before .before in
     let less = full .before .before in
     answers-given _ _ _ _ _ (sound (less .before .before)) _ (less .before .count-tilings-from-graph .ensures)
-    (ltb-true _ _ (sym (less .less .ensures) ∙ not-false _ (full .before .if2 .left))) _ (full .full-node .ensures) _ _ (c .before .list-length .ensures)
+    (ltb-true _ _ (sym (less .less .ensures) ∙ not-false _ (full .before .if2 .left))) _ (full .last-node .ensures) _ _ (c .before .list-length .ensures)
     (c .if3 .left)
 
 pub judged-spec : {M : Type 1} → statement M

@@ -17,7 +17,7 @@ write-list-requires c κs =
     let known = c .before .before .before in
     let args = known .before .before .before .before .before .before .before .args in
     told-writable (args .graph) (args .nodes .now) (args .counts .now) (args .edges .now) (countValue (args .m)) (args .output .now) _
-    (known .before .before .judged .ensures) _ (known .answer .given .1) _ (c .before .full-node .ensures)
+    (known .before .before .judged .ensures) _ (known .answer .given .1) _ (c .before .last-node .ensures)
 
 returns-2 : tie.Need-returns-2
 returns-2 c =
@@ -25,7 +25,7 @@ returns-2 c =
     let full = wrote .before .before in
     let known = full .before .before in
     with-chain _ _ _ _ _ _ _ _
-    (gives-list _ _ _ _ _ _ _ (known .before .before .judged .ensures) _ (known .answer .given .1) _ (full .full-node .ensures) _ _
+    (gives-list _ _ _ _ _ _ _ (known .before .before .judged .ensures) _ (known .answer .given .1) _ (full .last-node .ensures) _ _
     (wrote .write-list .kept .1 .1 .1 .1 .1 .1 .0) (wrote .write-list .ensures) (c .before .before .clear-from2 .ensures))
 
 pub tiling-by-number-spec : {M : Type 1} → statement M

@@ -38,7 +38,7 @@ returns-4 c =
     let row : p .args .row < 16 = omega arith in
     let col : p .args .col < 16 = omega arith in
     let told = c .before .before .before .before .step .ensures in
-    place-step _ _ _ _ _ _ _ _ _ _ (c .place-at .ensures)
+    place-step _ _ _ _ _ _ _ _ _ (c .place-at .result) (c .place-at .ensures)
     (step-back (p .args .row) (d .0 .0) row (s .0))
     (step-back (p .args .col) (d .0 .1 .0) col (s .1))
     (told-step _ _ told _ _ (d .1))

@@ -5,7 +5,7 @@ use Prim.Native.Nat.{ℕ}
 use Rattle.plot_file.specs.Ascii.{ascii}
 use Rattle.report.specs.Report.{field, feed, tilingLine}
 use Rattle.report.specs.TextLaws.{puts-within, puts-as}
-use Rattle.report.specs.CountLaws.{word-is}
+use Rattle.path_count.specs.PathCountLaws.{word-count}
 use Rattle.report.specs.ListedLaws.{gives-same, told-short, told-long, told-list, told-given}
 use borrow.Author.Needs.{needs}
 use Rattle.report.proofs.put_tiling.Statement.{statement}
@@ -25,7 +25,7 @@ returns c =
     let call = told .before .before .before in
     let number = call .before .before in
     let start = number .before .before .before .before .before in
-    let gives = gives-same (word-is (start .args .m) _ (search needs) (number .of-words .ensures)) (call .tiling-by-number .ensures .0) in (
+    let gives = gives-same (word-count (start .args .m) (search needs) _ (number .of-words .ensures)) (call .tiling-by-number .ensures .0) in (
       λ g built below.
           puts-as (ap (λ (l : List ℕ). field "tiling " (start .args .m) ++ ascii ":" ++ flatMap (field " ") l ++ feed)
           (told-list gives built below refl _ (told .tiling .given .1))) (put .put-list .ensures),
@@ -37,7 +37,7 @@ returns-2 c =
     let call = c .before .before .before in
     let number = call .before .before in
     let start = number .before .before .before .before .before in
-    let gives = gives-same (word-is (start .args .m) _ (search needs) (number .of-words .ensures)) (call .tiling-by-number .ensures .0) in
+    let gives = gives-same (word-count (start .args .m) (search needs) _ (number .of-words .ensures)) (call .tiling-by-number .ensures .0) in
     (λ g built below. absurd (told-given gives built below refl _ (c .enum-told .given .1)), start .pre)
 
 pub put-tiling-spec : {M : Type 1} → statement M

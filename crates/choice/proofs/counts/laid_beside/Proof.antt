@@ -7,7 +7,7 @@ use native.Mathlib.Omega.{arith}
 use Rattle.direction.specs.Position.{shift}
 use Rattle.direction.specs.Direction.{step}
 use Rattle.rectangle.specs.Board.{inside, positionOf}
-use Rattle.rectangle.specs.Place.{placeIf}
+use Rattle.rectangle.specs.Place.{placeAnswer, placeIf}
 use Rattle.rectangle.specs.PlaceLaws.{place-placed}
 use Rattle.choice.proofs.ChoiceLaws.{beside-step, beside-nowhere, beside-place}
 use Rattle.choice.specs.Choice.{one}
@@ -15,8 +15,8 @@ use Rattle.choice.proofs.counts.laid_beside.Statement.{statement}
 use Rattle.choice.proofs.counts.laid_beside.Tie as tie
 
 -- the place that was told is that of the position one step on
-stepped : (c : tie.After-move-in-direction) → c .move-in-direction .result ≡ placeIf (inside (c .before .args .width) (c .before .args .height)) (shift (positionOf (c .before .args .cell)) (step (c .before .args .code)))
-stepped c = beside-step _ _ (c .before .args .cell) _ _ (c .move-in-direction .ensures) (c .before .pre .2) (c .before .pre .3)
+stepped : (c : tie.After-move-in-direction) → placeAnswer (c .move-in-direction .result) ≡ placeIf (inside (c .before .args .width) (c .before .args .height)) (shift (positionOf (c .before .args .cell)) (step (c .before .args .code)))
+stepped c = beside-step _ _ (c .before .args .cell) _ (c .move-in-direction .result) (c .move-in-direction .ensures) (c .before .pre .2) (c .before .pre .3)
 
 returns : tie.Need-returns
 returns c = (beside-nowhere _ _ _ _ _ _ (stepped (c .before .before)) (c .enum-told .given .1), search needs)

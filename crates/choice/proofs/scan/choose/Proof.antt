@@ -7,7 +7,7 @@ use borrow.Author.Needs.{needs}
 use native.Mathlib.Omega.{arith}
 use Rattle.cells.specs.Words.{number}
 use Rattle.choice.specs.Choice.{columns, bestOf}
-use Rattle.choice.specs.Inner.{foundOf, countIn, openIn}
+use Rattle.choice.specs.Inner.{foundOf, arrayCount, openIn}
 use Rattle.choice.proofs.ChoiceLaws.{columns-none, columns-more, columns-all}
 use Rattle.choice.proofs.scan.choose.Statement.{statement}
 use Rattle.choice.proofs.scan.choose.Tie as tie
@@ -15,7 +15,7 @@ use Rattle.choice.proofs.scan.choose.Tie as tie
 abbrev Inv-loop : tie.InvT-loop
 Inv-loop marks counts width height found₀ col₀ found col =
     (col ≤ width)
-    × (found ≡ foundOf (countIn counts) (bestOf (openIn (number marks)) (countIn counts) none (columns height col)))
+    × (found ≡ foundOf (arrayCount counts) (bestOf (openIn (number marks)) (arrayCount counts) none (columns height col)))
 
 abbrev μ-loop : tie.MeasureT-loop
 μ-loop marks counts width height found₀ col₀ found col = width - col

@@ -6,13 +6,13 @@ use native.Mathlib.Omega.{arith}
 use Rattle.cells.specs.Words.{number}
 use Rattle.cells.specs.Arrays.{listOf}
 use Rattle.choice.proofs.ChoiceLaws.{Scanned, scanned-none, scanned-more, scanned-all}
-use Rattle.choice.specs.Inner.{countIn, openIn}
+use Rattle.choice.specs.Inner.{arrayCount, openIn}
 use Rattle.choice.proofs.scan.scan_column.Statement.{statement}
 use Rattle.choice.proofs.scan.scan_column.Tie as tie
 
 abbrev Inv-loop : tie.InvT-loop
 Inv-loop marks counts height col found₀ row₀ found row =
-    (row ≤ height) × Scanned (openIn (number marks)) (countIn counts) found₀ found (listOf (λ i. 16 * i + col) row)
+    (row ≤ height) × Scanned (openIn (number marks)) (arrayCount counts) found₀ found (listOf (λ i. 16 * i + col) row)
 
 abbrev μ-loop : tie.MeasureT-loop
 μ-loop marks counts height col found₀ row₀ found row = height - row

@@ -7,17 +7,17 @@ use native.Mathlib.Omega.{arith}
 use Rattle.direction.specs.Position.{at, shift}
 use Rattle.direction.specs.Direction.{step}
 use Rattle.rectangle.specs.Board.{inside}
-use Rattle.rectangle.specs.Place.{placeIf}
+use Rattle.rectangle.specs.Place.{placeAnswer, placeIf}
 use Rattle.rectangle.specs.PlaceLaws.{place-placed}
 use Rattle.fit.proofs.WalkLaws.{walk-step, free-nowhere, free-marked, free-open}
 use Rattle.fit.proofs.walk.free_step.Statement.{statement}
 use Rattle.fit.proofs.walk.free_step.Tie as tie
 
 -- the place that was told is that of the position one step on
-stepped : (c : tie.After-move-in-direction) → c .move-in-direction .result ≡ placeIf (inside (c .before .args .width) (c .before .args .height)) (shift (at (pos (c .before .args .row)) (pos (c .before .args .col))) (step (c .before .args .code)))
+stepped : (c : tie.After-move-in-direction) → placeAnswer (c .move-in-direction .result) ≡ placeIf (inside (c .before .args .width) (c .before .args .height)) (shift (at (pos (c .before .args .row)) (pos (c .before .args .col))) (step (c .before .args .code)))
 stepped c =
     let p = c .before .pre in
-    walk-step _ _ (c .before .args .row) (c .before .args .col) _ _ (c .move-in-direction .ensures) (p .0) (p .1) (p .2) (p .3) (p .4)
+    walk-step _ _ (c .before .args .row) (c .before .args .col) _ (c .move-in-direction .result) (c .move-in-direction .ensures) (p .0) (p .1) (p .2) (p .3) (p .4)
 
 returns : tie.Need-returns
 returns c = free-nowhere _ _ _ _ _ (stepped (c .before .before)) (c .enum-told .given .1)

@@ -1,6 +1,6 @@
 -- `fit::walk::walk_on` meets its contract: what is left of the walk gives what the whole walk gives (`Walking`).
 -- Assumes nothing.
-use mathlib.Core.Path.{refl, sym, _∙_}
+use mathlib.Core.Path.{refl, sym, ap, _∙_}
 use Prim.Native.Nat.{_+_, _-_}
 use lib.IntN.{pos}
 use lib.ListN.{length, drop}
@@ -10,6 +10,7 @@ use Rattle.cells.specs.Words.{number}
 use Rattle.direction.specs.Position.{at}
 use Rattle.tile.specs.PathLaws.{codesOk-at}
 use Rattle.rectangle.specs.Board.{freeIn}
+use Rattle.rectangle.specs.Place.{placeAnswer}
 use Rattle.fit.specs.Fit.{cover}
 use Rattle.fit.specs.Inner.{onward}
 use Rattle.fit.proofs.WalkLaws.{Walking, freeIn-placed, walk-stops, walk-goes, walk-ends, onward-next, onward-none}
@@ -40,10 +41,10 @@ returns c =
     (c .before .before .free-step .ensures) (c .enum-told .given .1)
 
 mul-with-cell : tie.Need-mul-with-cell Inv-loop μ-loop
-mul-with-cell c = let p = freeIn-placed _ _ _ _ _ _ (sym (c .before .place .given .1) ∙ c .before .before .before .free-step .ensures) in omega arith
+mul-with-cell c = let p = freeIn-placed _ _ _ _ _ _ (sym (ap placeAnswer (c .before .place .given .1)) ∙ c .before .before .before .free-step .ensures) in omega arith
 
 add-with-cell : tie.Need-add-with-cell Inv-loop μ-loop
-add-with-cell c = let p = freeIn-placed _ _ _ _ _ _ (sym (c .before .place .given .1) ∙ c .before .before .before .free-step .ensures) in omega arith
+add-with-cell c = let p = freeIn-placed _ _ _ _ _ _ (sym (ap placeAnswer (c .before .place .given .1)) ∙ c .before .before .before .free-step .ensures) in omega arith
 
 loop-again : tie.Need-loop-again Inv-loop μ-loop
 loop-again c =

@@ -1,10 +1,11 @@
 -- `layers::counting::count_accepted` meets its contract: no room, a full start, or layer 0 in the first words and the layers from it on. Assumes nothing.
+use lib.Dec.{lit<}
 use Prim.Native.Nat.{_^_, _<_}
 use native.Mathlib.Omega.{arith}
 use Rattle.cells.specs.Words.{number}
 use Rattle.cells.specs.WordLaws.{number-lt}
 use Rattle.graph.specs.RoomLaws.{layer-room}
-use Rattle.layers.specs.CountLaws.{count-none}
+use Rattle.path_count.specs.PathCountLaws.{word-count}
 use Rattle.layers.proofs.LayerLaws.{room-kept}
 use Rattle.layers.proofs.StartLaws.{positive, start-no-room, start-full, start-ready, start-run}
 use borrow.Author.Needs.{needs}
@@ -27,7 +28,7 @@ returns-2 c =
     let f = c .before .before in
     let s = f .before .before .before .before .before .before .before in
     start-full _ _ (s .pre .0) (small-fixed s) (small-laid s) _ (f .free-cells .ensures) _ _ (f .before .before .layer-room .ensures) (f .before .if1 .left)
-    _ (count-none _ (c .of-words .ensures)) (c .before .if2 .taken)
+    _ (word-count 0 (lit< tt) _ (c .of-words .ensures)) (c .before .if2 .taken)
 
 start-requires : tie.Need-start-requires
 start-requires c κs =

@@ -12,12 +12,12 @@ use Rattle.layers.proofs.layer.grow.Statement.{statement}
 use Rattle.layers.proofs.layer.grow.Tie as tie
 
 abbrev Inv-loop : tie.InvT-loop
-Inv-loop board tiles boards counts n next₀ totals₀ room children₀ state₀ i₀ next totals children state i =
-    (i ≤ n) × (boardsIn state ≤ room) × (length next ≡ length next₀) × (length totals ≡ length totals₀) × (length children ≡ 8448)
-    × HoldsLayer room next totals state (nextOf (settingOf board tiles) (entriesIn boards counts i))
+Inv-loop board tiles boards counts n nextBoards₀ nextCounts₀ room children₀ state₀ i₀ nextBoards nextCounts children state i =
+    (i ≤ n) × (boardsIn state ≤ room) × (length nextBoards ≡ length nextBoards₀) × (length nextCounts ≡ length nextCounts₀) × (length children ≡ 8448)
+    × HoldsLayer room nextBoards nextCounts state (nextOf (settingOf board tiles) (entriesIn boards counts i))
 
 abbrev μ-loop : tie.MeasureT-loop
-μ-loop board tiles boards counts n next₀ totals₀ room children₀ state₀ i₀ next totals children state i = n - i
+μ-loop board tiles boards counts n nextBoards₀ nextCounts₀ room children₀ state₀ i₀ nextBoards nextCounts children state i = n - i
 
 loop-holds : tie.Need-loop-holds Inv-loop μ-loop
 loop-holds c = (omega arith, omega arith, refl, refl, refl, grown-none _ _ _ _ _ _ _)

@@ -16,13 +16,13 @@ use Rattle.tiler.proofs.building.add_children.Statement.{statement}
 use Rattle.tiler.proofs.building.add_children.Tie as tie
 
 abbrev Inv-loop : tie.InvT-loop
-Inv-loop nodes₀ edges₀ room space parent children n state₀ i₀ nodes edges state i =
+Inv-loop nodes₀ edges₀ room edges-room parent children n state₀ i₀ nodes edges state i =
     (i ≤ n) × (nodesIn state ≤ room) × (length nodes ≡ length nodes₀) × (length edges ≡ length edges₀)
-    × ((g : List ℕ × List (ℕ × ℕ)) → HoldsGraph room space nodes₀ edges₀ state₀ g
-    → HoldsGraph room space nodes edges state (addChildren eqb parent (listOf (setAt children) i) g))
+    × ((g : List ℕ × List (ℕ × ℕ)) → HoldsGraph room edges-room nodes₀ edges₀ state₀ g
+    → HoldsGraph room edges-room nodes edges state (addChildren eqb parent (listOf (setAt children) i) g))
 
 abbrev μ-loop : tie.MeasureT-loop
-μ-loop nodes₀ edges₀ room space parent children n state₀ i₀ nodes edges state i = n - i
+μ-loop nodes₀ edges₀ room edges-room parent children n state₀ i₀ nodes edges state i = n - i
 
 loop-holds : tie.Need-loop-holds Inv-loop μ-loop
 loop-holds c = (search needs, c .before .before .before .pre .0, refl, refl, λ g k. children-none _ _ _ _ _ _ _ _ k)

@@ -15,13 +15,13 @@ use Rattle.tiler.proofs.building.build.Statement.{statement}
 use Rattle.tiler.proofs.building.build.Tie as tie
 
 abbrev Inv-loop : tie.InvT-loop
-Inv-loop board tiles nodes₀ edges₀ children₀ room space growth₀ n₀ i₀ nodes edges children growth n i =
+Inv-loop board tiles nodes₀ edges₀ children₀ room edges-room growth₀ n₀ i₀ nodes edges children growth n i =
     (n ≡ nodesIn growth) × (nodesIn growth ≤ room) × (length nodes ≡ length nodes₀) × (length edges ≡ length edges₀)
     × (length children ≡ length children₀) × (i ≤ length (nodesOf (settingOf board tiles) (startOf board)))
-    × HoldsGraph room space nodes edges growth (foundGraph board tiles i)
+    × HoldsGraph room edges-room nodes edges growth (foundGraph board tiles i)
 
 abbrev μ-loop : tie.MeasureT-loop
-μ-loop board tiles nodes₀ edges₀ children₀ room space growth₀ n₀ i₀ nodes edges children growth n i = room - i
+μ-loop board tiles nodes₀ edges₀ children₀ room edges-room growth₀ n₀ i₀ nodes edges children growth n i = room - i
 
 fixed-small : (c : tie.Start Inv-loop μ-loop) → number (c .args .board .fixed) < 2 ^ 256
 fixed-small c = number-lt _ (record { s0 = search needs; s1 = search needs; s2 = search needs; s3 = search needs })

@@ -3,7 +3,7 @@
 use Prim.Native.Nat.{_^_, _<_}
 use Rattle.cells.specs.Words.{number}
 use Rattle.cells.specs.WordLaws.{number-lt}
-use Rattle.tiler.proofs.BuildLaws.{start-marks, start-put, build-no-room}
+use Rattle.tiler.proofs.BuildLaws.{start-put, build-no-room}
 use native.Mathlib.Omega.{arith}
 use borrow.Author.Needs.{needs}
 use Rattle.tiler.proofs.building.grown.Statement.{statement}
@@ -24,14 +24,14 @@ build-requires : tie.Need-build-requires
 build-requires c κs =
     let p = c .before .before .before .before .before in
     let m = p .before in
-    let e = m .before .before .before in
+    let e = m .before .before in
     let s = e .before .before .before in (
       s .pre .0,
       search needs,
       search needs,
       search needs,
       search needs,
-      start-put (s .args .board) _ _ (e .if1 .left) (s .pre .1) _ (start-marks (s .args .board) _ (m .union .ensures)) _ (p .put .ensures),
+      start-put (s .args .board) _ _ (e .if1 .left) (s .pre .1) _ (m .marks .ensures) _ (p .put .ensures),
     )
 
 pub grown-spec : {M : Type 1} → statement M
