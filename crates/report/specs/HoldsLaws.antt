@@ -1,5 +1,5 @@
 -- The rooms that the code lends; and what structs of the code that hold a plot say: its board, its free cells and its tiles, and that both counts of the code
--- are the plot's, also as the contract of `count_tilings` says it. Rests on path_count's `PathCountLaws`, tiles' `EqualLaws`, board's `Board`, layers'
+-- are the plot's, also as the contract of `count_tilings` says it. Rests on graph's `RoomLaws`, tiles' `EqualLaws`, board's `Board`, layers'
 -- `LayerCounts` and tiler's `Graphs`. Assumes nothing.
 use mathlib.Core.Path.{_≡_, refl, sym, ap, ap₂, _∙_}
 use mathlib.Core.Bool.{Bool, true, false, cond}
