@@ -8,7 +8,8 @@
    same call. Nothing else is asked: every call accepts any numbers in them, and ends. (How soon is
    another question: cuttings_single_tiling may try exponentially many ways where it finds none, and
    cuttings_tiling tests the whole graph, nodes times edges.) The library keeps nothing between calls
-   and takes no memory but stack (less than 1 MB).
+   and takes no memory but stack, at most so much as stands at each call (seen on the deepest inputs,
+   by tools/host/stack).
 
    A BOARD is width, height and marks: 8 words, four for the fixed marks, then four for the laid ones.
    Cell (row, column) is bit 16 * row + column, counted from the lowest bit of the first word.
@@ -41,7 +42,7 @@ extern "C" {
 #endif
 
 /* The children of a board, in order, four words each, into out. answer[0]: how many.
-   Refusals: 4, 6, 5; 8, more children than out holds. */
+   Refusals: 4, 6, 5; 8, more children than out holds. Stack: at most 16 KB. */
 uint64_t cuttings_place_tile(uint64_t width, uint64_t height,
                              const uint64_t *marks, size_t marks_len,
                              const uint8_t *tiles, size_t tiles_len,
@@ -51,7 +52,8 @@ uint64_t cuttings_place_tile(uint64_t width, uint64_t height,
 /* The layer count, with two layers: boards_a and boards_b have four words a board, counts_a and
    counts_b one. All four are zero afterwards. answer[0], answer[1]: the count, low word and high word.
    Refusals: 4, 6, 5, 7; then, of the earliest layer that has one, 8 if it has more boards than the
-   least of boards_a_len / 4, counts_a_len, boards_b_len / 4 and counts_b_len, else 9. */
+   least of boards_a_len / 4, counts_a_len, boards_b_len / 4 and counts_b_len, else 9. Stack: at most
+   96 KB. */
 uint64_t cuttings_count_tilings(uint64_t width, uint64_t height,
                                 const uint64_t *marks, size_t marks_len,
                                 const uint8_t *tiles, size_t tiles_len,
@@ -65,7 +67,8 @@ uint64_t cuttings_count_tilings(uint64_t width, uint64_t height,
    each, parent and child. answer[0], answer[1]: how many nodes and edges; answer[2]: 1 if there is a
    full node, else 0; answer[3]: the full node. The number of tilings is counts[answer[3]] where
    answer[2] is 1, else 0.
-   Refusals: 4, 6, 5, 7; 8, more nodes than nodes or counts hold; 10, more edges than edges holds; 9. */
+   Refusals: 4, 6, 5, 7; 8, more nodes than nodes or counts hold; 10, more edges than edges holds; 9.
+   Stack: at most 96 KB. */
 uint64_t cuttings_generate_graph(uint64_t width, uint64_t height,
                                  const uint64_t *marks, size_t marks_len,
                                  const uint8_t *tiles, size_t tiles_len,
@@ -76,7 +79,8 @@ uint64_t cuttings_generate_graph(uint64_t width, uint64_t height,
 
 /* One tiling, without a graph: the boards from the start to a full one, four words each, into out.
    answer[0]: how many, 0 if there is no tiling. Tiles may have different numbers of cells.
-   Refusals: 4, 6, 5; 8, out holds fewer boards than there are free cells and one more. */
+   Refusals: 4, 6, 5; 8, out holds fewer boards than there are free cells and one more. Stack: at most
+   160 KB. */
 uint64_t cuttings_single_tiling(uint64_t width, uint64_t height,
                                 const uint64_t *marks, size_t marks_len,
                                 const uint8_t *tiles, size_t tiles_len,
@@ -87,7 +91,7 @@ uint64_t cuttings_single_tiling(uint64_t width, uint64_t height,
    cuttings_generate_graph left them, and graph, its four answer words. The node list from node 0 to
    the full node, one word a node, into out. answer[0]: its length.
    Refusals: 11; 12, no full node, or m is not below its count, as no m with a high word is; 8, out is
-   shorter than the list. */
+   shorter than the list. Stack: at most 16 KB. */
 uint64_t cuttings_tiling(const uint64_t *nodes, size_t nodes_len,
                          const uint64_t *counts, size_t counts_len,
                          const uint64_t *edges, size_t edges_len,
@@ -97,7 +101,7 @@ uint64_t cuttings_tiling(const uint64_t *nodes, size_t nodes_len,
                          uint64_t *answer, size_t answer_len);
 
 /* The orbit of a tile (33 bytes): its tiles, 33 bytes each, into tiles, which has at least 264 bytes.
-   answer[0]: how many, 1, 4 or 8. Refusals: 5; 8. */
+   answer[0]: how many, 1, 4 or 8. Refusals: 5; 8. Stack: at most 32 KB. */
 uint64_t cuttings_orbit(const uint8_t *tile, size_t tile_len,
                         uint8_t *tiles, size_t tiles_len,
                         uint64_t *answer, size_t answer_len);
@@ -105,7 +109,7 @@ uint64_t cuttings_orbit(const uint8_t *tile, size_t tile_len,
 /* A plot file: width, height, fixed and laid marks of its board into board, which has at least 10
    words, and its tiles, 33 bytes each, into tiles, which has at least 2112 bytes. answer[0]: how many
    tiles. The marks for another call are the 8 words from board + 2 on. Refusals: 8, by the shapes; 1
-   to 6. */
+   to 6. Stack: at most 48 KB. */
 uint64_t cuttings_read_plot(const uint8_t *file, size_t file_len,
                             uint64_t *board, size_t board_len,
                             uint8_t *tiles, size_t tiles_len,

@@ -5,8 +5,7 @@ use mathlib.Core.Bool.{true, false}
 use native.Mathlib.Nat.{mul-zero, mul-le-mul, le-mul-of-pos-right}
 use native.Mathlib.Omega.{arith}
 use Rattle.cells.specs.declared.Cells.{Cells}
-use Rattle.cells.specs.Set.{setOf, unionOf}
-use Rattle.cells.specs.Words.{number}
+use Rattle.cells.specs.Set.{setOf, unionOf, number}
 use Rattle.refusal.specs.declared.Verdict.the-variants as Verdicts
 use Rattle.refusal.specs.Refusal.{Answer, refused, refusalOf, valueOr, verdictNumber}
 use Rattle.rectangle.specs.Board.{boardAt, Board, noBoard, sizeOk, lay}

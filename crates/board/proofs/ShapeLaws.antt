@@ -9,7 +9,7 @@ use native.Mathlib.Omega.{arith}
 use borrow.Author.Tests.{lt-ltb, le-ltb}
 use lib.Dec.{leb}
 use Rattle.cells.specs.Set.{hasCell, fromBits, setOf, withCell, sizeBelow, size}
-use Rattle.cells.specs.Arrays.{allBelow}
+use Rattle.cells.specs.Lists.{allBelow}
 use Rattle.cells.specs.BitLaws.{bit-high, bit-fromBits, fromBits-lt}
 use Rattle.cells.specs.SetLaws.{digit}
 use Rattle.rectangle.specs.Board.{Board, positionOf, inside, isMarked, freeAt, isFree, freeSet, freeCount, sizeOk, markOk, valid}

@@ -6,9 +6,8 @@ use native.Mathlib.Decide.{decLt}
 use native.Mathlib.Omega.{arith}
 use lib.ListN.{getD}
 use Rattle.cells.specs.declared.Cells.{Cells}
-use Rattle.cells.specs.Set.{bit, Within}
-use Rattle.cells.specs.Words.{value, words, number, Sound}
-use Rattle.cells.specs.BitLaws.{bit-high}
+use Rattle.cells.specs.Set.{bit, value, words, number, Sound}
+use Rattle.cells.specs.BitLaws.{Within, bit-high}
 use Rattle.cells.specs.SetLaws.{within-le}
 use Rattle.cells.specs.WordLaws.{sound-small, bit-number}
 

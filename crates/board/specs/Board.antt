@@ -5,8 +5,7 @@ use mathlib.Core.Bool.{Bool, cond, _&&_, _||_}
 use Prim.Native.Nat.{ℕ, _+_, _*_, _/_, _%_}
 use lib.Dec.{ltb, leb}
 use Rattle.cells.specs.declared.Cells.{Cells}
-use Rattle.cells.specs.Set.{setOf}
-use Rattle.cells.specs.Words.{number}
+use Rattle.cells.specs.Set.{setOf, number}
 use Rattle.refusal.specs.Refusal.{Answer, refused, given, refusalOf, valueOr, verdictNumber, refusalNumber}
 use Rattle.rectangle.specs.Board.{Board, inside, noBoard, positionOf, sizeOk, acceptBoard}
 use Rattle.board.specs.declared.RectangularBoard.{RectangularBoard}
@@ -16,6 +15,7 @@ use Rattle.board.specs.declared.FreeCells.the-variants as F
 use Rattle.board.specs.declared.AllMarked.{AllMarked}
 use Rattle.board.specs.declared.AllMarked.the-variants as M
 
+-- the board that the struct stands for
 abbrev pub boardOf : RectangularBoard → Board
 boardOf b = record { width = b .width; height = b .height; fixed = number (b .fixed); laid = number (b .laid) }
 
@@ -42,6 +42,7 @@ unfolding sizeOk setOf shapeMark
 shaped w h rows low high =
     cond (sizeOk w h) (given record { width = w; height = h; fixed = setOf (shapeMark w h rows low high); laid = 0 }) (refused 4)
 
+-- "RB: width byte, height byte": a rectangle with no marks
 unfoldable pub newBoard : ℕ → ℕ → Answer Board
 unfolding shaped
 newBoard w h = shaped w h 0 0 0
@@ -63,10 +64,12 @@ pub record MakesBoard (a : Answer Board) (r : MadeBoard) : Type 0 where
   pub verdict : verdictNumber (r .verdict) ≡ refusalOf a
   pub board : boardOf (r .board) ≡ valueOr noBoard a
 
+-- what `free_cells` answers
 abbrev pub freeCellsAnswer : FreeCells → Answer ℕ
 freeCellsAnswer (F.Number n) = given n
 freeCellsAnswer (F.Refused r) = refused (refusalNumber r)
 
+-- what `is_all_marked` answers
 abbrev pub allMarkedAnswer : AllMarked → Answer Bool
 allMarkedAnswer (M.Is b) = given b
 allMarkedAnswer (M.Refused r) = refused (refusalNumber r)

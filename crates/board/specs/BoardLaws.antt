@@ -5,7 +5,8 @@ use mathlib.Core.Bool.{Bool, true, false, So, not, cond, _&&_, _||_}
 use Prim.Native.Nat.{ℕ, _/_, _%_, _^_, _<_}
 use native.Mathlib.Omega.{arith}
 use lib.Dec.{ltb, leb}
-use Rattle.cells.specs.Set.{unionOf, Within, setOf}
+use Rattle.cells.specs.Set.{unionOf, setOf}
+use Rattle.cells.specs.BitLaws.{Within}
 use Rattle.cells.specs.SetLaws.{union-within, hasCell-none, hasCell-setOf}
 use Rattle.cells.specs.WordLaws.{cellsOf, number-cellsOf}
 use Rattle.cells.specs.ArrayLaws.{allBelow-all}

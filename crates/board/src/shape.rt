@@ -5,9 +5,9 @@ use cells::Cells;
 ghost use mathlib.Core.Path.{_≡_};
 ghost use mathlib.Core.Bool.{cond};
 ghost use Prim.Native.Nat.{_-_, _≤_};
-ghost use Rattle.cells.specs.Set.{setOf, withCell, Within};
-ghost use Rattle.cells.specs.Words.{number};
-ghost use Rattle.cells.specs.Arrays.{allBelow};
+ghost use Rattle.cells.specs.Set.{setOf, withCell, number};
+ghost use Rattle.cells.specs.BitLaws.{Within};
+ghost use Rattle.cells.specs.Lists.{allBelow};
 ghost use Rattle.rectangle.specs.Board.{isFree, freeCount, markOk, valid};
 ghost use Rattle.board.specs.Board.{boardOf, shapeMark};
 

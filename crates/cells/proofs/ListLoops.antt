@@ -9,8 +9,9 @@ use borrow.Author.Tests.{lt-ltb, le-ltb}
 use lib.Dec.{eqb, ltb}
 use lib.ListN.{length, getD, set}
 use Rattle.cells.specs.declared.Cells.{Cells}
-use Rattle.cells.specs.Words.{number, Sound}
-use Rattle.cells.specs.Lists.{setAt, withSet, clearedFrom}
+use Rattle.cells.specs.Set.{number, Sound}
+use Rattle.cells.specs.Lists.{setAt}
+use Rattle.cells.specs.Parts.{withSet, clearedFrom}
 use Rattle.cells.specs.WordLaws.{wordsOf-number}
 use Rattle.cells.specs.ArrayLaws.{Filled, filled-start, filled-end}
 use Rattle.cells.specs.ListLaws.{withSet-lent}

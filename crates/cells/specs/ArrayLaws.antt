@@ -1,17 +1,16 @@
 -- Laws of lists given by their elements, and of the two loops that make and test them: an array that is filled in order (`Filled`), and a test
--- of every number below n. Rests on `Arrays` and `lib.Seq`. Assumes nothing.
+-- of every number below n. Rests on `Lists` and `lib.Seq`. Assumes nothing.
 use mathlib.Core.Path.{_≡_, refl, sym, ap, ap₂, _∙_, subst}
 use mathlib.Core.Bool.{Bool, true, false, So, _&&_, _||_, and-false, or-true, false≢true}
-use mathlib.Core.List.{List, [], _∷_, _++_}
-use Prim.Native.Nat.{ℕ, zero, suc, _+_, _≤_, _<_}
-use native.Mathlib.Nat.{add-zero, zero-add}
+use mathlib.Core.List.{List, [], _∷_, _++_, flatMap}
+use Prim.Native.Nat.{ℕ, zero, suc, _+_, _*_, _≤_, _<_}
+use native.Mathlib.Nat.{add-zero, zero-add, mul-zero, mul-suc}
 use native.Mathlib.Numerals.{add-one}
 use native.Mathlib.Decide.{ℕ-discrete, decLt}
 use native.Mathlib.Omega.{arith}
 use lib.ListN.{length, getD, set, length-append, length-set, replicate, length-replicate, getD-replicate, List·getD-append, List·getD-eq-default}
 use lib.Seq.{ext-getD, getD-set-same, getD-set-other}
-use Rattle.cells.specs.Firsts.{any}
-use Rattle.cells.specs.Arrays.{listFrom, listOf, allBelow}
+use Rattle.cells.specs.Lists.{any, listFrom, listOf, padded, allBelow}
 
 -- within a list the default makes no difference
 pub getD-any : {A : Type 0} (l : List A) (k : ℕ) (d e : A) → k < length l → getD l k d ≡ getD l k e
@@ -29,6 +28,28 @@ getD-snoc xs x d k n = go (decLt k (length xs))
         let a : length (xs ++ x ∷ []) ≤ k = omega (arith, length-append xs (x ∷ [])) in
         let b : length xs ≤ k = omega arith in
         List·getD-eq-default (xs ++ x ∷ []) d a ∙ sym (List·getD-eq-default xs d b)
+
+-- behind a list stands the next
+pub getD-append-add : {A : Type 0} (xs ys : List A) (k : ℕ) (d : A) → getD (xs ++ ys) (length xs + k) d ≡ getD ys k d
+getD-append-add [] ys k d = ap (λ (i : ℕ). getD ys i d) (zero-add k)
+getD-append-add (x ∷ xs) ys k d =
+    let e : length (x ∷ xs) + k ≡ suc (length xs + k) = omega arith in
+    ap (λ (i : ℕ). getD (x ∷ xs ++ ys) i d) e ∙ getD-append-add xs ys k d
+
+next-block : (m n w j l : ℕ) → m ≡ n + w → l ≡ w → m + j ≡ l + (n + j)
+next-block m n w j l e h = omega arith
+
+-- equally long lists one behind the other: place w * i + j is place j of list i
+pub getD-block : {A : Type 0} (w : ℕ) (f : A → List ℕ) → ((x : A) → length (f x) ≡ w) → (d : A) → ((j : ℕ) → getD (f d) j 0 ≡ 0)
+    → (xs : List A) (i j : ℕ) → j < w → getD (flatMap f xs) (w * i + j) 0 ≡ getD (f (getD xs i d)) j 0
+unfolding flatMap
+getD-block w f len d zeros [] i j h = sym (zeros j)
+getD-block w f len d zeros (x ∷ xs) zero j h =
+    ap (λ (k : ℕ). getD (f x ++ flatMap f xs) (k + j) 0) (mul-zero w) ∙ ap (λ (k : ℕ). getD (f x ++ flatMap f xs) k 0) (zero-add j) ∙ List·getD-append (f x) (flatMap f xs) 0 j (omega (arith, len x))
+getD-block w f len d zeros (x ∷ xs) (suc i) j h =
+    ap (λ (k : ℕ). getD (f x ++ flatMap f xs) k 0) (next-block (w * suc i) (w * i) w j (length (f x)) (mul-suc w i) (len x))
+    ∙ getD-append-add (f x) (flatMap f xs) (w * i + j) 0
+    ∙ getD-block w f len d zeros xs i j h
 
 module _ {A : Type 0} where
   pub length-listFrom : (f : ℕ → A) (i n : ℕ) → length (listFrom f i n) ≡ n
@@ -172,3 +193,25 @@ pub allBelow-all : (p : ℕ → Bool) (n : ℕ) → ((i : ℕ) → i < n → p i
 unfolding allBelow
 allBelow-all p zero h = refl
 allBelow-all p (suc n) h = rw (allBelow-all p n (λ i k. h i (omega arith)), h n (omega arith))
+
+-- ---- numbers with zeros behind
+
+pub length-padded : (ns : List ℕ) (count : ℕ) → length (padded ns count) ≡ count
+unfolding padded
+length-padded ns count = length-listOf (λ k. getD ns k 0) count
+
+pub getD-padded : (ns : List ℕ) (count k : ℕ) → k < count → getD (padded ns count) k 0 ≡ getD ns k 0
+unfolding padded
+getD-padded ns count k h = getD-listOf (λ i. getD ns i 0) count k 0 h
+
+pub padded-none : (count k : ℕ) → getD (padded [] count) k 0 ≡ 0
+padded-none count k = go (decLt k count)
+  where
+    go : Dec (k < count) → getD (padded [] count) k 0 ≡ 0
+    go (yes h) = getD-padded [] count k h
+    go (no h) = List·getD-eq-default (padded [] count) 0 (omega (arith, length-padded [] count))
+
+-- paths of 32 codes each, one behind the other
+pub padded-block : (ps : List (List ℕ)) (i j : ℕ) → j < 32 → getD (flatMap (λ (p : List ℕ). padded p 32) ps) (32 * i + j) 0 ≡ getD (getD ps i []) j 0
+padded-block ps i j h =
+    getD-block 32 (λ (p : List ℕ). padded p 32) (λ p. length-padded p 32) [] (padded-none 32) ps i j h ∙ getD-padded (getD ps i []) 32 j h

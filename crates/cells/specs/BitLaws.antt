@@ -10,7 +10,15 @@ use native.Mathlib.Decide.{ℕ-discrete}
 use native.Mathlib.Omega.{arith}
 use lib.Pow.{pow-pos, shr-shr, high}
 use lib.Bits.{bitAnd, bitOr, and-step, or-step, and-shr, or-shr, block-half, block-odd}
-use Rattle.cells.specs.Set.{bit, fromBits, Disjoint}
+use Rattle.cells.specs.Set.{bit, fromBits}
+
+-- no cell is in both
+abbrev pub Disjoint : ℕ → ℕ → Type 0
+Disjoint n m = (c : ℕ) → bit n c + bit m c ≤ 1
+
+-- every cell of n is in m
+abbrev pub Within : ℕ → ℕ → Type 0
+Within n m = (c : ℕ) → bit n c ≤ bit m c
 
 -- ---- one bit at a time
 

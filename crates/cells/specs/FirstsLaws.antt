@@ -1,5 +1,5 @@
 -- Laws of "first appearances kept": the same elements, each once, in order; lists that hold nothing new and lists that are all new;
--- a one-to-one image. Membership is mathlib's. Rests on `Firsts`. Assumes nothing.
+-- a one-to-one image. Membership is mathlib's. Rests on `Lists`. Assumes nothing.
 use mathlib.Core.Path.{_≡_, refl, sym, ap, ap₂, _∙_, subst}
 use mathlib.Core.Logic.{_⊎_, inl, inr, _↔_, ⊎-elim}
 use mathlib.Core.Bool.{Bool, true, false, So, _||_, cond, false≢true}
@@ -9,7 +9,17 @@ use native.Mathlib.Omega.{arith}
 use native.Mathlib.Numerals.{add-one}
 use lib.ListN.{length, getD, drop, length-append}
 use lib.Seq.{drop-cons, drop-length}
-use Rattle.cells.specs.Firsts.{any, Once, Tells, holds, addNew, addFirsts, firsts}
+use Rattle.cells.specs.Lists.{any, holds, addNew, addFirsts, firsts}
+
+-- the test tells equal elements
+module _ {A : Type 0} (same : A → A → Bool) where
+  abbrev pub Tells : Type 0
+  Tells = (x y : A) → So (same x y) ↔ (x ≡ y)
+
+-- each element stands once
+abbrev pub Once : {A : Type 0} → List A → Type 0
+Once [] = Unit {0}
+Once (x ∷ xs) = (Mem x xs → ⊥) × Once xs
 
 pub once-snoc : {A : Type 0} (xs : List A) (y : A) → Once xs → (Mem y xs → ⊥) → Once (xs ++ y ∷ [])
 once-snoc [] y o n = (λ m. not-nil m, tt)

@@ -1,10 +1,8 @@
 -- Sets of cells, lists of them in lent words, and two things that every crate needs: first appearances kept, and lists given by their elements.
--- `Set`, `Words`, `Firsts`, `Arrays` and `Lists` are what a reader must believe; the rest are laws about them.
+-- `Set` and `Lists` are what a reader must believe; `Parts` holds what functions answer that serve the crates above; the rest are laws.
 pub mod Set
-pub mod Words
-pub mod Firsts
-pub mod Arrays
 pub mod Lists
+pub mod Parts
 pub mod BitLaws
 pub mod SetLaws
 pub mod WordLaws

@@ -1,21 +1,27 @@
--- Laws of lists of sets in lent words: what is stored is read back, and a set is added behind the last.
--- Rests on `Lists`, `WordLaws`, `ArrayLaws`. Assumes nothing.
+-- Laws of lists of sets in lent words: what is stored is read back, and the words behind the last set are cleared.
+-- Rests on `Lists`, `Parts`, `WordLaws`, `ArrayLaws`. Assumes nothing.
 use mathlib.Core.Path.{_≡_, refl, sym, ap, _∙_}
 use mathlib.Core.Bool.{Bool, true, false, cond}
-use mathlib.Core.List.{List, [], _∷_, _++_}
-use Prim.Native.Nat.{ℕ, zero, suc, _+_, _-_, _*_, _/_, _%_, _^_, _≤_, _<_, min}
+use mathlib.Core.List.{List, [], _∷_, flatMap}
+use Prim.Native.Nat.{ℕ, zero, suc, _+_, _*_, _/_, _%_, _^_, _≤_, _<_, min}
 use native.Mathlib.Nat.{add-zero}
 use native.Mathlib.Decide.{decLt}
 use native.Mathlib.Omega.{arith}
 use borrow.Author.Tests.{lt-ltb, le-ltb, leb-true}
 use lib.Dec.{ltb}
-use lib.ListN.{length, getD, set, length-append, length-set, List·getD-eq-default}
-use lib.Seq.{sets, length-sets, getD-set-same, getD-set-other, getD-append-seam}
-use Rattle.cells.specs.Words.{value, wordsOf, wordsBelow, number}
-use Rattle.cells.specs.Arrays.{listOf}
-use Rattle.cells.specs.Lists.{setAt, setsIn, withSet, clearedFrom, wordAt, wordsFor, storedIn}
-use Rattle.cells.specs.WordLaws.{value-wordsOf}
-use Rattle.cells.specs.ArrayLaws.{getD-snoc, length-listOf, getD-listOf, listOf-ext, listOf-eta}
+use lib.Pow.{pow-pos}
+use lib.ListN.{length, getD, set, length-set, List·getD-eq-default}
+use lib.Seq.{sets, length-sets, getD-set-same, getD-set-other}
+use Rattle.cells.specs.Set.{value, wordsOf, wordsBelow, number}
+use Rattle.cells.specs.WordLaws.{Small, value-wordsOf, wordsOf-value}
+use Rattle.cells.specs.Lists.{listOf, padded, setAt, wordsFor}
+use Rattle.cells.specs.Parts.{withSet, clearedFrom}
+use Rattle.cells.specs.ArrayLaws.{length-listOf, getD-listOf, listOf-ext, listOf-eta, getD-block}
+
+-- the first n sets, or as many as are lent
+unfoldable pub setsIn : List ℕ → ℕ → List ℕ
+unfolding setAt listOf
+setsIn ws n = listOf (setAt ws) (min n (length ws / 4))
 
 -- ---- one set
 
@@ -53,26 +59,12 @@ pub length-clearedFrom : (from : ℕ) (ws : List ℕ) → length (clearedFrom fr
 unfolding clearedFrom
 length-clearedFrom from ws = length-listOf (λ k. cond (ltb k from) (getD ws k 0) 0) (length ws)
 
--- ---- a list of sets in front of words
+-- ---- so many words that hold a list of sets
 
-pub length-storedIn : (ns ws : List ℕ) → length (storedIn ns ws) ≡ length ws
-unfolding storedIn
-length-storedIn ns ws = length-listOf (λ k. cond (ltb k (4 * length ns)) (wordAt ns k) (getD ws k 0)) (length ws)
-
-getD-storedIn : (ns ws : List ℕ) (k : ℕ) → k < length ws → getD (storedIn ns ws) k 0 ≡ cond (ltb k (4 * length ns)) (wordAt ns k) (getD ws k 0)
-unfolding storedIn
-getD-storedIn ns ws k h = getD-listOf (λ k. cond (ltb k (4 * length ns)) (wordAt ns k) (getD ws k 0)) (length ws) k 0 h
-
-pub getD-stored : (ns ws : List ℕ) (k : ℕ) → k < length ws → k < 4 * length ns → getD (storedIn ns ws) k 0 ≡ wordAt ns k
-getD-stored ns ws k h l = getD-storedIn ns ws k h ∙ rw (lt-ltb k (4 * length ns) l)
-
-pub getD-behind : (ns ws : List ℕ) (k : ℕ) → k < length ws → 4 * length ns ≤ k → getD (storedIn ns ws) k 0 ≡ getD ws k 0
-getD-behind ns ws k h l = getD-storedIn ns ws k h ∙ rw (le-ltb k (4 * length ns) l)
-
--- no set: the words are as they were
-pub storedIn-none : (ws : List ℕ) → ws ≡ storedIn [] ws
-unfolding storedIn
-storedIn-none ws = listOf-eta 0 ws (λ k. cond (ltb k (4 * length {A = ℕ} [])) (wordAt [] k) (getD ws k 0)) (length ws) refl (λ k h. rw (le-ltb k (4 * length {A = ℕ} []) (omega arith)))
+-- word k of a list of sets, 0 behind the last
+unfoldable pub wordAt : List ℕ → ℕ → ℕ
+unfolding wordsOf
+wordAt ns k = getD (wordsOf (getD ns (k / 4) 0)) (k % 4) 0
 
 -- the four words of one set
 wordAt-part : (ns : List ℕ) (i j : ℕ) → j < 4 → wordAt ns (4 * i + j) ≡ getD (wordsOf (getD ns i 0)) j 0
@@ -105,43 +97,49 @@ wordAt-past ns k h =
     let l : length ns ≤ k / 4 = omega arith in
     ap (λ (n : ℕ). getD (wordsOf n) (k % 4) 0) (List·getD-eq-default ns 0 l) ∙ zero-word (k % 4) (omega arith)
 
--- what is stored is read back
-pub setAt-storedIn : (ns ws : List ℕ) (i : ℕ) → i < length ns → 4 * length ns ≤ length ws → getD ns i 0 < 2 ^ 256 → setAt (storedIn ns ws) i ≡ getD ns i 0
-setAt-storedIn ns ws i h r s =
-    let l : i < length (storedIn ns ws) / 4 = omega (arith, length-storedIn ns ws) in
-    let word : (j : ℕ) → j < 4 → getD (storedIn ns ws) (4 * i + j) 0 ≡ getD (wordsOf (getD ns i 0)) j 0 =
-    λ j k. getD-stored ns ws (4 * i + j) (omega arith) (omega arith) ∙ wordAt-part ns i j k in
-    let zeroth : getD (storedIn ns ws) (4 * i) 0 ≡ getD (wordsOf (getD ns i 0)) 0 0 = ap (λ (k : ℕ). getD (storedIn ns ws) k 0) (sym (add-zero (4 * i))) ∙ word 0 (omega arith) in
-    sym (setAt-value (storedIn ns ws) i l)
-    ∙ rw (zeroth, word 1 (omega arith), word 2 (omega arith), word 3 (omega arith), ← wordsOf-four (getD ns i 0)) (value-wordsOf (getD ns i 0) s)
-
-pub setsIn-storedIn : (ns ws : List ℕ) → 4 * length ns ≤ length ws → ((i : ℕ) → getD ns i 0 < 2 ^ 256) → setsIn (storedIn ns ws) (length ns) ≡ ns
-unfolding setsIn
-setsIn-storedIn ns ws r s =
-    let all : min (length ns) (length (storedIn ns ws) / 4) ≡ length ns = omega (arith, length-storedIn ns ws) in
-    ap (listOf (setAt (storedIn ns ws))) all
-    ∙ sym (listOf-eta 0 ns (setAt (storedIn ns ws)) (length ns) refl (λ i h. sym (setAt-storedIn ns ws i h r (s i))))
-
--- so they are where zeros stand behind the last
-storedIn-wordsFor : (ns : List ℕ) (n : ℕ) → storedIn ns (wordsFor ns n) ≡ wordsFor ns n
-unfolding storedIn wordsFor
-storedIn-wordsFor ns n =
-    ap (listOf (λ k. cond (ltb k (4 * length ns)) (wordAt ns k) (getD (wordsFor ns n) k 0))) (length-listOf (wordAt ns) n)
-    ∙ listOf-ext (λ k. cond (ltb k (4 * length ns)) (wordAt ns k) (getD (wordsFor ns n) k 0)) (wordAt ns) n (λ k h. go k (ltb k (4 * length ns)) h)
+-- words that hold a list of sets, by their places
+pub wordsFor-at : (ns : List ℕ) (n : ℕ) → wordsFor ns n ≡ listOf (wordAt ns) n
+unfolding wordsFor padded wordAt
+wordsFor-at ns n = listOf-ext (λ k. getD (flatMap wordsOf ns) k 0) (wordAt ns) n (λ k h. word-at k)
   where
-    go : (k : ℕ) (t : Bool) → k < n → cond t (wordAt ns k) (getD (wordsFor ns n) k 0) ≡ wordAt ns k
-    go k true h = refl
-    go k false h = getD-listOf (wordAt ns) n k 0 h
+    zeros : (j : ℕ) → getD (wordsOf 0) j 0 ≡ 0
+    zeros j = go (decLt j 4)
+      where
+        go : Dec (j < 4) → getD (wordsOf 0) j 0 ≡ 0
+        go (yes h) = zero-word j h
+        go (no h) = let a : length (wordsOf 0) ≤ j = omega (arith, wordsOf-length 0) in List·getD-eq-default (wordsOf 0) 0 a
+
+    word-at : (k : ℕ) → getD (flatMap wordsOf ns) k 0 ≡ getD (wordsOf (getD ns (k / 4) 0)) (k % 4) 0
+    word-at k =
+        let e : 4 * (k / 4) + k % 4 ≡ k = omega arith in
+        ap (λ (i : ℕ). getD (flatMap wordsOf ns) i 0) (sym e) ∙ getD-block 4 wordsOf wordsOf-length 0 zeros ns (k / 4) (k % 4) (omega arith)
 
 pub length-wordsFor : (ns : List ℕ) (n : ℕ) → length (wordsFor ns n) ≡ n
-unfolding wordsFor
-length-wordsFor ns n = length-listOf (wordAt ns) n
+length-wordsFor ns n = ap length (wordsFor-at ns n) ∙ length-listOf (wordAt ns) n
+
+getD-wordsFor : (ns : List ℕ) (n k : ℕ) → k < n → getD (wordsFor ns n) k 0 ≡ wordAt ns k
+getD-wordsFor ns n k h = ap (λ (ws : List ℕ). getD ws k 0) (wordsFor-at ns n) ∙ getD-listOf (wordAt ns) n k 0 h
+
+-- what they hold is read back
+setAt-wordsFor : (ns : List ℕ) (n i : ℕ) → i < length ns → 4 * length ns ≤ n → getD ns i 0 < 2 ^ 256 → setAt (wordsFor ns n) i ≡ getD ns i 0
+setAt-wordsFor ns n i h r s =
+    let l : i < length (wordsFor ns n) / 4 = omega (arith, length-wordsFor ns n) in
+    let word : (j : ℕ) → j < 4 → getD (wordsFor ns n) (4 * i + j) 0 ≡ getD (wordsOf (getD ns i 0)) j 0 =
+    λ j k. getD-wordsFor ns n (4 * i + j) (omega arith) ∙ wordAt-part ns i j k in
+    let zeroth : getD (wordsFor ns n) (4 * i) 0 ≡ getD (wordsOf (getD ns i 0)) 0 0 = ap (λ (k : ℕ). getD (wordsFor ns n) k 0) (sym (add-zero (4 * i))) ∙ word 0 (omega arith) in
+    sym (setAt-value (wordsFor ns n) i l)
+    ∙ rw (zeroth, word 1 (omega arith), word 2 (omega arith), word 3 (omega arith), ← wordsOf-four (getD ns i 0)) (value-wordsOf (getD ns i 0) s)
+
+pub sets-wordsFor : (ns : List ℕ) (n : ℕ) → 4 * length ns ≤ n → ((i : ℕ) → getD ns i 0 < 2 ^ 256) → listOf (setAt (wordsFor ns n)) (length ns) ≡ ns
+sets-wordsFor ns n r s = sym (listOf-eta 0 ns (setAt (wordsFor ns n)) (length ns) refl (λ i h. sym (setAt-wordsFor ns n i h r (s i))))
 
 pub setsIn-wordsFor : (ns : List ℕ) (n : ℕ) → 4 * length ns ≤ n → ((i : ℕ) → getD ns i 0 < 2 ^ 256) → setsIn (wordsFor ns n) (length ns) ≡ ns
+unfolding setsIn
 setsIn-wordsFor ns n r s =
-    ap (λ (ws : List ℕ). setsIn ws (length ns)) (sym (storedIn-wordsFor ns n)) ∙ setsIn-storedIn ns (wordsFor ns n) (omega (arith, length-wordsFor ns n)) s
+    let all : min (length ns) (length (wordsFor ns n) / 4) ≡ length ns = omega (arith, length-wordsFor ns n) in
+    ap (listOf (setAt (wordsFor ns n))) all ∙ sets-wordsFor ns n r s
 
--- ---- a set more
+-- ---- one set stored
 
 -- a run of stores: what stands outside it, and in it
 getD-sets-out : (vs l : List ℕ) (i k : ℕ) → (i ≤ k → k < i + length vs → ⊥) → getD (sets l i vs) k 0 ≡ getD l k 0
@@ -160,45 +158,6 @@ getD-sets-in (a ∷ vs) l i (suc j) h r =
     let e : i + suc j ≡ suc i + j = omega arith in
     ap (λ (k : ℕ). getD (sets (set l i a) (suc i) vs) k 0) e
     ∙ getD-sets-in vs (set l i a) (suc i) j (omega arith) (omega (arith, length-set l i a))
-
-wordAt-snoc : (ns : List ℕ) (x k : ℕ) → k < 4 * length ns → wordAt (ns ++ x ∷ []) k ≡ wordAt ns k
-unfolding wordAt
-wordAt-snoc ns x k a = ap (λ (n : ℕ). getD (wordsOf n) (k % 4) 0) (getD-snoc ns x 0 (k / 4) (λ e. omega arith))
-
--- a list with one set more is the words with that set behind the last
-pub storedIn-snoc : (ns ws : List ℕ) (x : ℕ) → 4 * length ns + 4 ≤ length ws → withSet (storedIn ns ws) (length ns) x ≡ storedIn (ns ++ x ∷ []) ws
-unfolding storedIn
-storedIn-snoc ns ws x r =
-    withSet-lent (storedIn ns ws) (length ns) x (omega (arith, len))
-    ∙ listOf-eta 0 (sets (storedIn ns ws) (4 * length ns) (wordsOf x)) (λ k. cond (ltb k (4 * length (ns ++ x ∷ []))) (wordAt (ns ++ x ∷ []) k) (getD ws k 0)) (length ws)
-    (length-sets (storedIn ns ws) (4 * length ns) (wordsOf x) ∙ len)
-    (λ k h. go k h (decLt k (4 * length ns)) (decLt k (4 * length ns + 4)))
-  where
-    len : length (storedIn ns ws) ≡ length ws
-    len = length-storedIn ns ws
-
-    more : length (ns ++ x ∷ []) ≡ length ns + 1
-    more = length-append ns (x ∷ [])
-
-    new : (k j : ℕ) → j < 4 → k ≡ 4 * length ns + j → getD (sets (storedIn ns ws) (4 * length ns) (wordsOf x)) k 0 ≡ wordAt (ns ++ x ∷ []) k
-    new k j h e =
-        ap (λ (i : ℕ). getD (sets (storedIn ns ws) (4 * length ns) (wordsOf x)) i 0) e
-        ∙ getD-sets-in (wordsOf x) (storedIn ns ws) (4 * length ns) j (omega (arith, wordsOf-length x)) (omega (arith, wordsOf-length x, len))
-        ∙ sym (ap (wordAt (ns ++ x ∷ [])) e ∙ wordAt-part (ns ++ x ∷ []) (length ns) j h ∙ ap (λ (n : ℕ). getD (wordsOf n) j 0) (getD-append-seam ns x [] 0))
-
-    go : (k : ℕ) → k < length ws → Dec (k < 4 * length ns) → Dec (k < 4 * length ns + 4) → getD (sets (storedIn ns ws) (4 * length ns) (wordsOf x)) k 0 ≡ cond (ltb k (4 * length (ns ++ x ∷ []))) (wordAt (ns ++ x ∷ []) k) (getD ws k 0)
-    go k h (yes a) d =
-        getD-sets-out (wordsOf x) (storedIn ns ws) (4 * length ns) k (λ p q. omega arith)
-        ∙ getD-stored ns ws k h a
-        ∙ sym (wordAt-snoc ns x k a)
-        ∙ rw (lt-ltb k (4 * length (ns ++ x ∷ [])) (omega (arith, more)))
-    go k h (no a) (yes b) = new k (k - 4 * length ns) (omega arith) (omega arith) ∙ rw (lt-ltb k (4 * length (ns ++ x ∷ [])) (omega (arith, more)))
-    go k h (no a) (no b) =
-        getD-sets-out (wordsOf x) (storedIn ns ws) (4 * length ns) k (λ p q. omega (arith, wordsOf-length x))
-        ∙ getD-behind ns ws k h (omega arith)
-        ∙ rw (le-ltb k (4 * length (ns ++ x ∷ [])) (omega (arith, more)))
-
--- ---- one set stored
 
 module _ (ws : List ℕ) (i n : ℕ) where
   word-in : i < length ws / 4 → (j : ℕ) → j < 4 → getD (withSet ws i n) (4 * i + j) 0 ≡ getD (wordsOf n) j 0
@@ -240,23 +199,61 @@ module _ (ws : List ℕ) (i n : ℕ) where
         word-out (4 * j + 3) (λ e. ne (omega arith)),
       )
 
--- the words behind the last set cleared: a list of sets, zeros behind
-pub cleared-storedIn : (ns ws : List ℕ) → clearedFrom (4 * length ns) (storedIn ns ws) ≡ wordsFor ns (length ws)
-unfolding clearedFrom wordsFor
-cleared-storedIn ns ws =
-    ap (listOf (λ k. cond (ltb k (4 * length ns)) (getD (storedIn ns ws) k 0) 0)) (length-storedIn ns ws)
-    ∙ listOf-ext (λ k. cond (ltb k (4 * length ns)) (getD (storedIn ns ws) k 0) 0) (wordAt ns) (length ws) (λ k h. go k h (decLt k (4 * length ns)))
+-- ---- the words behind the last set cleared
+
+-- the four words of a set are machine words where all are
+small-four : (ws : List ℕ) → Small ws → (i : ℕ) → Small (getD ws (4 * i) 0 ∷ getD ws (4 * i + 1) 0 ∷ getD ws (4 * i + 2) 0 ∷ getD ws (4 * i + 3) 0 ∷ [])
+small-four ws s i zero = s (4 * i)
+small-four ws s i (suc zero) = s (4 * i + 1)
+small-four ws s i (suc (suc zero)) = s (4 * i + 2)
+small-four ws s i (suc (suc (suc zero))) = s (4 * i + 3)
+small-four ws s i (suc (suc (suc (suc k)))) = pow-pos 64
+
+-- the four words of a set, as they stand
+four-words : (ws : List ℕ) (k j : ℕ) → k % 4 ≡ j → j < 4
+    → getD (getD ws (4 * (k / 4)) 0 ∷ getD ws (4 * (k / 4) + 1) 0 ∷ getD ws (4 * (k / 4) + 2) 0 ∷ getD ws (4 * (k / 4) + 3) 0 ∷ []) j 0 ≡ getD ws k 0
+four-words ws k zero e h = let q : 4 * (k / 4) ≡ k = omega arith in ap (λ (i : ℕ). getD ws i 0) q
+four-words ws k (suc zero) e h = let q : 4 * (k / 4) + 1 ≡ k = omega arith in ap (λ (i : ℕ). getD ws i 0) q
+four-words ws k (suc (suc zero)) e h = let q : 4 * (k / 4) + 2 ≡ k = omega arith in ap (λ (i : ℕ). getD ws i 0) q
+four-words ws k (suc (suc (suc zero))) e h = let q : 4 * (k / 4) + 3 ≡ k = omega arith in ap (λ (i : ℕ). getD ws i 0) q
+four-words ws k (suc (suc (suc (suc j)))) e h = absurd (omega arith)
+
+-- the words behind the last set cleared
+pub cleared-sets : (ws ns : List ℕ) → ((i : ℕ) → getD ws i 0 < 2 ^ 64) → 4 * length ns ≤ length ws → listOf (setAt ws) (length ns) ≡ ns
+    → clearedFrom (4 * length ns) ws ≡ wordsFor ns (length ws)
+unfolding clearedFrom wordAt
+cleared-sets ws ns s h e =
+    listOf-ext (λ k. cond (ltb k (4 * length ns)) (getD ws k 0) 0) (wordAt ns) (length ws) (λ k l. go k (decLt k (4 * length ns)))
+    ∙ sym (wordsFor-at ns (length ws))
   where
-    go : (k : ℕ) → k < length ws → Dec (k < 4 * length ns) → cond (ltb k (4 * length ns)) (getD (storedIn ns ws) k 0) 0 ≡ wordAt ns k
-    go k h (yes a) = rw (lt-ltb k (4 * length ns) a) (getD-stored ns ws k h a)
-    go k h (no a) = rw (le-ltb k (4 * length ns) (omega arith)) (sym (wordAt-past ns k (omega arith)))
+    four : ℕ → List ℕ
+    four i = getD ws (4 * i) 0 ∷ getD ws (4 * i + 1) 0 ∷ getD ws (4 * i + 2) 0 ∷ getD ws (4 * i + 3) 0 ∷ []
+
+    set-is : (i : ℕ) → i < length ns → getD ns i 0 ≡ value (four i)
+    set-is i l =
+        ap (λ (l : List ℕ). getD l i 0) (sym e) ∙ getD-listOf (setAt ws) (length ns) i 0 l ∙ sym (setAt-value ws i (omega arith))
+
+    back : (i : ℕ) → wordsOf (value (four i)) ≡ four i
+    back i = wordsOf-value (four i) refl (small-four ws s i)
+
+    stored : (k : ℕ) → k < 4 * length ns → getD ws k 0 ≡ wordAt ns k
+    stored k a =
+        sym
+        (ap (λ (n : ℕ). getD (wordsOf n) (k % 4) 0) (set-is (k / 4) (omega arith))
+        ∙ ap (λ (l : List ℕ). getD l (k % 4) 0) (back (k / 4))
+        ∙ four-words ws k (k % 4) refl (omega arith))
+
+    go : (k : ℕ) → Dec (k < 4 * length ns) → cond (ltb k (4 * length ns)) (getD ws k 0) 0 ≡ wordAt ns k
+    go k (yes a) = rw (lt-ltb k (4 * length ns) a) (stored k a)
+    go k (no a) = rw (le-ltb k (4 * length ns) (omega arith)) (sym (wordAt-past ns k (omega arith)))
 
 -- all cleared
 pub cleared-all : (ws : List ℕ) → clearedFrom 0 ws ≡ wordsFor [] (length ws)
-unfolding clearedFrom wordsFor
+unfolding clearedFrom
 cleared-all ws =
     listOf-ext (λ k. cond (ltb k 0) (getD ws k 0) 0) (wordAt []) (length ws)
     (λ k h. rw (le-ltb k 0 (omega arith)) (sym (wordAt-past [] k (omega arith))))
+    ∙ sym (wordsFor-at [] (length ws))
 
 -- the set with no cell
 pub value-none : value (0 ∷ 0 ∷ 0 ∷ 0 ∷ []) ≡ 0

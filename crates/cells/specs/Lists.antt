@@ -1,15 +1,59 @@
--- Definitions: lists of sets in lent words, four words a set (01: "A board in an output, layer or node is four words"). Assumes nothing.
-use mathlib.Core.Bool.{Bool, cond}
-use mathlib.Core.List.{List, [], _∷_}
-use mathlib.Core.Option.{Option, none, some}
-use Prim.Native.Nat.{ℕ, zero, suc, _+_, _-_, _*_, _/_, _%_, min}
-use lib.Dec.{eqb, ltb}
-use lib.ListN.{length, getD}
-use lib.Seq.{sets}
-use Rattle.cells.specs.declared.list.Found.{Found}
-use Rattle.cells.specs.declared.list.Found.the-variants as F
-use Rattle.cells.specs.Words.{value, wordsOf}
-use Rattle.cells.specs.Arrays.{listOf}
+-- Definitions: lists given by their elements, and with zeros behind; first appearances kept; lists of sets in lent words, four words a set (01: "A board in
+-- an output, layer or node is four words"). 01 asks for first appearances of an orbit's tiles, of a board's pieces ("the first of equal pieces is kept") and
+-- of the boards of a layer ("distinct children"). Assumes nothing.
+use mathlib.Core.Bool.{Bool, true, _&&_, false, _||_, cond}
+use mathlib.Core.List.{List, [], _∷_, _++_, flatMap}
+use Prim.Native.Nat.{ℕ, zero, suc, _+_, _*_, _/_}
+use lib.ListN.{getD, length}
+use lib.Dec.{ltb}
+use Rattle.cells.specs.Set.{value, wordsOf}
+
+-- what f has at the places i to i + n - 1
+unfoldable pub listFrom : {A : Type 0} → (ℕ → A) → ℕ → ℕ → List A
+listFrom f i zero = []
+listFrom f i (suc n) = f i ∷ listFrom f (suc i) n
+
+-- what f has at the places 0 to n - 1
+unfoldable pub listOf : {A : Type 0} → (ℕ → A) → ℕ → List A
+unfolding listFrom
+listOf f n = listFrom f 0 n
+
+-- so many words that hold these numbers, zeros behind; numbers that they do not hold are left out
+unfoldable pub padded : List ℕ → ℕ → List ℕ
+unfolding listOf
+padded ns count = listOf (λ k. getD ns k 0) count
+
+-- p holds of every number below n
+unfoldable pub allBelow : (ℕ → Bool) → ℕ → Bool
+allBelow p zero = true
+allBelow p (suc n) = allBelow p n && p n
+
+-- whether p holds of some element
+unfoldable pub any : {A : Type 0} → (A → Bool) → List A → Bool
+any p [] = false
+any p (x ∷ xs) = p x || any p xs
+
+module _ {A : Type 0} (same : A → A → Bool) where
+  -- whether x is among the elements of a list
+  unfoldable pub holds : List A → A → Bool
+  unfolding any
+  holds xs x = any (λ y. same y x) xs
+
+  -- the list with x behind it, unless it holds x
+  unfoldable pub addNew : List A → A → List A
+  unfolding holds
+  addNew xs x = cond (holds xs x) xs (xs ++ x ∷ [])
+
+  -- the list xs with those elements of a second list behind it that it does not hold, each where it first appears
+  unfoldable pub addFirsts : List A → List A → List A
+  unfolding addNew
+  addFirsts xs [] = xs
+  addFirsts xs (y ∷ ys) = addFirsts (addNew xs y) ys
+
+  -- the list with first appearances kept
+  unfoldable pub firsts : List A → List A
+  unfolding addFirsts
+  firsts xs = addFirsts [] xs
 
 -- set i of the words, where its four words are all lent; 0 elsewhere
 unfoldable pub setAt : List ℕ → ℕ → ℕ
@@ -17,47 +61,7 @@ unfolding value
 setAt ws i =
     cond (ltb i (length ws / 4)) (value (getD ws (4 * i) 0 ∷ getD ws (4 * i + 1) 0 ∷ getD ws (4 * i + 2) 0 ∷ getD ws (4 * i + 3) 0 ∷ [])) 0
 
--- the first n sets, or as many as are lent
-unfoldable pub setsIn : List ℕ → ℕ → List ℕ
-unfolding setAt listOf
-setsIn ws n = listOf (setAt ws) (min n (length ws / 4))
-
--- the first of count places from i on of which a test holds
-unfoldable pub firstFrom : (ℕ → Bool) → ℕ → ℕ → Option ℕ
-firstFrom test i zero = none
-firstFrom test i (suc count) = cond (test i) (some i) (firstFrom test (suc i) count)
-
--- the first set equal to n among the sets from..to, or among as many of them as are lent (01: "lent slices searched for an equal board")
-unfoldable pub findSet : List ℕ → ℕ → ℕ → ℕ → Option ℕ
-unfolding firstFrom setAt
-findSet ws from to n = firstFrom (λ i. eqb (setAt ws i) n) from (min to (length ws / 4) - from)
-
--- what `list::find` answers
-abbrev pub foundAnswer : Found → Option ℕ
-foundAnswer (F.At i) = some i
-foundAnswer F.Nothing = none
-
--- the words with n for set i; as they were where its four words are not all lent
-unfoldable pub withSet : List ℕ → ℕ → ℕ → List ℕ
-unfolding wordsOf
-withSet ws i n = cond (ltb i (length ws / 4)) (sets ws (4 * i) (wordsOf n)) ws
-
--- the words with zeros from word k on
-unfoldable pub clearedFrom : ℕ → List ℕ → List ℕ
-unfolding listOf
-clearedFrom k ws = listOf (λ i. cond (ltb i k) (getD ws i 0) 0) (length ws)
-
--- word k of a list of sets, 0 behind the last
-unfoldable pub wordAt : List ℕ → ℕ → ℕ
-unfolding wordsOf
-wordAt ns k = getD (wordsOf (getD ns (k / 4) 0)) (k % 4) 0
-
 -- so many words that hold a list of sets, zeros behind the last
 unfoldable pub wordsFor : List ℕ → ℕ → List ℕ
-unfolding wordAt listOf
-wordsFor ns count = listOf (wordAt ns) count
-
--- the words with a list of sets in front; behind it they are as they were
-unfoldable pub storedIn : List ℕ → List ℕ → List ℕ
-unfolding wordAt listOf
-storedIn ns ws = listOf (λ k. cond (ltb k (4 * length ns)) (wordAt ns k) (getD ws k 0)) (length ws)
+unfolding flatMap wordsOf padded
+wordsFor ns count = padded (flatMap wordsOf ns) count

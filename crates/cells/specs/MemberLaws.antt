@@ -10,9 +10,8 @@ use native.Mathlib.Omega.{arith}
 use borrow.Author.Tests.{eq-eqb, eqb-true}
 use lib.Dec.{eqb}
 use lib.ListN.{length, getD, length-append}
-use Rattle.cells.specs.Firsts.{Once, Tells}
-use Rattle.cells.specs.FirstsLaws.{mem-getD, once-snoc}
-use Rattle.cells.specs.Arrays.{listOf}
+use Rattle.cells.specs.FirstsLaws.{Once, mem-getD, once-snoc, Tells}
+use Rattle.cells.specs.Lists.{listOf}
 use Rattle.cells.specs.ArrayLaws.{length-listOf, getD-listOf, listOf-snoc}
 
 pub eqb-tells : Tells eqb

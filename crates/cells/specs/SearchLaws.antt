@@ -11,8 +11,9 @@ use lib.Dec.{eqb}
 use lib.ListN.{length}
 use Rattle.cells.specs.declared.list.Found.{Found}
 use Rattle.cells.specs.declared.list.Found.the-variants as F
-use Rattle.cells.specs.Firsts.{holds}
-use Rattle.cells.specs.Lists.{setAt, setsIn, firstFrom, findSet, foundAnswer}
+use Rattle.cells.specs.Lists.{holds, setAt}
+use Rattle.cells.specs.Parts.{firstFrom, findSet, foundAnswer}
+use Rattle.cells.specs.ListLaws.{setsIn}
 use Rattle.cells.specs.ArrayLaws.{any-listOf, none-listOf}
 
 module _ (test : ℕ → Bool) where

@@ -1,10 +1,12 @@
--- Definitions: a set of cells is one number, cell c being in the set n if bit c of n is 1.
--- 01: "Cell (row, column) is bit 16 × row + column, counted from the lowest bit of the first of four 64-bit words", so a set is a
--- number below 2 ^ 256. Disjoint sets are joined by `+` (`bit-add`), and a set within another is taken from it by `-` (`bit-sub`).
--- Every definition computes on numerals. Assumes nothing.
-use mathlib.Core.Bool.{Bool, not, cond}
-use Prim.Native.Nat.{ℕ, zero, suc, _+_, _-_, _*_, _/_, _%_, _^_, _≤_, min, max}
+-- Definitions: a set of cells is one number, cell c being in the set n if bit c of n is 1; and the four words that hold it. 01: "Cell (row, column) is bit
+-- 16 × row + column, counted from the lowest bit of the first of four 64-bit words", so a set is a number below 2 ^ 256. Disjoint sets are joined by `+`
+-- (`bit-add`), and a set within another is taken from it by `-` (`bit-sub`); `value` reads words and `wordsOf` writes them, each the other's inverse
+-- (`value-wordsOf`, `wordsOf-value`). Every definition computes on numerals. Assumes nothing.
+use mathlib.Core.Bool.{Bool, cond}
+use Prim.Native.Nat.{ℕ, zero, suc, _+_, _-_, _*_, _/_, _%_, _^_, max, _<_}
 use lib.Dec.{eqb, ltb}
+use mathlib.Core.List.{List, [], _∷_}
+use Rattle.cells.specs.declared.Cells.{Cells}
 
 -- bit c of the number n, counted from the lowest
 unfoldable pub bit : ℕ → ℕ → ℕ
@@ -15,7 +17,7 @@ unfoldable pub hasCell : ℕ → ℕ → Bool
 unfolding bit
 hasCell n c = eqb (bit n c) 1
 
--- the number whose bits below k are those of f
+-- the number whose bits below k are those of f, where f gives 0 and 1
 unfoldable pub fromBits : ℕ → (ℕ → ℕ) → ℕ
 fromBits zero f = 0
 fromBits (suc k) f = fromBits k f + f k * 2 ^ k
@@ -30,27 +32,10 @@ unfoldable pub withCell : ℕ → ℕ → ℕ
 unfolding bit
 withCell n c = cond (ltb c 256) (n + (1 - bit n c) * 2 ^ c) n
 
--- the cells that are in one of two sets, and those that are in both
+-- the cells that are in one of two sets
 unfoldable pub unionOf : ℕ → ℕ → ℕ
 unfolding bit fromBits
 unionOf n m = fromBits 256 (λ c. max (bit n c) (bit m c))
-
-unfoldable pub intersectionOf : ℕ → ℕ → ℕ
-unfolding bit fromBits
-intersectionOf n m = fromBits 256 (λ c. min (bit n c) (bit m c))
-
--- whether some cell is in both
-unfoldable pub sharesCell : ℕ → ℕ → Bool
-unfolding intersectionOf
-sharesCell n m = not (eqb (intersectionOf n m) 0)
-
--- no cell is in both
-abbrev pub Disjoint : ℕ → ℕ → Type 0
-Disjoint n m = (c : ℕ) → bit n c + bit m c ≤ 1
-
--- every cell of n is in m
-abbrev pub Within : ℕ → ℕ → Type 0
-Within n m = (c : ℕ) → bit n c ≤ bit m c
 
 -- how many of the cells below k are in the set n
 unfoldable pub sizeBelow : ℕ → ℕ → ℕ
@@ -62,3 +47,34 @@ sizeBelow (suc k) n = sizeBelow k n + bit n k
 unfoldable pub size : ℕ → ℕ
 unfolding sizeBelow
 size n = sizeBelow 256 n
+
+-- the number that a list of words holds
+unfoldable pub value : List ℕ → ℕ
+value [] = 0
+value (w ∷ ws) = w + 2 ^ 64 * value ws
+
+-- the first k words of a number
+unfoldable pub wordsBelow : ℕ → ℕ → List ℕ
+wordsBelow zero n = []
+wordsBelow (suc k) n = n % 2 ^ 64 ∷ wordsBelow k (n / 2 ^ 64)
+
+-- the four words of a number
+unfoldable pub wordsOf : ℕ → List ℕ
+unfolding wordsBelow
+wordsOf n = wordsBelow 4 n
+
+-- the words of a set
+abbrev pub words : Cells → List ℕ
+words s = s .w0 ∷ s .w1 ∷ s .w2 ∷ s .w3 ∷ []
+
+-- the number that the words of a set hold
+unfoldable pub number : Cells → ℕ
+unfolding value
+number s = value (words s)
+
+-- what holds of every set that the code has: each word has 64 bits
+pub record Sound (s : Cells) : Type 0 where
+  pub s0 : s .w0 < 2 ^ 64
+  pub s1 : s .w1 < 2 ^ 64
+  pub s2 : s .w2 < 2 ^ 64
+  pub s3 : s .w3 < 2 ^ 64

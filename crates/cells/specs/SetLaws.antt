@@ -3,16 +3,16 @@
 use mathlib.Core.Path.{_≡_, refl, sym, ap, _∙_, subst}
 use mathlib.Core.Logic.{_≢_, _↔_}
 use mathlib.Core.Bool.{Bool, true, false, So, cond}
-use Prim.Native.Nat.{ℕ, zero, suc, _+_, _-_, _*_, _/_, _%_, _^_, _≤_, _<_, zero-le, min, max}
+use Prim.Native.Nat.{ℕ, zero, suc, _+_, _-_, _*_, _/_, _^_, _≤_, _<_, zero-le, min, max}
 use native.Mathlib.Nat.{one-mul, zero-mul, add-zero}
 use native.Mathlib.Decide.{ℕ-discrete, decLt}
 use native.Mathlib.Omega.{arith}
 use borrow.Author.Tests.{lt-ltb, le-ltb, eq-eqb, ne-eqb, eqb-true, eqb-false, not-false}
 use lib.Dec.{eqb, ltb}
 use lib.Pow.{pow-pos, pow-lt}
-use lib.Count.{ones, ones-step}
-use Rattle.cells.specs.Set.{bit, hasCell, fromBits, setOf, withCell, unionOf, intersectionOf, sharesCell, Disjoint, Within, sizeBelow, size}
-use Rattle.cells.specs.BitLaws.{bit-zero, bit-suc, bit-le, zero-bit, bit-ext, bit-high, half-lt, bit-add, add-lt, bit-pow-same, bit-pow-other, disjoint-pow, fromBits-lt, bit-fromBits}
+use Rattle.cells.specs.Set.{bit, hasCell, fromBits, setOf, withCell, unionOf, sizeBelow, size}
+use Rattle.cells.specs.Parts.{intersectionOf, sharesCell}
+use Rattle.cells.specs.BitLaws.{Disjoint, Within, bit-zero, bit-suc, bit-le, zero-bit, bit-ext, bit-high, bit-add, add-lt, bit-pow-same, bit-pow-other, disjoint-pow, fromBits-lt, bit-fromBits}
 
 -- ---- membership
 
@@ -259,22 +259,7 @@ sizeBelow-pow (suc k) c h = go (ℕ-discrete k c) (sizeBelow-pow k c)
     go (yes e) below = omega (arith, sizeBelow-pow-none k c (omega arith), subst (λ (x : ℕ). bit (2 ^ c) x ≡ 1) (sym e) (bit-pow-same c))
     go (no n) below = omega (arith, below (omega arith), bit-pow-other c k n)
 
--- the lowest bit apart
-sizeBelow-half : (k n : ℕ) → sizeBelow (suc k) n ≡ n % 2 + sizeBelow k (n / 2)
-unfolding sizeBelow
-sizeBelow-half zero n = omega (arith, bit-zero n)
-sizeBelow-half (suc k) n = omega (arith, sizeBelow-half k n, bit-suc n k)
-
 -- the machine's count of ones
-pub sizeBelow-ones : (k n : ℕ) → n < 2 ^ k → sizeBelow k n ≡ ones n
-unfolding sizeBelow ones
-sizeBelow-ones zero n h = let e : n ≡ 0 = omega arith in rw e
-sizeBelow-ones (suc k) n h = sizeBelow-half k n ∙ ap (λ (x : ℕ). n % 2 + x) (sizeBelow-ones k (n / 2) (half-lt k n h)) ∙ sym (ones-step n)
-
-pub size-ones : (n : ℕ) → n < 2 ^ 256 → size n ≡ ones n
-unfolding size
-size-ones n h = sizeBelow-ones 256 n h
-
 pub size-le : (n : ℕ) → size n ≤ 256
 unfolding size
 size-le n = sizeBelow-le 256 n

@@ -1,24 +1,27 @@
--- Laws of the words of a set: `value` and `wordsOf` are inverse; a bit of the value is a bit of one word; and what `|`, `&`, `==` and a count of
--- ones on the words do to the set. Rests on `BitLaws` and `SetLaws`. Assumes nothing.
+-- Laws of the words of a set: `value` and `wordsOf` are inverse; a bit of the value is a bit of one word; and what `|`, `&` and `==` on the
+-- words do to the set. Rests on `BitLaws` and `SetLaws`. Assumes nothing.
 use mathlib.Core.Path.{_≡_, refl, sym, ap, ap₂, _∙_, subst}
 use mathlib.Core.Bool.{true, false, not}
 use mathlib.Core.List.{List, [], _∷_}
 use Prim.Native.Nat.{ℕ, zero, suc, _+_, _-_, _*_, _/_, _%_, _^_, _≤_, _<_, min, max}
-use native.Mathlib.Nat.{add-comm, one-mul, add-zero}
+use native.Mathlib.Nat.{one-mul}
 use native.Mathlib.Decide.{ℕ-discrete, decLt}
 use native.Mathlib.Omega.{arith}
 use borrow.Author.Tests.{eq-eqb, ne-eqb}
 use lib.Dec.{eqb, lit<}
 use lib.Pow.{pow-pos, pow-lt, pow-add, shl-exact}
 use lib.Bits.{bitAnd, bitOr, or-lt, and-le-l}
-use lib.Count.{ones, ones-cat}
 use lib.ListN.{length, getD, set}
 use lib.Seq.{getD-set-same, getD-set-other}
 use Rattle.cells.specs.declared.Cells.{Cells}
-use Rattle.cells.specs.Set.{bit, hasCell, withCell, unionOf, intersectionOf, sharesCell, size}
-use Rattle.cells.specs.Words.{value, wordsBelow, wordsOf, Small, words, number, Sound}
+use Rattle.cells.specs.Set.{bit, hasCell, withCell, unionOf, value, wordsBelow, wordsOf, words, number, Sound}
+use Rattle.cells.specs.Parts.{intersectionOf, sharesCell}
 use Rattle.cells.specs.BitLaws.{bit-le, zero-bit, bit-ext, bit-block-low, bit-block-high, bit-high, bit-and, bit-or, bit-pow-same, bit-pow-other}
-use Rattle.cells.specs.SetLaws.{hasCell-false, withCell-past, bit-withCell-same, bit-withCell-other, withCell-lt, unionOf-lt, bit-unionOf, intersectionOf-lt, bit-intersectionOf, size-ones}
+use Rattle.cells.specs.SetLaws.{hasCell-false, withCell-past, bit-withCell-same, bit-withCell-other, withCell-lt, unionOf-lt, bit-unionOf, intersectionOf-lt, bit-intersectionOf}
+
+-- numbers of 64 bits, as machine words are
+abbrev pub Small : List ℕ → Type 0
+Small ws = (i : ℕ) → getD ws i 0 < 2 ^ 64
 
 -- ---- `value` and `wordsOf` are inverse
 
@@ -286,27 +289,3 @@ module _ (s r : Cells) (hs : Sound s) (c i : ℕ) (hi : i < 4) (ei : c / 64 ≡ 
 
 pub withCell-none : (s : Cells) (c : ℕ) → 4 ≤ c / 64 → number s ≡ withCell (number s) c
 withCell-none s c h = withCell-past (number s) c (past c h)
-
--- ---- the machine's counts of ones add up to the number of cells
-
-ones-value : (w : ℕ) (ws : List ℕ) → w < 2 ^ 64 → ones (value (w ∷ ws)) ≡ ones w + ones (value ws)
-unfolding value
-ones-value w ws h =
-    let e : w + 2 ^ 64 * value ws ≡ value ws * 2 ^ 64 + w = omega arith in
-    ap ones e ∙ ones-cat 64 (value ws) w h ∙ add-comm (ones (value ws)) (ones w)
-
-ones-nil : (n : ℕ) → n + ones (value []) ≡ n
-unfolding value ones
-ones-nil n = add-zero n
-
-pub size-words : (s : Cells) → Sound s → ones (s .w0) + (ones (s .w1) + (ones (s .w2) + ones (s .w3))) ≡ size (number s)
-unfolding number
-size-words s h =
-    sym
-    (size-ones (number s) (number-lt s h)
-    ∙ ones-value (s .w0) (s .w1 ∷ s .w2 ∷ s .w3 ∷ []) (h .s0)
-    ∙ ap (λ (n : ℕ). ones (s .w0) + n)
-    (ones-value (s .w1) (s .w2 ∷ s .w3 ∷ []) (h .s1)
-    ∙ ap (λ (n : ℕ). ones (s .w1) + n)
-    (ones-value (s .w2) (s .w3 ∷ []) (h .s2)
-    ∙ ap (λ (n : ℕ). ones (s .w2) + n) (ones-value (s .w3) [] (h .s3) ∙ ones-nil (ones (s .w3))))))

@@ -5,10 +5,10 @@
 // of specs/Set.antt. Nothing is asked of the caller: a number past 255 is no cell and is in no set.
 ghost use mathlib.Core.Path.{_≡_};
 ghost use mathlib.Core.List.{[], _∷_};
-ghost use Prim.Native.Nat.{_^_, _<_, _≤_};
+ghost use Prim.Native.Nat.{_^_, _<_};
 ghost use lib.Dec.{eqb};
-ghost use Rattle.cells.specs.Set.{hasCell, withCell, unionOf, sharesCell, size};
-ghost use Rattle.cells.specs.Words.{value, number};
+ghost use Rattle.cells.specs.Set.{hasCell, withCell, unionOf, value, number};
+ghost use Rattle.cells.specs.Parts.{sharesCell};
 
 pub mod list;
 
@@ -69,7 +69,8 @@ impl Cells {
         }
     }
 
-    // Whether a cell is in both of two sets.
+    // Whether a cell is in both of two sets. (No call uses it yet; two pieces that share a cell make a
+    // clause of the DIMACS text that document 02 asks for.)
     pub fn shares_cell(self, other: Cells) -> bool
         ensures { λ r. ⌜ r ≡ sharesCell (number self) (number other) ⌝ }
     {
@@ -99,13 +100,5 @@ impl Cells {
             return false;
         }
         self.w3 == other.w3
-    }
-
-    // How many cells the set has.
-    pub fn count_cells(self) -> u32
-        ensures { λ r. ⌜ (r ≡ size (number self)) × (r ≤ 256) ⌝ }
-    {
-        u64::count_ones(self.w0)
-            + (u64::count_ones(self.w1) + (u64::count_ones(self.w2) + u64::count_ones(self.w3)))
     }
 }

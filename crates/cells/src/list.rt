@@ -3,8 +3,9 @@
 // of a caller.
 use crate::Cells;
 ghost use mathlib.Core.Path.{_≡_};
-ghost use Rattle.cells.specs.Words.{number};
-ghost use Rattle.cells.specs.Lists.{setAt, findSet, foundAnswer, withSet, clearedFrom};
+ghost use Rattle.cells.specs.Set.{number};
+ghost use Rattle.cells.specs.Lists.{setAt};
+ghost use Rattle.cells.specs.Parts.{findSet, foundAnswer, withSet, clearedFrom};
 
 // The place of a set.
 pub enum Found {

@@ -5,35 +5,32 @@ use mathlib.Core.Option.{some}
 use mathlib.Core.Path.{_≡_, refl, sym, ap, ap₂, _∙_, subst}
 use mathlib.Core.Bool.{Bool, true, false, So, not, cond, _&&_}
 use mathlib.Core.List.{List, [], _∷_, _++_, map, map-append, flatMap}
-use Prim.Native.Nat.{ℕ, _+_, _-_, _*_, _/_, _^_, _≤_, _<_}
-use native.Mathlib.Decide.{ℕ-discrete}
+use Prim.Native.Nat.{ℕ, _+_, _-_, _*_, _/_, _^_, _≤_, _<_, min}
 use native.Mathlib.Omega.{arith}
 use borrow.Author.Tests.{le-leb, lt-leb, leb-true, leb-false, ne-eqb}
 use lib.Dec.{eqb, leb}
-use lib.Pow.{pow-pos}
-use lib.Seq.{take-all, take-nil, take-append-le, getD-append-seam}
-use Rattle.cells.specs.Firsts.{holds, addNew, addFirsts, firsts}
-use Rattle.cells.specs.Arrays.{listFrom, listOf}
-use Rattle.cells.specs.Lists.{setsIn, withSet, storedIn}
+use Rattle.cells.specs.Lists.{holds, addNew, addFirsts, firsts, listFrom, listOf, setAt}
+use Rattle.cells.specs.Parts.{withSet}
+use Rattle.cells.specs.ListLaws.{setsIn, length-withSet, setAt-same, setAt-other}
 use Rattle.cells.specs.FirstsLaws.{addFirsts-append, addNew-old, addNew-new}
-use Rattle.cells.specs.ArrayLaws.{getD-snoc, listOf-snoc}
+use Rattle.cells.specs.ArrayLaws.{listOf-ext, listOf-snoc}
 use Rattle.cells.specs.MemberLaws.{flatMap-snoc}
-use Rattle.cells.specs.ListLaws.{length-storedIn, storedIn-none, setsIn-storedIn, storedIn-snoc}
 use Rattle.refusal.specs.declared.Refusal.{Refusal}
 use Rattle.refusal.specs.Refusal.{refused, given, mapAnswer, refusalNumber}
 use Rattle.tile.specs.Path.{isPath, Path}
 use Rattle.tile.specs.StoredLaws.{isPath-good}
-use Rattle.tiles.specs.Paths.{containsSingle}
+use Rattle.tiles.specs.Paths.{containsSingle, pathAt, pathsIn, readTiles, containsAnswer}
 use Rattle.tiles.specs.declared.Tiles.{Tiles}
-use Rattle.tiles.specs.Stored.{pathAt, pathsIn, readTiles, containsAnswer}
 use Rattle.tiles.specs.declared.Contains.{Contains}
 use Rattle.tiles.specs.declared.Contains.the-variants as Contained
 use Rattle.tiles.specs.ReadLaws.{sound-tile}
 use Rattle.rectangle.specs.Board.{valid, marks, Board}
 use Rattle.rectangle.specs.BoardLaws.{valid-width, valid-size}
-use Rattle.fit.specs.Fit.{fitIn, fitAt, fitsOf}
+use Rattle.fit.specs.Parts.{fitIn}
+use Rattle.fit.specs.Fit.{fitAt, fitsOf}
 use Rattle.fit.specs.FitForLaws.{fitIn-is-fitFor, fitFor-fit}
-use Rattle.choice.specs.Choice.{chosenAnswer, chosenFor, chosenCount, chosen, countOf}
+use Rattle.choice.specs.Choice.{chosenAnswer, chosenCount, chosen, countOf}
+use Rattle.choice.specs.Parts.{chosenFor}
 use Rattle.choice.specs.declared.ChosenCell.{ChosenCell}
 use Rattle.choice.specs.ChosenLaws.{chosenFor-is}
 use Rattle.children.specs.Children.{pruned, children}
@@ -45,7 +42,7 @@ use Rattle.children.specs.ChildLaws.{children-chosen, firsts-children}
 
 -- ---- the state
 
-stored-number : (room k n : ℕ) → S.Number n ≡ storedOf room k → (k ≤ room) × (n ≡ k)
+pub stored-number : (room k n : ℕ) → S.Number n ≡ storedOf room k → (k ≤ room) × (n ≡ k)
 unfolding storedOf
 stored-number room k n e = go (leb k room) (leb-true k room) e
   where
@@ -53,7 +50,7 @@ stored-number room k n e = go (leb k room) (leb-true k room) e
     go true f q = (f refl, cc)
     go false f q = let z : _≡_ {A = ℕ} 0 1 = cc in absurd (omega arith)
 
-stored-full : (room k : ℕ) → S.Full ≡ storedOf room k → room < k
+pub stored-full : (room k : ℕ) → S.Full ≡ storedOf room k → room < k
 unfolding storedOf
 stored-full room k e = go (leb k room) (leb-false k room) e
   where
@@ -70,96 +67,86 @@ unfolding storedOf
 stored-past room k h = rw (lt-leb k room h)
 
 -- nothing is stored yet
-pub keeps-none : (ws : List ℕ) → Keeps ws [] ws (S.Number 0)
-keeps-none ws =
-    record {
-      words = storedIn-none ws ∙ ap (λ (l : List ℕ). storedIn l ws) (sym (take-nil (length ws / 4)));
-      state = stored-within (length ws / 4) 0 (omega arith);
-      small = λ i. pow-pos 256;
-    }
-
-small-snoc : (ns : List ℕ) (x : ℕ) → ((i : ℕ) → getD ns i 0 < 2 ^ 256) → x < 2 ^ 256 → (i : ℕ) → getD (ns ++ x ∷ []) i 0 < 2 ^ 256
-small-snoc ns x h hx i = go (ℕ-discrete i (length ns))
-  where
-    go : Dec (i ≡ length ns) → getD (ns ++ x ∷ []) i 0 < 2 ^ 256
-    go (yes q) = subst (λ (n : ℕ). n < 2 ^ 256) (sym (ap (λ (j : ℕ). getD (ns ++ x ∷ []) j 0) q ∙ getD-append-seam ns x [] 0)) hx
-    go (no q) = subst (λ (n : ℕ). n < 2 ^ 256) (sym (getD-snoc ns x 0 i q)) (h i)
+pub keeps-none : (ws : List ℕ) → Keeps [] ws (S.Number 0)
+unfolding listOf listFrom
+keeps-none ws = record { state = stored-within (length ws / 4) 0 (omega arith); sets = λ h. refl }
 
 -- ---- one child more
 
-module _ (old ns ws : List ℕ) (st : Stored) (k : Keeps old ns ws st) (x : ℕ) (hx : x < 2 ^ 256) where
-  -- room was gone before: the first children stay
-  pub add-full : st ≡ S.Full → Keeps old (addNew eqb ns x) ws S.Full
+module _ (ns ws : List ℕ) (st : Stored) (k : Keeps ns ws st) (x : ℕ) where
+  longer : length (ns ++ x ∷ []) ≡ length ns + 1
+  longer = length-append ns (x ∷ [])
+
+  -- more children than there is room for, whatever the words
+  past : length ws / 4 < length (ns ++ x ∷ []) → Keeps (ns ++ x ∷ []) ws S.Full
+  past h = record { state = stored-past (length ws / 4) (length (ns ++ x ∷ [])) h; sets = λ l. absurd (omega arith) }
+
+  -- room was gone before
+  pub add-full : st ≡ S.Full → Keeps (addNew eqb ns x) ws S.Full
   add-full e = go (holds eqb ns x) refl
     where
-      past : length old / 4 < length ns
-      past = stored-full (length old / 4) (length ns) (sym e ∙ k .state)
-
-      go : (t : Bool) → holds eqb ns x ≡ t → Keeps old (addNew eqb ns x) ws S.Full
-      go true q = rw (addNew-old eqb ns x q) record { words = k .words; state = sym e ∙ k .state; small = k .small }
-      go false q =
-          rw (addNew-new eqb ns x q)
-          record {
-            words = k .words ∙ ap (λ (l : List ℕ). storedIn l old) (sym (take-append-le (length old / 4) ns (x ∷ []) (omega (arith, past))));
-            state = stored-past (length old / 4) (length (ns ++ x ∷ [])) (omega (arith, length-append ns (x ∷ []), past));
-            small = small-snoc ns x (k .small) hx;
-          }
+      go : (t : Bool) → holds eqb ns x ≡ t → Keeps (addNew eqb ns x) ws S.Full
+      go true q = rw (addNew-old eqb ns x q) record { state = sym e ∙ k .state; sets = k .sets }
+      go false q = rw (addNew-new eqb ns x q) (past (omega (arith, longer, stored-full (length ws / 4) (length ns) (sym e ∙ k .state))))
 
   module _ (n : ℕ) (e : st ≡ S.Number n) where
-    fits : (length ns ≤ length old / 4) × (n ≡ length ns)
-    fits = stored-number (length old / 4) (length ns) n (sym e ∙ k .state)
-
-    all-stored : ws ≡ storedIn ns old
-    all-stored = k .words ∙ ap (λ (l : List ℕ). storedIn l old) (take-all (length old / 4) ns (fits .0))
-
-    same-words : length ws ≡ length old
-    same-words = ap length all-stored ∙ length-storedIn ns old
+    fits : (length ns ≤ length ws / 4) × (n ≡ length ns)
+    fits = stored-number (length ws / 4) (length ns) n (sym e ∙ k .state)
 
     read-back : setsIn ws n ≡ ns
-    read-back = ap₂ setsIn all-stored (fits .1) ∙ setsIn-storedIn ns old (omega (arith, fits .0)) (k .small)
+    unfolding setsIn
+    read-back =
+        let all : min n (length ws / 4) ≡ length ns = omega (arith, fits .0, fits .1) in
+        ap (listOf (setAt ws)) all ∙ k .sets (fits .0)
 
     module _ (t : Bool) (f : t ≡ holds eqb (setsIn ws n) x) where
       held : (b : Bool) → t ≡ b → holds eqb ns x ≡ b
       held b q = ap (λ (l : List ℕ). holds eqb l x) (sym read-back) ∙ sym f ∙ q
 
-      pub add-old : t ≡ true → Keeps old (addNew eqb ns x) ws (S.Number n)
-      add-old q = rw (addNew-old eqb ns x (held true q)) record { words = k .words; state = sym e ∙ k .state; small = k .small }
+      pub add-old : t ≡ true → Keeps (addNew eqb ns x) ws (S.Number n)
+      add-old q = rw (addNew-old eqb ns x (held true q)) record { state = sym e ∙ k .state; sets = k .sets }
 
       -- there is no room for it
-      pub add-over : t ≡ false → length ws / 4 ≤ n → Keeps old (addNew eqb ns x) ws S.Full
-      add-over q h =
-          rw (addNew-new eqb ns x (held false q))
-          record {
-            words = k .words ∙ ap (λ (l : List ℕ). storedIn l old) (sym (take-append-le (length old / 4) ns (x ∷ []) (omega (arith, fits .1, same-words))));
-            state = stored-past (length old / 4) (length (ns ++ x ∷ [])) (omega (arith, length-append ns (x ∷ []), fits .1, same-words));
-            small = small-snoc ns x (k .small) hx;
-          }
+      pub add-over : t ≡ false → length ws / 4 ≤ n → Keeps (addNew eqb ns x) ws S.Full
+      add-over q h = rw (addNew-new eqb ns x (held false q)) (past (omega (arith, longer, fits .1)))
 
       -- it is stored behind the others
-      pub add-put : t ≡ false → n < length ws / 4 → (vs : List ℕ) → vs ≡ withSet ws n x → Keeps old (addNew eqb ns x) vs (S.Number (n + 1))
-      add-put q h vs g =
-          let long : length (ns ++ x ∷ []) ≡ n + 1 = length-append ns (x ∷ []) ∙ omega (arith, fits .1) in
+      pub add-put : x < 2 ^ 256 → t ≡ false → n < length ws / 4 → (vs : List ℕ) → vs ≡ withSet ws n x → Keeps (addNew eqb ns x) vs (S.Number (n + 1))
+      add-put hx q h vs g =
           rw (addNew-new eqb ns x (held false q))
           record {
-            words =
-                g
-                ∙ ap₂ (λ (l : List ℕ) (i : ℕ). withSet l i x) all-stored (fits .1)
-                ∙ storedIn-snoc ns old x (omega (arith, fits .1, same-words))
-                ∙ ap (λ (l : List ℕ). storedIn l old) (sym (take-all (length old / 4) (ns ++ x ∷ []) (omega (arith, long, same-words))));
-            state = ap S.Number (sym long) ∙ stored-within (length old / 4) (length (ns ++ x ∷ [])) (omega (arith, long, same-words));
-            small = small-snoc ns x (k .small) hx;
+            state = ap S.Number more ∙ stored-within (length vs / 4) (length (ns ++ x ∷ [])) (omega (arith, more, same));
+            sets = λ l. stored;
           }
+        where
+          more : n + 1 ≡ length (ns ++ x ∷ [])
+          more = omega (arith, longer, fits .1)
+
+          same : length vs ≡ length ws
+          same = ap length g ∙ length-withSet ws n x
+
+          before : (j : ℕ) → j < length ns → setAt vs j ≡ setAt ws j
+          before j l = ap (λ (us : List ℕ). setAt us j) g ∙ setAt-other ws n x j (λ z. omega (arith, fits .1))
+
+          last : setAt vs (length ns) ≡ x
+          last = ap (setAt vs) (sym (fits .1)) ∙ ap (λ (us : List ℕ). setAt us n) g ∙ setAt-same ws n x h hx
+
+          stored : listOf (setAt vs) (length (ns ++ x ∷ [])) ≡ ns ++ x ∷ []
+          stored =
+              ap (listOf (setAt vs)) longer
+              ∙ listOf-snoc (setAt vs) (length ns)
+              ∙ ap₂ (λ (l : List ℕ) (y : ℕ). l ++ y ∷ []) (listOf-ext (setAt vs) (setAt ws) (length ns) before ∙ k .sets (fits .0)) last
 
 -- ---- a fit's child
 
-module _ (b : Board) (old ns ws : List ℕ) where
+module _ (b : Board) (ns ws : List ℕ) where
   -- no piece, no child
-  pub fit-none : (st : Stored) (ps : List ℕ) → [] ≡ ps → Keeps old ns ws st → Keeps old (addFirsts eqb ns (map (childOf b) ps)) ws st
+  pub fit-none : (st : Stored) (ps : List ℕ) → [] ≡ ps → Keeps ns ws st → Keeps (addFirsts eqb ns (map (childOf b) ps)) ws st
   unfolding addFirsts
   fit-none st ps e k = rw (← e) k
 
   -- one piece, one child
-  pub fit-one : (st : Stored) (ps : List ℕ) (n x : ℕ) → n ∷ [] ≡ ps → x ≡ childOf b n → Keeps old (addNew eqb ns x) ws st → Keeps old (addFirsts eqb ns (map (childOf b) ps)) ws st
+  pub fit-one : (st : Stored) (ps : List ℕ) (n x : ℕ) → n ∷ [] ≡ ps → x ≡ childOf b n → Keeps (addNew eqb ns x) ws st → Keeps (addFirsts eqb ns (map (childOf b) ps)) ws st
   unfolding addFirsts
   fit-one st ps n x e f k = rw (← e, ← f) k
 
@@ -192,38 +179,38 @@ unfoldable pub tileChildren : Board → ℕ → List ℕ → List ℕ → ℕ �
 unfolding childrenOfFirst fitsOf
 tileChildren b cell lens codes n = childrenOfFirst b (fitsOf b cell) (pathAt lens codes) n
 
-module _ (b : Board) (cell : ℕ) (path : Path) (old ns ws : List ℕ) (st : Stored) where
-  pub points-none : Keeps old ns ws st → Keeps old (addFirsts eqb ns (pointChildren b cell path 0)) ws st
+module _ (b : Board) (cell : ℕ) (path : Path) (ns ws : List ℕ) (st : Stored) where
+  pub points-none : Keeps ns ws st → Keeps (addFirsts eqb ns (pointChildren b cell path 0)) ws st
   unfolding pointChildren
-  points-none k = subst (λ (l : List ℕ). Keeps old l ws st) (sym (childrenOfFirst-none b (λ j. fitAt b path j cell) (λ j. j) ns)) k
+  points-none k = subst (λ (l : List ℕ). Keeps l ws st) (sym (childrenOfFirst-none b (λ j. fitAt b path j cell) (λ j. j) ns)) k
 
-  pub points-more : (n : ℕ) → Keeps old (addFirsts eqb (addFirsts eqb ns (pointChildren b cell path n)) (map (childOf b) (fitAt b path n cell))) ws st → Keeps old (addFirsts eqb ns (pointChildren b cell path (n + 1))) ws st
+  pub points-more : (n : ℕ) → Keeps (addFirsts eqb (addFirsts eqb ns (pointChildren b cell path n)) (map (childOf b) (fitAt b path n cell))) ws st → Keeps (addFirsts eqb ns (pointChildren b cell path (n + 1))) ws st
   unfolding pointChildren
-  points-more n k = subst (λ (l : List ℕ). Keeps old l ws st) (childrenOfFirst-more b (λ j. fitAt b path j cell) (λ j. j) ns n) k
+  points-more n k = subst (λ (l : List ℕ). Keeps l ws st) (childrenOfFirst-more b (λ j. fitAt b path j cell) (λ j. j) ns n) k
 
-  pub points-all : (n : ℕ) → n ≤ length path + 1 → length path < n → Keeps old (addFirsts eqb ns (pointChildren b cell path n)) ws st → Keeps old (addFirsts eqb ns (map (childOf b) (fitsOf b cell path))) ws st
+  pub points-all : (n : ℕ) → n ≤ length path + 1 → length path < n → Keeps (addFirsts eqb ns (pointChildren b cell path n)) ws st → Keeps (addFirsts eqb ns (map (childOf b) (fitsOf b cell path))) ws st
   unfolding pointChildren childrenOfFirst fitsOf
   points-all n h i k =
       let e : n ≡ length path + 1 = omega arith in
-      subst (λ (m : ℕ). Keeps old (addFirsts eqb ns (map (childOf b) (flatMap (λ j. fitAt b path j cell) (listOf (λ j. j) m)))) ws st) e k
+      subst (λ (m : ℕ). Keeps (addFirsts eqb ns (map (childOf b) (flatMap (λ j. fitAt b path j cell) (listOf (λ j. j) m)))) ws st) e k
 
-module _ (b : Board) (cell : ℕ) (lens codes old ws : List ℕ) (st : Stored) where
-  pub tiles-none : Keeps old [] ws st → Keeps old (addFirsts eqb [] (tileChildren b cell lens codes 0)) ws st
+module _ (b : Board) (cell : ℕ) (lens codes ws : List ℕ) (st : Stored) where
+  pub tiles-none : Keeps [] ws st → Keeps (addFirsts eqb [] (tileChildren b cell lens codes 0)) ws st
   unfolding tileChildren
-  tiles-none k = subst (λ (l : List ℕ). Keeps old l ws st) (sym (childrenOfFirst-none b (fitsOf b cell) (pathAt lens codes) [])) k
+  tiles-none k = subst (λ (l : List ℕ). Keeps l ws st) (sym (childrenOfFirst-none b (fitsOf b cell) (pathAt lens codes) [])) k
 
-  pub tiles-more : (n : ℕ) (path : Path) → path ≡ pathAt lens codes n → Keeps old (addFirsts eqb (addFirsts eqb [] (tileChildren b cell lens codes n)) (map (childOf b) (fitsOf b cell path))) ws st → Keeps old (addFirsts eqb [] (tileChildren b cell lens codes (n + 1))) ws st
+  pub tiles-more : (n : ℕ) (path : Path) → path ≡ pathAt lens codes n → Keeps (addFirsts eqb (addFirsts eqb [] (tileChildren b cell lens codes n)) (map (childOf b) (fitsOf b cell path))) ws st → Keeps (addFirsts eqb [] (tileChildren b cell lens codes (n + 1))) ws st
   unfolding tileChildren
   tiles-more n path e k =
-      subst (λ (l : List ℕ). Keeps old l ws st)
+      subst (λ (l : List ℕ). Keeps l ws st)
       (ap (λ (p : Path). addFirsts eqb (addFirsts eqb [] (childrenOfFirst b (fitsOf b cell) (pathAt lens codes) n)) (map (childOf b) (fitsOf b cell p))) e ∙ childrenOfFirst-more b (fitsOf b cell) (pathAt lens codes) [] n)
       k
 
-  pub tiles-all : (n count : ℕ) → n ≤ count → count ≤ n → Keeps old (addFirsts eqb [] (tileChildren b cell lens codes n)) ws st → Keeps old (addFirsts eqb [] (map (childOf b) (fitsOfAll b cell (listOf (pathAt lens codes) count)))) ws st
+  pub tiles-all : (n count : ℕ) → n ≤ count → count ≤ n → Keeps (addFirsts eqb [] (tileChildren b cell lens codes n)) ws st → Keeps (addFirsts eqb [] (map (childOf b) (fitsOfAll b cell (listOf (pathAt lens codes) count)))) ws st
   unfolding tileChildren childrenOfFirst fitsOfAll
   tiles-all n count h i k =
       let e : n ≡ count = omega arith in
-      subst (λ (m : ℕ). Keeps old (addFirsts eqb [] (map (childOf b) (flatMap (fitsOf b cell) (listOf (pathAt lens codes) m)))) ws st) e k
+      subst (λ (m : ℕ). Keeps (addFirsts eqb [] (map (childOf b) (flatMap (fitsOf b cell) (listOf (pathAt lens codes) m)))) ws st) e k
 
 -- the part of the codes that is lent is the tile's path
 pub part-path : (lens codes : List ℕ) (i : ℕ) → take (32 * i + getD lens i 0 - 32 * i) (drop (32 * i) codes) ≡ pathAt lens codes i
@@ -273,12 +260,12 @@ pub found-pruned : (b : Board) → valid b ≡ true → (cell n : ℕ) → chose
 found-pruned b ok cell n e k paths t f =
     pruned-chosen b (valid-width b ok) paths cell e ∙ ap (λ (i : ℕ). eqb i 4 && not (containsSingle paths)) (sym k) ∙ sym f
 
-module _ (b : Board) (paths : List Path) (old : List ℕ) where
-  pub kept-none : children b paths ≡ [] → Keeps old (children b paths) old (S.Number 0)
-  kept-none e = subst (λ (l : List ℕ). Keeps old l old (S.Number 0)) (sym e) (keeps-none old)
+module _ (b : Board) (paths : List Path) (ws : List ℕ) where
+  pub kept-none : children b paths ≡ [] → Keeps (children b paths) ws (S.Number 0)
+  kept-none e = subst (λ (l : List ℕ). Keeps l ws (S.Number 0)) (sym e) (keeps-none ws)
 
   -- children are compared instead of pieces
-  pub kept-all : (cell : ℕ) → chosen b ≡ some cell → pruned b paths ≡ false → (new : List ℕ) (st : Stored) → Keeps old (addFirsts eqb [] (map (childOf b) (fitsOfAll b cell paths))) new st → Keeps old (children b paths) new st
+  pub kept-all : (cell : ℕ) → chosen b ≡ some cell → pruned b paths ≡ false → (st : Stored) → Keeps (addFirsts eqb [] (map (childOf b) (fitsOfAll b cell paths))) ws st → Keeps (children b paths) ws st
   unfolding firsts fitsOfAll
-  kept-all cell e f new st k =
-      subst (λ (l : List ℕ). Keeps old l new st) (firsts-children b paths cell ∙ sym (children-chosen b paths f cell e)) k
+  kept-all cell e f st k =
+      subst (λ (l : List ℕ). Keeps l ws st) (firsts-children b paths cell ∙ sym (children-chosen b paths f cell e)) k

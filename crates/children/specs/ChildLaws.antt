@@ -11,13 +11,14 @@ use borrow.Author.Tests.{eqb-true, eq-eqb}
 use lib.Dec.{eqb}
 use lib.ListN.{length, length-map}
 use Rattle.cells.specs.Set.{hasCell, size}
-use Rattle.cells.specs.Firsts.{Once, firsts}
-use Rattle.cells.specs.FirstsLaws.{so-eq, firsts-map}
+use Rattle.cells.specs.FirstsLaws.{Once, so-eq, firsts-map}
+use Rattle.cells.specs.Lists.{firsts}
 use Rattle.cells.specs.MemberLaws.{map-ext, once-map}
 use Rattle.tile.specs.Path.{Path, cellCount}
 use Rattle.rectangle.specs.Board.{Board, marks, isFull, valid, lay}
 use Rattle.rectangle.specs.BoardLaws.{marks-lt, valid-width, valid-height}
-use Rattle.fit.specs.Fit.{IsPiece, fitsOf, pieces, mostChildren}
+use Rattle.fit.specs.Fit.{IsPiece, fitsOf, pieces}
+use Rattle.fit.specs.Parts.{mostChildren}
 use Rattle.fit.specs.PieceLaws.{fits-are-pieces, pieces-are-pieces, mem-pieces, once-pieces, length-pieces}
 use Rattle.fit.specs.LayLaws.{marks-lay, size-child}
 use Rattle.choice.specs.Choice.{chosen}

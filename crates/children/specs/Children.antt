@@ -1,19 +1,17 @@
--- Definitions: the children of a board. Pruning, children in order, and what `place_tile` and `write_children` answer and leave in the lent words.
+-- Definitions: the children of a board. Pruning, children in order, and what `place_tile` answers and leaves in the lent words.
 -- What stands in quotation marks is 01's, from its section Children. Assumes nothing.
-use mathlib.Core.Path.{_≡_}
 use mathlib.Core.Bool.{Bool, not, cond, _&&_}
 use mathlib.Core.List.{List, [], map}
 use mathlib.Core.Option.{Option, none, some}
 use Prim.Native.Nat.{ℕ, _/_}
 use lib.Dec.{leb}
-use lib.ListN.{length, take}
-use Rattle.cells.specs.Lists.{wordsFor, storedIn}
-use Rattle.refusal.specs.Refusal.{Answer, refused, given, mapAnswer, bindAnswer, refusalNumber, valueOr}
+use lib.ListN.{length}
+use Rattle.cells.specs.Lists.{wordsFor}
+use Rattle.refusal.specs.Refusal.{Answer, refused, given, mapAnswer, bindAnswer, refusalNumber, Leaves}
 use Rattle.tiles.specs.declared.Tiles.{Tiles}
 use Rattle.tile.specs.Path.{Path}
-use Rattle.tiles.specs.Paths.{containsSingle}
-use Rattle.tiles.specs.Stored.{readTiles}
-use Rattle.rectangle.specs.Board.{Board, boardAt, marks, lay, acceptBoard}
+use Rattle.tiles.specs.Paths.{containsSingle, readTiles}
+use Rattle.rectangle.specs.Board.{Board, boardAt, marks, lay, isFull, freeCount, acceptBoard}
 use Rattle.fit.specs.Fit.{pieces}
 use Rattle.choice.specs.Choice.{chosen, hasFour}
 use Rattle.board.specs.declared.RectangularBoard.{RectangularBoard}
@@ -34,15 +32,24 @@ unfolding pieces lay marks
 childrenOn b paths none = []
 childrenOn b paths (some cell) = map (λ piece. marks (lay b piece)) (pieces b paths cell)
 
+-- the children of a board, in order
 unfoldable pub children : Board → List Path → List ℕ
 unfolding pruned childrenOn chosen
 children b paths = cond (pruned b paths) [] (childrenOn b paths (chosen b))
 
--- the children of the board with some marks, of a start and some tiles
+-- of the board with some marks, of a start: its children with some tiles
 abbrev pub childrenAt : Board → List Path → ℕ → List ℕ
 childrenAt b paths n = children (boardAt b n) paths
 
--- ---- `place_tile` and `write_children`
+-- whether it is full
+abbrev pub fullAt : Board → ℕ → Bool
+fullAt b n = isFull (boardAt b n)
+
+-- how many of its cells are free
+abbrev pub freeCountAt : Board → ℕ → ℕ
+freeCountAt b n = freeCount (boardAt b n)
+
+-- ---- `place_tile`
 
 -- refusal 4 of the board, then 6 and 5 of the tiles
 unfoldable pub childrenOf : Board → Tiles → Answer (List ℕ)
@@ -54,17 +61,11 @@ unfoldable pub placeTile : Board → Tiles → ℕ → Answer (List ℕ)
 unfolding childrenOf bindAnswer
 placeTile b ts n = bindAnswer (childrenOf b ts) (λ ns. cond (leb (length ns) (n / 4)) (given ns) (refused 8))
 
+-- what `place_tile` answers: the number of children, or a refusal
 abbrev pub childrenAnswer : Children → Answer ℕ
 childrenAnswer (C.Number n) = given n
 childrenAnswer (C.Refused r) = refused (refusalNumber r)
 
 -- `place_tile`: the number of children; and the words hold the children, zeros behind, or zeros after a refusal
-pub record PlacesTiles (b : RectangularBoard) (ts : Tiles) (old new : List ℕ) (r : Children) : Type 0 where
-  pub answer : childrenAnswer r ≡ mapAnswer length (placeTile (boardOf b) ts (length old))
-  pub words : new ≡ wordsFor (valueOr [] (placeTile (boardOf b) ts (length old))) (length old)
-
--- `write_children`: the same answer; the children that there is room for stand in front of the words, none after refusal 4, 6 or 5, and behind them
--- is what stood there
-pub record WritesChildren (b : RectangularBoard) (ts : Tiles) (old new : List ℕ) (r : Children) : Type 0 where
-  pub answer : childrenAnswer r ≡ mapAnswer length (placeTile (boardOf b) ts (length old))
-  pub words : new ≡ storedIn (take (length old / 4) (valueOr [] (childrenOf (boardOf b) ts))) old
+abbrev pub PlacesTiles : RectangularBoard → Tiles → List ℕ → List ℕ → Children → Type 0
+PlacesTiles b ts old new r = Leaves wordsFor (placeTile (boardOf b) ts (length old)) (childrenAnswer r) old new

@@ -3,15 +3,19 @@ use mathlib.Core.Path.{_≡_, refl}
 use mathlib.Core.Bool.{true, false}
 use mathlib.Core.List.{List, [], _∷_}
 use Prim.Native.Nat.{ℕ, _+_, _-_, _*_, _^_}
+use Rattle.cells.specs.declared.Cells.{Cells}
+use Rattle.cells.specs.Set.{number}
 use Rattle.cells.specs.Lists.{wordsFor}
-use Rattle.refusal.specs.Refusal.{refused, given}
-use Rattle.direction.specs.Direction.{rotate, reflect}
+use Rattle.board.specs.Board.{ofMarks}
+use Rattle.refusal.specs.Refusal.{refused, given, mapAnswer, valueOr}
+use Rattle.refusal.specs.declared.Refusal.the-variants as R
+use Rattle.direction.specs.Direction.{step, rotate, reflect}
 use Rattle.tiles.specs.declared.Tiles.{Tiles}
 use Rattle.tile.specs.Path.{Path}
-use Rattle.tiles.specs.Paths.{orbit}
-use Rattle.tiles.specs.Stored.{tilesOf}
+use Rattle.tiles.specs.Paths.{orbit, tilesOf}
 use Rattle.rectangle.specs.Board.{Board}
-use Rattle.children.specs.Children.{pruned, children, placeTile}
+use Rattle.children.specs.Children.{pruned, children, placeTile, PlacesTiles}
+use Rattle.children.specs.declared.Children.the-variants as C
 
 -- boards of a width and a height with fixed and laid marks
 abbrev board : ℕ → ℕ → ℕ → ℕ → Board
@@ -79,3 +83,18 @@ refusals = refl
 output : wordsFor (3 ∷ 65537 ∷ []) 10 ≡ 3 ∷ 0 ∷ 0 ∷ 0 ∷ 65537 ∷ 0 ∷ 0 ∷ 0 ∷ 0 ∷ 0 ∷ []
 unfolding wordsFor
 output = refl
+
+-- what `place_tile` leaves in words that held 7: one child of 2 by 1, zeros behind; after refusal 8 zeros
+right : Tiles
+right = tilesOf ((3 ∷ []) ∷ [])
+
+no-cells : Cells
+no-cells = record { w0 = 0; w1 = 0; w2 = 0; w3 = 0 }
+
+left : PlacesTiles (ofMarks 2 1 no-cells no-cells) right (7 ∷ 7 ∷ 7 ∷ 7 ∷ 7 ∷ []) (3 ∷ 0 ∷ 0 ∷ 0 ∷ 0 ∷ []) (C.Number 1)
+unfolding placeTile wordsFor mapAnswer valueOr number right tilesOf no-cells step
+left = record { answer = refl; words = refl }
+
+left-refused : PlacesTiles (ofMarks 2 1 no-cells no-cells) right (7 ∷ 7 ∷ 7 ∷ []) (0 ∷ 0 ∷ 0 ∷ []) (C.Refused R.NoRoom)
+unfolding placeTile wordsFor mapAnswer valueOr number right tilesOf no-cells step
+left-refused = record { answer = refl; words = refl }

@@ -2,16 +2,13 @@
 use mathlib.Core.Path.{_≡_}
 use mathlib.Core.Bool.{cond}
 use mathlib.Core.List.{List, flatMap}
-use Prim.Native.Nat.{ℕ, _/_, _^_, _<_}
+use Prim.Native.Nat.{ℕ, _/_, _≤_}
 use lib.Dec.{eqb, leb}
-use lib.ListN.{length, getD, take}
-use Rattle.cells.specs.Lists.{storedIn}
-use Rattle.refusal.specs.declared.Refusal.the-variants as R
+use lib.ListN.{length}
+use Rattle.cells.specs.Lists.{listOf, setAt}
 use Rattle.tile.specs.Path.{Path}
 use Rattle.rectangle.specs.Board.{Board, marks, lay}
 use Rattle.fit.specs.Fit.{fitsOf}
-use Rattle.children.specs.declared.Children.{Children}
-use Rattle.children.specs.declared.Children.the-variants as C
 use Rattle.children.specs.declared.placing.Stored.{Stored}
 use Rattle.children.specs.declared.placing.Stored.the-variants as S
 
@@ -34,12 +31,7 @@ fitsOfAll b cell paths = flatMap (fitsOf b cell) paths
 unfoldable pub storedOf : ℕ → ℕ → Stored
 storedOf room n = cond (leb n room) (S.Number n) S.Full
 
-abbrev pub storedAnswer : Stored → Children
-storedAnswer (S.Number n) = C.Number n
-storedAnswer S.Full = C.Refused R.NoRoom
-
--- the words new and the state are those after the children ns were stored in the words old
-pub record Keeps (old ns new : List ℕ) (st : Stored) : Type 0 where
-  pub words : new ≡ storedIn (take (length old / 4) ns) old
-  pub state : st ≡ storedOf (length old / 4) (length ns)
-  pub small : (i : ℕ) → getD ns i 0 < 2 ^ 256
+-- the words and the state of children that have become ns: all of them while they have room
+pub record Keeps (ns ws : List ℕ) (st : Stored) : Type 0 where
+  pub state : st ≡ storedOf (length ws / 4) (length ns)
+  pub sets : length ns ≤ length ws / 4 → listOf (setAt ws) (length ns) ≡ ns

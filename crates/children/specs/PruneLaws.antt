@@ -9,8 +9,7 @@ use mathlib.Core.Option.{some}
 use lib.Dec.{eqb}
 use Rattle.cells.specs.Set.{hasCell}
 use Rattle.cells.specs.FirstsLaws.{any-true}
-use Rattle.direction.specs.Position.{Position, shift}
-use Rattle.direction.specs.Direction.{step}
+use Rattle.direction.specs.Direction.{Position, shift, step}
 use Rattle.direction.specs.PositionLaws.{shift-shift}
 use Rattle.tile.specs.Path.{Path, codesOk, cells, cellCount, isSingle, EdgeJoined}
 use Rattle.tiles.specs.Paths.{containsSingle}

@@ -1,5 +1,5 @@
 // The children of a board, from the Rust's board.rs. Nothing is asked of a caller: board and tiles are
-// tested and refused. What each call answers and leaves in the lent words is a definition of
+// tested and refused. What the call answers and leaves in the lent words is a definition of
 // specs/Children.antt.
 use board::RectangularBoard;
 use cells::list;
@@ -10,8 +10,8 @@ use tiles::Tiles;
 ghost use mathlib.Core.Path.{_≡_};
 ghost use Rattle.refusal.specs.Refusal.{refusalOf, verdictNumber};
 ghost use Rattle.board.specs.Board.{boardOf};
-ghost use Rattle.children.specs.Children.{childrenOf, PlacesTiles, WritesChildren};
-ghost use Rattle.children.specs.Inner.{earlierOf, storedAnswer};
+ghost use Rattle.children.specs.Children.{childrenOf, PlacesTiles};
+ghost use Rattle.children.specs.Inner.{earlierOf};
 
 mod placing;
 
@@ -26,29 +26,25 @@ pub enum Children {
 pub fn place_tile(board: RectangularBoard, tiles: Tiles, out: &mut [u64]) -> Children
     ensures { λ r. ⌜ PlacesTiles board tiles (now (out .entry)) (now (out .exit)) r ⌝ }
 {
-    let answer = write_children(board, tiles, out);
-    match answer {
-        Children::Number(n) => {
-            list::clear_from(out, 4 * n);
-            Children::Number(n)
+    let verdict = judged(board, tiles);
+    match verdict {
+        Verdict::Accepted => {
+            let stored = placing::add_children(out, board, tiles);
+            match stored {
+                Stored::Number(n) => {
+                    list::clear_from(out, 4 * n);
+                    Children::Number(n)
+                }
+                Stored::Full => {
+                    list::clear_from(out, 0);
+                    Children::Refused(Refusal::NoRoom)
+                }
+            }
         }
-        Children::Refused(refusal) => {
+        Verdict::Refused(refusal) => {
             list::clear_from(out, 0);
             Children::Refused(refusal)
         }
-    }
-}
-
-// The same answer, for a caller's own buffer, which is not cleared: the children that there is room for
-// stand in front, also after refusal 8, and the words behind them are as they were. Refusals 4, 6 and 5
-// change no word.
-pub fn write_children(board: RectangularBoard, tiles: Tiles, out: &mut [u64]) -> Children
-    ensures { λ r. ⌜ WritesChildren board tiles (now (out .entry)) (now (out .exit)) r ⌝ }
-{
-    let verdict = judged(board, tiles);
-    match verdict {
-        Verdict::Accepted => answered(placing::add_children(out, board, tiles)),
-        Verdict::Refused(refusal) => Children::Refused(refusal),
     }
 }
 
@@ -68,15 +64,5 @@ fn earlier(first: Verdict, second: Verdict) -> Verdict
     match first {
         Verdict::Accepted => second,
         Verdict::Refused(refusal) => Verdict::Refused(refusal),
-    }
-}
-
-// The answer for the children that are stored.
-fn answered(stored: Stored) -> Children
-    ensures { λ r. ⌜ r ≡ storedAnswer stored ⌝ }
-{
-    match stored {
-        Stored::Number(n) => Children::Number(n),
-        Stored::Full => Children::Refused(Refusal::NoRoom),
     }
 }

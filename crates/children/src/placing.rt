@@ -14,12 +14,11 @@ ghost use mathlib.Core.List.{List, [], map};
 ghost use Prim.Native.Nat.{ℕ, _≤_};
 ghost use lib.Dec.{eqb};
 ghost use lib.ListN.{length};
-ghost use Rattle.cells.specs.Firsts.{addNew, addFirsts};
-ghost use Rattle.cells.specs.Words.{number};
+ghost use Rattle.cells.specs.Lists.{addNew, addFirsts};
+ghost use Rattle.cells.specs.Set.{number};
 ghost use Rattle.refusal.specs.Refusal.{given};
 ghost use Rattle.tile.specs.Path.{isPath};
-ghost use Rattle.tiles.specs.Paths.{containsSingle};
-ghost use Rattle.tiles.specs.Stored.{pathsIn, readTiles};
+ghost use Rattle.tiles.specs.Paths.{containsSingle, pathsIn, readTiles};
 ghost use Rattle.rectangle.specs.Board.{marks, valid};
 ghost use Rattle.fit.specs.Fit.{fitAt, fitsOf};
 ghost use Rattle.board.specs.Board.{boardOf};
@@ -34,7 +33,7 @@ pub enum Stored {
 
 // One child more, unless it is stored already.
 fn add_child(out: &mut [u64], stored: Stored, child: Cells) -> Stored
-    ensures { λ r. ⌜ ((old ns : List ℕ) → Keeps old ns (now (out .entry)) stored → Keeps old (addNew eqb ns (number child)) (now (out .exit)) r) ⌝ }
+    ensures { λ r. ⌜ ((ns : List ℕ) → Keeps ns (now (out .entry)) stored → Keeps (addNew eqb ns (number child)) (now (out .exit)) r) ⌝ }
 {
     let Stored::Number(n) = stored else {
         return Stored::Full;
@@ -61,7 +60,7 @@ fn add_fit(
     cell: usize,
 ) -> Stored
     requires { ⌜ (valid (boardOf board) ≡ true) × (number marked ≡ marks (boardOf board)) × So (isPath (now path)) × (point ≤ length (now path)) ⌝ }
-    ensures { λ r. ⌜ ((old ns : List ℕ) → Keeps old ns (now (out .entry)) stored → Keeps old (addFirsts eqb ns (map (childOf (boardOf board)) (fitAt (boardOf board) (now (path .entry)) point cell))) (now (out .exit)) r) ⌝ }
+    ensures { λ r. ⌜ ((ns : List ℕ) → Keeps ns (now (out .entry)) stored → Keeps (addFirsts eqb ns (map (childOf (boardOf board)) (fitAt (boardOf board) (now (path .entry)) point cell))) (now (out .exit)) r) ⌝ }
 {
     let fit = fit::tile_fits_at_position(marked, board.width, board.height, path, point, cell);
     let Fit::Piece(w0, w1, w2, w3) = fit else {
@@ -81,7 +80,7 @@ fn add_fits(
     cell: usize,
 ) -> Stored
     requires { ⌜ (valid (boardOf board) ≡ true) × (number marked ≡ marks (boardOf board)) × So (isPath (now path)) ⌝ }
-    ensures { λ r. ⌜ ((old ns : List ℕ) → Keeps old ns (now (out .entry)) stored → Keeps old (addFirsts eqb ns (map (childOf (boardOf board)) (fitsOf (boardOf board) cell (now (path .entry))))) (now (out .exit)) r) ⌝ }
+    ensures { λ r. ⌜ ((ns : List ℕ) → Keeps ns (now (out .entry)) stored → Keeps (addFirsts eqb ns (map (childOf (boardOf board)) (fitsOf (boardOf board) cell (now (path .entry))))) (now (out .exit)) r) ⌝ }
 {
     let mut state = stored;
     let mut point = 0;
@@ -101,7 +100,7 @@ fn add_tiles(
     cell: usize,
 ) -> Stored
     requires { ⌜ (valid (boardOf board) ≡ true) × (number marked ≡ marks (boardOf board)) × (readTiles tiles ≡ given (pathsIn tiles)) × (tiles .count ≤ 64) ⌝ }
-    ensures { λ r. ⌜ Keeps (now (out .entry)) (addFirsts eqb [] (map (childOf (boardOf board)) (fitsOfAll (boardOf board) cell (pathsIn tiles)))) (now (out .exit)) r ⌝ }
+    ensures { λ r. ⌜ Keeps (addFirsts eqb [] (map (childOf (boardOf board)) (fitsOfAll (boardOf board) cell (pathsIn tiles)))) (now (out .exit)) r ⌝ }
 {
     let count = tiles.count;
     let lens = tiles.lens;
@@ -135,7 +134,7 @@ fn is_pruned(count: u8, tiles: Tiles) -> bool
 // The children of a board.
 pub fn add_children(out: &mut [u64], board: RectangularBoard, tiles: Tiles) -> Stored
     requires { ⌜ (valid (boardOf board) ≡ true) × (readTiles tiles ≡ given (pathsIn tiles)) × (tiles .count ≤ 64) ⌝ }
-    ensures { λ r. ⌜ Keeps (now (out .entry)) (children (boardOf board) (pathsIn tiles)) (now (out .exit)) r ⌝ }
+    ensures { λ r. ⌜ Keeps (children (boardOf board) (pathsIn tiles)) (now (out .exit)) r ⌝ }
 {
     let marked = board.marks();
     let found = choice::chosen_cell(board.width, board.height, marked, board.laid);

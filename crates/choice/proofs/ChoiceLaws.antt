@@ -10,15 +10,14 @@ use native.Mathlib.Omega.{arith}
 use borrow.Author.Tests.{lt-ltb, le-ltb, eq-eqb, ne-eqb}
 use lib.Dec.{eqb}
 use Rattle.cells.specs.Set.{hasCell}
-use Rattle.cells.specs.Arrays.{listOf}
+use Rattle.cells.specs.Lists.{listOf}
 use Rattle.cells.specs.ArrayLaws.{listOf-snoc}
 use Rattle.refusal.specs.declared.Refusal.{Refusal}
-use Rattle.direction.specs.Position.{shift}
-use Rattle.direction.specs.Direction.{step}
+use Rattle.direction.specs.Direction.{shift, step}
 use Rattle.rectangle.specs.declared.Place.{Place}
 use Rattle.rectangle.specs.declared.Place.the-variants as P
 use Rattle.rectangle.specs.Board.{positionOf, inside}
-use Rattle.rectangle.specs.Place.{placeAnswer, placeIf, placeAfter}
+use Rattle.rectangle.specs.Parts.{placeAnswer, placeIf, placeAfter}
 use Rattle.rectangle.specs.PlaceLaws.{place-false, place-placed, placed-cell, placeAfter-is}
 use Rattle.choice.specs.declared.ChosenCell.{ChosenCell}
 use Rattle.choice.specs.declared.ChosenCell.the-variants as H

@@ -9,14 +9,16 @@ use Prim.Native.Nat.{ℕ, _/_, _%_, _<_}
 use native.Mathlib.Omega.{arith}
 use lib.ListN.{getD}
 use Rattle.cells.specs.Set.{hasCell}
-use Rattle.cells.specs.Arrays.{listOf}
+use Rattle.cells.specs.Lists.{listOf}
 use Rattle.cells.specs.ArrayLaws.{getD-listOf}
 use Rattle.refusal.specs.Refusal.{given}
-use Rattle.rectangle.specs.Board.{sizeOk, freeIn, cellOf, positionOf}
+use Rattle.rectangle.specs.Board.{sizeOk, cellOf, positionOf}
+use Rattle.rectangle.specs.Parts.{freeIn}
 use Rattle.rectangle.specs.BoardLaws.{sizeOk-le, inside-iff, cellOf-positionOf}
 use Rattle.choice.specs.declared.ChosenCell.{ChosenCell}
 use Rattle.choice.specs.Inner.{arrayCount, openIn, foundOf}
-use Rattle.choice.specs.Choice.{neighbourCount, columns, bestOf, chosenIn, cellWithCountBy, chosenFor, chosenAnswer}
+use Rattle.choice.specs.Choice.{neighbourCount, columns, bestOf, cellWithCountBy, chosenAnswer}
+use Rattle.choice.specs.Parts.{chosenIn, chosenFor}
 use Rattle.choice.specs.ChosenLaws.{mem-columns, bestOf-ext, best-among}
 
 module _ (w h : ℕ) (ok : sizeOk w h ≡ true) (m laid : ℕ) (counts : List ℕ) (ec : counts ≡ listOf (neighbourCount w h laid) 256) where

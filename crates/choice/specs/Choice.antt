@@ -1,18 +1,14 @@
 -- Definitions: neighbour counts and the chosen cell. What stands in quotation marks is 01's, from its section Children. Assumes nothing.
-use mathlib.Core.Path.{_≡_}
-use mathlib.Core.Logic.{_⊎_}
-use mathlib.Core.Bool.{Bool, true, So, cond, _&&_, _||_}
+use mathlib.Core.Bool.{Bool, true, cond, _&&_, _||_}
 use mathlib.Core.List.{List, [], _∷_, _++_}
 use mathlib.Core.Option.{Option, none, some}
-use Prim.Native.Nat.{ℕ, zero, suc, _+_, _*_, _/_, _%_, _≤_, _<_}
+use Prim.Native.Nat.{ℕ, zero, suc, _+_, _*_, _/_, _%_}
 use lib.Dec.{eqb, ltb}
 use Rattle.cells.specs.Set.{hasCell}
-use Rattle.cells.specs.Firsts.{any}
-use Rattle.cells.specs.Arrays.{listOf}
+use Rattle.cells.specs.Lists.{any, listOf}
 use Rattle.refusal.specs.Refusal.{Answer, refused, given, refusalNumber}
-use Rattle.direction.specs.Position.{shift}
-use Rattle.direction.specs.Direction.{step}
-use Rattle.rectangle.specs.Board.{Board, cellOf, positionOf, inside, isFree, sizeOk, freeIn}
+use Rattle.direction.specs.Direction.{shift, step}
+use Rattle.rectangle.specs.Board.{Board, cellOf, positionOf, inside, isFree}
 use Rattle.choice.specs.declared.ChosenCell.{ChosenCell}
 use Rattle.choice.specs.declared.ChosenCell.the-variants as H
 
@@ -41,6 +37,7 @@ neighbourCount w h laid cell =
     (one (outer w h (cell / 16) (cell % 16)) + (one (laidBeside w h laid cell 0) + (one (laidBeside w h laid cell 1) + (one (laidBeside w h laid cell 2) + one (laidBeside w h laid cell 3)))))
     0
 
+-- the neighbour count of a cell of a board
 abbrev pub countOf : Board → ℕ → ℕ
 countOf b cell = neighbourCount (b .width) (b .height) (b .laid) cell
 
@@ -68,11 +65,6 @@ unfoldable pub chosen : Board → Option ℕ
 unfolding bestOf isFree neighbourCount columns
 chosen b = bestOf (isFree b) (countOf b) none (columns (b .height) (b .width))
 
--- the same over numbers: of a width, a height, the marks of both kinds together and the laid ones
-unfoldable pub chosenIn : ℕ → ℕ → ℕ → ℕ → Option ℕ
-unfolding bestOf freeIn neighbourCount columns
-chosenIn w h m laid = bestOf (λ cell. freeIn w h m (positionOf cell)) (neighbourCount w h laid) none (columns h w)
-
 -- "any free cell has count 4"
 unfoldable pub hasFour : Board → Bool
 unfolding any isFree neighbourCount columns
@@ -95,24 +87,8 @@ unfoldable pub chosenCount : Board → Option (ℕ × ℕ)
 unfolding cellWithCount chosen
 chosenCount b = cellWithCount b (chosen b)
 
--- the same over numbers, none for a full board; refusal 4 for a size that no board has
-unfoldable pub chosenFor : ℕ → ℕ → ℕ → ℕ → Answer (Option (ℕ × ℕ))
-unfolding sizeOk cellWithCountBy chosenIn neighbourCount
-chosenFor w h m laid = cond (sizeOk w h) (given (cellWithCountBy (neighbourCount w h laid) (chosenIn w h m laid))) (refused 4)
-
+-- what `chosen_cell` answers
 abbrev pub chosenAnswer : ChosenCell → Answer (Option (ℕ × ℕ))
 chosenAnswer (H.Cell cell count) = given (some (cell, count))
 chosenAnswer H.Full = given none
 chosenAnswer (H.Refused r) = refused (refusalNumber r)
-
--- ---- words that the laws use
-
--- "ties go to the lowest column, then the lowest row": a cell comes before another by its column, then by its row
-abbrev pub Earlier : ℕ → ℕ → Type 0
-Earlier c d = (c % 16 < d % 16) ⊎ ((c % 16 ≡ d % 16) × (c / 16 < d / 16))
-
--- "The chosen cell is the free cell with the highest neighbour count; ties go to the lowest column, then the lowest row"
-pub record Best (b : Board) (cell : ℕ) : Type 0 where
-  pub free : So (isFree b cell)
-  pub most : (d : ℕ) → So (isFree b d) → countOf b d ≤ countOf b cell
-  pub first : (d : ℕ) → So (isFree b d) → countOf b d ≡ countOf b cell → Earlier d cell → ⊥

@@ -11,16 +11,28 @@ use native.Mathlib.Omega.{arith}
 use native.Mathlib.Decide.{ℕ-discrete, decLt}
 use borrow.Author.Tests.{ltb-true, ltb-false, eqb-true, eq-eqb}
 use lib.Dec.{eqb, ltb}
-use Rattle.cells.specs.Arrays.{listFrom}
+use Rattle.cells.specs.Lists.{listFrom}
 use Rattle.cells.specs.FirstsLaws.{so-eq, any-true, any-some}
 use Rattle.refusal.specs.Refusal.{Answer, refused, given, refusalNumber}
 use Rattle.refusal.specs.declared.Refusal.{Refusal}
-use Rattle.rectangle.specs.Board.{marks, valid, freeIn, sizeOk, Board, positionOf, isFree, isFull}
+use Rattle.rectangle.specs.Board.{marks, valid, sizeOk, Board, positionOf, isFree, isFull}
+use Rattle.rectangle.specs.Parts.{freeIn}
 use Rattle.rectangle.specs.BoardLaws.{full-none, none-full, valid-width, valid-height, free-inside, freeIn-freeAt, valid-size}
 use Rattle.choice.specs.declared.ChosenCell.{ChosenCell}
 use Rattle.choice.specs.declared.ChosenCell.the-variants as H
-use Rattle.choice.specs.Choice.{chosenCount, cellWithCount, chosenAnswer, countOf, columns, higher, bestOf, chosen, hasFour, Earlier, Best, chosenIn, chosenFor}
+use Rattle.choice.specs.Choice.{chosenCount, cellWithCount, chosenAnswer, countOf, columns, higher, bestOf, chosen, hasFour}
+use Rattle.choice.specs.Parts.{chosenIn, chosenFor}
 use Rattle.choice.specs.CountLaws.{count-le}
+
+-- "ties go to the lowest column, then the lowest row": a cell comes before another by its column, then by its row
+abbrev pub Earlier : ℕ → ℕ → Type 0
+Earlier c d = (c % 16 < d % 16) ⊎ ((c % 16 ≡ d % 16) × (c / 16 < d / 16))
+
+-- "The chosen cell is the free cell with the highest neighbour count; ties go to the lowest column, then the lowest row"
+pub record Best (b : Board) (cell : ℕ) : Type 0 where
+  pub free : So (isFree b cell)
+  pub most : (d : ℕ) → So (isFree b d) → countOf b d ≤ countOf b cell
+  pub first : (d : ℕ) → So (isFree b d) → countOf b d ≡ countOf b cell → Earlier d cell → ⊥
 
 -- ---- the order of cells
 

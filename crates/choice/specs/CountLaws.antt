@@ -8,8 +8,7 @@ use borrow.Author.Tests.{eqb-true, le-ltb}
 use lib.Dec.{eqb, ltb}
 use lib.IntN.{pos}
 use Rattle.cells.specs.Set.{hasCell}
-use Rattle.direction.specs.Position.{Position, at, shift}
-use Rattle.direction.specs.Direction.{step}
+use Rattle.direction.specs.Direction.{Position, at, shift, step}
 use Rattle.rectangle.specs.Board.{cellOf, positionOf, inside}
 use Rattle.choice.specs.Choice.{one, outer, laidBeside, neighbourCount}
 

@@ -5,8 +5,8 @@ ghost use mathlib.Core.Path.{_≡_};
 ghost use mathlib.Core.Bool.{_||_};
 ghost use Prim.Native.Nat.{_+_, _≤_, _<_};
 ghost use lib.Dec.{eqb};
-ghost use Rattle.cells.specs.Words.{number};
-ghost use Rattle.cells.specs.Arrays.{listOf};
+ghost use Rattle.cells.specs.Set.{number};
+ghost use Rattle.cells.specs.Lists.{listOf};
 ghost use Rattle.choice.specs.Choice.{one, outer, laidBeside, neighbourCount};
 
 // 1 for a laid mark one step from a cell, else 0.

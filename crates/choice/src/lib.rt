@@ -1,10 +1,11 @@
 // Neighbour counts and the chosen cell. Nothing is asked of a caller: any numbers and any marks have an
-// answer, which is a definition of specs/Choice.antt.
+// answer, which is a definition of specs/Parts.antt.
 use cells::Cells;
 use refusal::Refusal;
 ghost use mathlib.Core.Path.{_≡_};
-ghost use Rattle.cells.specs.Words.{number};
-ghost use Rattle.choice.specs.Choice.{chosenFor, chosenAnswer};
+ghost use Rattle.cells.specs.Set.{number};
+ghost use Rattle.choice.specs.Parts.{chosenFor};
+ghost use Rattle.choice.specs.Choice.{chosenAnswer};
 
 mod counts;
 mod scan;

@@ -5,8 +5,8 @@ ghost use mathlib.Core.Path.{_≡_};
 ghost use mathlib.Core.List.{[], _∷_};
 ghost use mathlib.Core.Option.{none};
 ghost use Prim.Native.Nat.{_+_, _*_, _≤_, _<_};
-ghost use Rattle.cells.specs.Words.{number};
-ghost use Rattle.cells.specs.Arrays.{listOf};
+ghost use Rattle.cells.specs.Set.{number};
+ghost use Rattle.cells.specs.Lists.{listOf};
 ghost use Rattle.choice.specs.Choice.{columns, bestOf};
 ghost use Rattle.choice.specs.Inner.{arrayCount, openIn, foundOf, Looked};
 

@@ -1,4 +1,4 @@
--- Laws of boards and pieces as sets of cells: the setting of `CellSets` meets the laws of `Cuttings`, from what is asked of its region, tiles,
+-- Laws of boards and pieces as sets of cells: the setting of `CellSets` meets the laws of `Setting`, from what is asked of its region, tiles,
 -- choice and pieces. Rests on `CellSets` and cells' `SetLaws` and `MemberLaws`. Assumes nothing.
 use mathlib.Core.Path.{_≡_, sym, ap, _∙_}
 use mathlib.Core.Logic.{_↔_}
@@ -12,7 +12,7 @@ use Rattle.cells.specs.Set.{bit, hasCell, size}
 use Rattle.cells.specs.BitLaws.{bit-le, zero-bit, bit-ext, bit-add}
 use Rattle.cells.specs.SetLaws.{hasCell-iff, within-iff, within-le, bit-sub, size-add, size-none}
 use Rattle.cells.specs.MemberLaws.{eqb-tells}
-use Rattle.covers.specs.Cuttings.{Laws, EqualSteps}
+use Rattle.covers.specs.Setting.{Laws, EqualSteps}
 use Rattle.covers.specs.CellSets.{Between, cellSetting, CellLaws}
 
 -- ---- one board

@@ -1,13 +1,14 @@
 -- Definitions: boards and pieces as sets of cells, each one number (cells' `Set`), as a setting; and what is asked of its region, tiles, choice and
--- pieces. Rests on `Cuttings`. Assumes nothing.
+-- pieces. Rests on `Setting`. Assumes nothing.
 use mathlib.Core.Path.{_≡_}
 use mathlib.Core.Bool.{So}
 use mathlib.Core.List.{List, List·Memᴰ as Mem}
 use Prim.Native.Nat.{ℕ, _+_, _-_, _^_, _<_}
 use lib.Dec.{eqb}
-use Rattle.cells.specs.Set.{hasCell, size, Within}
-use Rattle.cells.specs.Firsts.{Once}
-use Rattle.covers.specs.Cuttings.{Fits, Setting}
+use Rattle.cells.specs.Set.{hasCell, size}
+use Rattle.cells.specs.BitLaws.{Within}
+use Rattle.cells.specs.FirstsLaws.{Once}
+use Rattle.covers.specs.Setting.{IsFit, Setting}
 
 -- the boards between a start and a region: every mark of the start is there, and every mark is in the region
 pub record Between (start region s : ℕ) : Type 0 where
@@ -36,6 +37,6 @@ pub record CellLaws (region start : ℕ) (IsTile : ℕ → Type 0) (chosen : ℕ
   pub region-lt : region < 2 ^ 256
   pub tile-cell : (p : ℕ) → IsTile p → (c : ℕ) × So (hasCell p c)
   pub chosen-free : (s : ℕ) → Between start region s → (s ≡ region → ⊥) → So (hasCell (region - s) (chosen s))
-  pub piece-fits : (s p : ℕ) → Between start region s → Mem p (pieces s) → Fits hasCell IsTile (hasCell (region - s)) p
+  pub piece-fits : (s p : ℕ) → Between start region s → Mem p (pieces s) → IsFit hasCell IsTile (hasCell (region - s)) p
   pub piece-chosen : (s p : ℕ) → Between start region s → Mem p (pieces s) → So (hasCell p (chosen s))
   pub piece-once : (s : ℕ) → Between start region s → Once (pieces s)

@@ -1,15 +1,15 @@
 -- Laws of child sequences and placing sequences: the step from a board to its child lays the piece `stepPiece`, so the child sequences from a board
--- to the full board correspond to its placing sequences. No pruning condition. Rests on `Cuttings`, `Counts` and `NumberingLaws`. Assumes nothing.
+-- to the full board correspond to its placing sequences. No pruning condition. Rests on `Counts`, `Setting` and `NumberingLaws`. Assumes nothing.
 use mathlib.Core.Path.{_≡_, refl, sym, ap, ap₂, subst, _∙_}
 use mathlib.Core.Bool.{So}
 use mathlib.Core.List.{List, [], _∷_, nil≢cons, cons≢nil, head-eq-of-cons-eq, tail-eq-of-cons-eq, List·Memᴰ as Mem, Memᴰ·cast as cast, Memᴰ·map as mem-map, Memᴰ·of-map as of-map}
 use Prim.Native.Nat.{ℕ, suc, _<_, _≤_, _+_}
 use native.Mathlib.Omega.{arith}
 use lib.ListN.{length}
-use Rattle.cells.specs.Firsts.{Once}
+use Rattle.cells.specs.FirstsLaws.{Once}
 use Rattle.cells.specs.MemberLaws.{once-map}
-use Rattle.covers.specs.Cuttings.{Numbering, Setting, Laws, FitsOn, childBoards, PlacingSequence, EqualSteps}
-use Rattle.covers.specs.Counts.{Steps, ChildSequence, piecesFrom, piecesOf}
+use Rattle.covers.specs.Counts.{Numbering, Steps, ChildSequence, piecesFrom, piecesOf}
+use Rattle.covers.specs.Setting.{Setting, Laws, FitsOn, childBoards, PlacingSequence, EqualSteps}
 use Rattle.covers.specs.NumberingLaws.{carry}
 
 -- a list of boards has one board more than steps

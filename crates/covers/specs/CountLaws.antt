@@ -11,10 +11,10 @@ use Prim.Native.Nat.{ℕ, zero, suc, _+_, _≤_, _<_}
 use native.Mathlib.Nat.{add-zero}
 use native.Mathlib.Omega.{arith}
 use lib.ListN.{length, getD}
-use Rattle.cells.specs.Firsts.{addFirsts, firsts}
+use Rattle.cells.specs.Lists.{addFirsts, firsts}
 use Rattle.cells.specs.FirstsLaws.{mem-getD, so-eq}
-use Rattle.covers.specs.Cuttings.{Numbering, Exactly, Setting, CuttingOf, PlacingSequence, childBoards, Laws, SoundPruning, EqualSteps}
-use Rattle.covers.specs.Counts.{ChildSequence, Entry, boards, sumOf, shares, gather, weight, layer, layers, numberIn, tiling, fullCount, fullFrom, fullNode, atNode, layerOf, entriesOf, nodesOf, pathCountOf, graphEdges, layerCountTo, layerCount, graphCount, piecesOf, tilingOf, cuttingAt}
+use Rattle.covers.specs.Counts.{Numbering, Exactly, ChildSequence, Entry, boards, sumOf, shares, gather, weight, layer, layers, numberIn, nodeListTo, fullCount, fullFrom, fullNode, atNode, piecesOf, layerCount}
+use Rattle.covers.specs.Setting.{Setting, CuttingOf, PlacingSequence, childBoards, Laws, SoundPruning, EqualSteps, layerOf, entriesOf, nodesOf, pathCountOf, graphEdges, layerCountTo, layerCountOf, graphCount, tilingOf, cuttingAt}
 use Rattle.covers.specs.NumberingLaws.{numbering-none}
 use Rattle.covers.specs.SumLaws.{sum-append, sum-ext, sum-zero}
 use Rattle.covers.specs.SequenceLaws.{full-pieces, sequence-length, cuttings-numbered}
@@ -78,11 +78,11 @@ module _ {B P : Type 0} (G : Setting B P) (L : Laws G) (s : B) (ok : G .Ok s) (f
 
   -- a full start counts 0
   full-layers-count : (n : ℕ) → layerCountTo G s n ≡ 0
-  unfolding layerCountTo fullCount sumOf
+  unfolding layerCount fullCount sumOf
   full-layers-count zero = refl
   full-layers-count (suc n) = ap₂ _+_ (full-layers-count n) (ap (fullCount (G .full)) (full-layer n))
 
-  pub full-layerCount : layerCount G s ≡ 0
+  pub full-layerCount : layerCountOf G s ≡ 0
   unfolding layerCount
   full-layerCount = full-layers-count (G .freeCount s)
 
@@ -140,7 +140,7 @@ module _ {B P : Type 0} (G : Setting B P) (L : Laws G) (a : ℕ) (E : EqualSteps
 
     -- the full boards in the layers joined have path counts that add up to the layer count
     sum-layers : (n : ℕ) → fullCount (G .full) (layers (G .sameBoard) (childBoards G) s n) ≡ layerCountTo G s n
-    unfolding layers layer layerCountTo fullCount sumOf
+    unfolding layers layer layerCount fullCount sumOf
     sum-layers zero = rw notFull
     sum-layers (suc n) =
         sum-append (λ e. cond (G .full (e .0)) (e .1) 0) (layers (G .sameBoard) (childBoards G) s n) (layerOf G s (suc n))
@@ -151,7 +151,7 @@ module _ {B P : Type 0} (G : Setting B P) (L : Laws G) (a : ℕ) (E : EqualSteps
     none-count e = sum-zero (λ e. cond (G .full (e .0)) (e .1) 0) (entriesOf G s)
         (λ x k. ap (λ (b : Bool). cond b (x .1) 0) (none-full e (x .0) (mem-boards (entriesOf G s) x k)))
 
-    counts-agree-free : layerCount G s ≡ graphCount G s
+    counts-agree-free : layerCountOf G s ≡ graphCount G s
     unfolding layerCount graphCount
     counts-agree-free = sym (sum-layers (G .freeCount s)) ∙ go (fullNode (G .full) (nodesOf G s)) refl
       where
@@ -182,7 +182,7 @@ module _ {B P : Type 0} (G : Setting B P) (L : Laws G) (a : ℕ) (E : EqualSteps
 
     -- the pieces of the steps of the tiling with the number m to a node, or to node 0 with none
     readTo : Option ℕ → ℕ → List P
-    readTo o m = piecesOf (G .stepPiece) (map (λ v. getD (nodesOf G s) v s) (tiling (graphEdges G s) (pathCountOf G s) (atNode (λ v. v) o) m))
+    readTo o m = piecesOf (G .stepPiece) (map (λ v. getD (nodesOf G s) v s) (nodeListTo (graphEdges G s) (pathCountOf G s) (atNode (λ v. v) o) m))
 
     no-sequence : fullNode (G .full) (nodesOf G s) ≡ none → (ps : List P) → PlacingSequence G s ps → ⊥
     no-sequence e ps r =
@@ -225,9 +225,9 @@ module _ {B P : Type 0} (G : Setting B P) (L : Laws G) (a : ℕ) (E : EqualSteps
           absurd (never t (k .1) (r .0) (r .1))
 
   -- a start that is full counts 0 both ways, so that the counts agree of any start
-  pub counts-agree : layerCount G s ≡ graphCount G s
+  pub counts-agree : layerCountOf G s ≡ graphCount G s
   counts-agree = go (G .full s) refl
     where
-      go : (b : Bool) → G .full s ≡ b → layerCount G s ≡ graphCount G s
+      go : (b : Bool) → G .full s ≡ b → layerCountOf G s ≡ graphCount G s
       go true f = full-layerCount G L s ok f ∙ sym (full-graphCount G L s ok f)
       go false f = counts-agree-free f

@@ -1,14 +1,26 @@
--- Definitions, second page: child sequences; layers and their path counts; the graph; the tiling by number; the two counts. What stands in
--- quotation marks is 01's. `same` tests two boards for equality, `children` gives a board's children in order. Assumes nothing.
+-- Definitions: how many there are; child sequences; layers and their path counts; the graph; the node list with a number; the layer count. What stands in
+-- quotation marks is 01's. Boards are of any type: `same` tests two for equality, `children` gives a board's children in order, `full` tells "a full
+-- board". Assumes nothing.
 use mathlib.Core.Path.{_≡_}
 use mathlib.Core.Bool.{Bool, cond}
 use mathlib.Core.Option.{Option, none, some}
 use mathlib.Core.List.{List, [], _∷_, _++_, map, flatMap, tail, List·Memᴰ as Mem}
 use Prim.Native.Nat.{ℕ, zero, suc, _+_, _-_, _<_}
 use lib.Dec.{eqb, ltb}
-use lib.ListN.{getD}
-use Rattle.cells.specs.Firsts.{firsts, holds}
-use Rattle.covers.specs.Cuttings.{Setting, childBoards}
+use Rattle.cells.specs.Lists.{firsts}
+
+-- ---- how many
+
+module _ {A : Type 0} where
+  -- f numbers the things of which `Is` holds by the numbers below n: each number gives one, two numbers never give the same, and every one has its number
+  pub record Numbering (Is : A → Type 0) (n : ℕ) (f : ℕ → A) : Type 0 where
+    pub each : (m : ℕ) → m < n → Is (f m)
+    pub once : (m k : ℕ) → m < n → k < n → f m ≡ f k → m ≡ k
+    pub all : (a : A) → Is a → (m : ℕ) × (m < n) × (f m ≡ a)
+
+  -- there are exactly n
+  abbrev pub Exactly : ℕ → (A → Type 0) → Type 0
+  Exactly n Is = (f : ℕ → A) × Numbering Is n f
 
 -- ---- sequences. `R a b`: there is a step from a to b
 
@@ -27,14 +39,17 @@ module _ {N : Type 0} (R : N → N → Type 0) where
 abbrev pub ChildSequence : {B : Type 0} → (B → List B) → B → B → List B → Type 0
 ChildSequence children = Chain (λ s t. Mem t (children s))
 
--- ---- layers and the graph. An entry is a board and its path count
+-- ---- layers and the graph
 
+-- a board and its path count
 abbrev pub Entry : Type 0 → Type 0
 Entry B = B × ℕ
 
+-- the boards of some entries, in order
 abbrev pub boards : {B : Type 0} → List (Entry B) → List B
 boards es = map (λ e. e .0) es
 
+-- the path counts of some entries, in order
 abbrev pub counts : {B : Type 0} → List (Entry B) → List ℕ
 counts es = map (λ e. e .1) es
 
@@ -89,12 +104,13 @@ unfoldable pub parentsOf : List (ℕ × ℕ) → ℕ → List ℕ
 parentsOf [] v = []
 parentsOf (e ∷ es) v = cond (eqb (e .1) v) (e .0 ∷ parentsOf es v) (parentsOf es v)
 
--- "the parent whose turn holds m, each turn as long as the parent's path count, earlier turns subtracted", and what is left of m
+-- "the parent whose turn holds m, each turn as long as the parent's path count, earlier turns subtracted", and what is left of m; node 0 where there is
+-- none
 unfoldable pub turn : (ℕ → ℕ) → List ℕ → ℕ → ℕ × ℕ
 turn count [] m = (0, m)
 turn count (p ∷ ps) m = cond (ltb m (count p)) (p, m) (turn count ps (m - count p))
 
--- backward from node v to node 0 in at most k steps: "the node list from 0 on"
+-- backward from node v in at most k steps, to node 0 where they are enough: "the node list from 0 on"
 unfoldable pub walk : List (ℕ × ℕ) → (ℕ → ℕ) → ℕ → ℕ → ℕ → List ℕ
 unfolding parentsOf turn
 walk es count zero v m = v ∷ []
@@ -103,18 +119,11 @@ walk es count (suc k) v m =
     (walk es count k (turn count (parentsOf es v) m .0) (turn count (parentsOf es v) m .1) ++ v ∷ [])
 
 -- the node list with the number m to node v: v steps are enough, since parents stand before children
-unfoldable pub tiling : List (ℕ × ℕ) → (ℕ → ℕ) → ℕ → ℕ → List ℕ
+unfoldable pub nodeListTo : List (ℕ × ℕ) → (ℕ → ℕ) → ℕ → ℕ → List ℕ
 unfolding walk
-tiling es count v m = walk es count v v m
+nodeListTo es count v m = walk es count v v m
 
--- what is asked of a graph of n nodes: parents stand before children and children below n, node 0's count is 1, and another's is "the exact sum of
--- its parents' counts over the edges into it"
-pub record SumRule (n : ℕ) (es : List (ℕ × ℕ)) (count : ℕ → ℕ) : Type 0 where
-  pub rises : (p c : ℕ) → Mem (p, c) es → (p < c) × (c < n)
-  pub first : count 0 ≡ 1
-  pub sums : (v : ℕ) → 0 < v → v < n → count v ≡ sumOf count (parentsOf es v)
-
--- ---- the two counts
+-- ---- the full board
 
 module _ {B : Type 0} (full : B → Bool) where
   -- the path count of the full board among some entries, 0 if it is not there
@@ -138,55 +147,26 @@ atNode f none = 0
 atNode f (some v) = f v
 
 -- the node list with the number m of a graph with the full node o: "from the full node go backward" (from node 0 with none, a list that is never given)
-abbrev pub nodeListTo : List (ℕ × ℕ) → (ℕ → ℕ) → Option ℕ → ℕ → List ℕ
-nodeListTo es count o m = tiling es count (atNode (λ v. v) o) m
+abbrev pub nodeList : List (ℕ × ℕ) → (ℕ → ℕ) → Option ℕ → ℕ → List ℕ
+nodeList es count o m = nodeListTo es count (atNode (λ v. v) o) m
 
--- the pieces of the steps of a list of boards, `step` giving the piece of a step
 module _ {B P : Type 0} (step : B → B → P) where
+  -- the pieces of the steps from t on over a list of boards, `step` giving the piece of a step
   abbrev pub piecesFrom : B → List B → List P
   piecesFrom t [] = []
   piecesFrom t (u ∷ us) = step t u ∷ piecesFrom u us
 
+  -- the pieces of the steps of a list of boards
   abbrev pub piecesOf : List B → List P
   piecesOf [] = []
   piecesOf (t ∷ ts) = piecesFrom t ts
 
-module _ {B P : Type 0} (G : Setting B P) (s : B) where
-  abbrev pub layerOf : ℕ → List (Entry B)
-  layerOf n = layer (G .sameBoard) (childBoards G) s n
+-- ---- the layer count
 
-  -- the nodes, "numbered by first finding", with their path counts, and their edges: the boards of the layers 0 to the number of free cells
-  abbrev pub entriesOf : List (Entry B)
-  entriesOf = layers (G .sameBoard) (childBoards G) s (G .freeCount s)
-
-  abbrev pub nodesOf : List B
-  nodesOf = boards entriesOf
-
-  abbrev pub pathCountOf : ℕ → ℕ
-  pathCountOf v = getD (counts entriesOf) v 0
-
-  abbrev pub graphEdges : List (ℕ × ℕ)
-  graphEdges = edgesOf (G .sameBoard) (childBoards G) nodesOf
-
-  -- the path count of the full board in the layers 1 to n
-  unfoldable pub layerCountTo : ℕ → ℕ
+-- "The answer is the path count of the full board, 0 if none is reached after at least one piece": of the layers 1 to n of a start s. Each piece takes a free
+-- cell, so that the number of free cells is an n that is large enough
+module _ {B : Type 0} (same : B → B → Bool) (children : B → List B) (full : B → Bool) (s : B) where
+  unfoldable pub layerCount : ℕ → ℕ
   unfolding fullCount layer
-  layerCountTo zero = 0
-  layerCountTo (suc n) = layerCountTo n + fullCount (G .full) (layerOf (suc n))
-
-  -- "The answer is the path count of the full board, 0 if none is reached after at least one piece"
-  unfoldable pub layerCount : ℕ
-  unfolding layerCountTo
-  layerCount = layerCountTo (G .freeCount s)
-
-  -- "The graph count is that node's path count, 0 with none"
-  unfoldable pub graphCount : ℕ
-  unfolding layers fullNode atNode
-  graphCount = atNode pathCountOf (fullNode (G .full) nodesOf)
-
-  -- the boards of the node list with the number m to the full node, and "the set of pieces that its steps mark"
-  abbrev pub tilingOf : ℕ → List B
-  tilingOf m = map (λ v. getD nodesOf v s) (nodeListTo graphEdges pathCountOf (fullNode (G .full) nodesOf) m)
-
-  abbrev pub cuttingAt : ℕ → P → Bool
-  cuttingAt m = holds (G .samePiece) (piecesOf (G .stepPiece) (tilingOf m))
+  layerCount zero = 0
+  layerCount (suc n) = layerCount n + fullCount full (layer same children s (suc n))

@@ -10,15 +10,15 @@ use native.Mathlib.Decide.{decLt}
 use native.Mathlib.Omega.{arith}
 use borrow.Author.Tests.{eqb-true, eq-eqb, ltb-true}
 use lib.Dec.{eqb, ltb}
-use Rattle.cells.specs.Set.{bit, hasCell, intersectionOf, size, Within}
-use Rattle.cells.specs.BitLaws.{bit-le, zero-bit, bit-ext, bit-high}
+use Rattle.cells.specs.Set.{bit, hasCell, size}
+use Rattle.cells.specs.Parts.{intersectionOf}
+use Rattle.cells.specs.BitLaws.{Within, bit-le, zero-bit, bit-ext, bit-high}
 use Rattle.cells.specs.SetLaws.{within-iff, within-le, hasCell-iff, bit-intersectionOf, intersectionOf-lt}
-use Rattle.cells.specs.Firsts.{any, holds, firsts, Once}
-use Rattle.cells.specs.FirstsLaws.{any-some, holds-iff, mem-firsts, once-firsts}
-use Rattle.cells.specs.Arrays.{allBelow}
+use Rattle.cells.specs.Lists.{any, holds, firsts, allBelow}
+use Rattle.cells.specs.FirstsLaws.{Once, any-some, holds-iff, mem-firsts, once-firsts}
 use Rattle.cells.specs.ArrayLaws.{allBelow-at}
 use Rattle.cells.specs.MemberLaws.{eqb-tells}
-use Rattle.covers.specs.Cuttings.{Setting, FitsOn, CuttingOf, Laws, SoundPruning, EqualSteps}
+use Rattle.covers.specs.Setting.{Setting, FitsOn, CuttingOf, Laws, SoundPruning, EqualSteps}
 use Rattle.covers.specs.SequenceLaws.{sequence-cutting, cutting-add}
 use Rattle.covers.specs.CellSets.{Between, cellSetting, CellLaws}
 use Rattle.covers.specs.CellSetLaws.{bit-region, none-free, cell-laws, cell-steps}

@@ -3,17 +3,17 @@
 use mathlib.Core.Path.{_≡_, refl, ap, subst}
 use mathlib.Core.Logic.{⊎-elim}
 use mathlib.Core.Bool.{Bool, false, cond, _&&_}
-use mathlib.Core.List.{List, [], _∷_, flatMap, List·Memᴰ·cases-cons as cases-cons, List·Memᴰ·eq-of-singleton as eq-of-singleton, List·Memᴰ·not-nil as not-nil}
+use mathlib.Core.List.{List, [], _∷_, map, flatMap, List·Memᴰ·cases-cons as cases-cons, List·Memᴰ·eq-of-singleton as eq-of-singleton, List·Memᴰ·not-nil as not-nil}
 use Prim.Native.Nat.{ℕ, zero, suc, _+_, _-_, _%_, _^_, _<_}
 use native.Mathlib.Omega.{arith}
 use lib.Dec.{eqb}
 use lib.ListN.{getD}
 use Rattle.cells.specs.Set.{bit, hasCell, size}
-use Rattle.cells.specs.Firsts.{any, holds}
+use Rattle.cells.specs.Lists.{any, holds}
 use Rattle.cells.specs.FirstsLaws.{holds-iff}
 use Rattle.cells.specs.MemberLaws.{eqb-tells}
-use Rattle.covers.specs.Cuttings.{Exactly, CuttingOf, Laws, SoundPruning, EqualSteps}
-use Rattle.covers.specs.Counts.{counts, sumOf, layers, edgesOf, parentsOf, tiling, SumRule, fullNode, atNode, entriesOf, nodesOf, graphEdges, layerCount, graphCount, tilingOf}
+use Rattle.covers.specs.Counts.{Exactly, counts, sumOf, layers, edgesOf, numberIn, parentsOf, turn, nodeListTo, fullNode, atNode, layerCount}
+use Rattle.covers.specs.Setting.{CuttingOf, Laws, SoundPruning, EqualSteps, SumRule, entriesOf, nodesOf, graphEdges, layerCountOf, graphCount, tilingOf}
 use Rattle.covers.specs.Theorems.{number-unique, layer-count-is-cuttings}
 use Rattle.covers.specs.CellSets.{cellSetting}
 use Rattle.covers.specs.ExamplePlots.{Plot, all, isWithin, settingOf, isPlot, cuts, plot-laws, plot-steps, plot-pruning, plot-ok, plot-cutting}
@@ -50,7 +50,7 @@ unfolding settingOf
 two-by-two-not-full = refl
 
 -- both counts are 2
-two-layers : layerCount (settingOf twoByTwo) 0 ≡ 2
+two-layers : layerCountOf (settingOf twoByTwo) 0 ≡ 2
 unfolding settingOf size layerCount
 two-layers = refl
 
@@ -78,15 +78,25 @@ unfolding settingOf size layers edgesOf
 edges = refl
 
 tiling-0 : tilingOf (settingOf twoByTwo) 0 0 ≡ 0 ∷ 3 ∷ 15 ∷ []
-unfolding settingOf size layers edgesOf tiling fullNode atNode
+unfolding settingOf size layers edgesOf nodeListTo fullNode atNode
 tiling-0 = refl
 
 tiling-1 : tilingOf (settingOf twoByTwo) 0 1 ≡ 0 ∷ 5 ∷ 15 ∷ []
-unfolding settingOf size layers edgesOf tiling fullNode atNode
+unfolding settingOf size layers edgesOf nodeListTo fullNode atNode
 tiling-1 = refl
 
+-- what is left of the number goes on: two lists to node 3, and on to node 4
+turns-left : map (nodeListTo ((0, 1) ∷ (0, 2) ∷ (1, 3) ∷ (2, 3) ∷ (3, 4) ∷ []) (λ v. getD (1 ∷ 1 ∷ 1 ∷ 2 ∷ 2 ∷ []) v 0) 4) (0 ∷ 1 ∷ []) ≡ (0 ∷ 1 ∷ 3 ∷ 4 ∷ []) ∷ (0 ∷ 2 ∷ 3 ∷ 4 ∷ []) ∷ []
+unfolding nodeListTo
+turns-left = refl
+
+-- with no parents left the turn is node 0's; a board that is no node has the number of none
+nothing-left : (turn (λ v. 1) [] 5 ≡ (0, 5)) × (numberIn eqb [] 5 ≡ 0) × (numberIn eqb (4 ∷ 5 ∷ []) 6 ≡ 2)
+unfolding turn numberIn
+nothing-left = (refl, refl, refl)
+
 -- a full start counts 0, though the empty set is a cutting
-full-start-layers : layerCount (settingOf twoByTwo) 15 ≡ 0
+full-start-layers : layerCountOf (settingOf twoByTwo) 15 ≡ 0
 unfolding settingOf size layerCount
 full-start-layers = refl
 
@@ -133,7 +143,7 @@ slanted-steps : EqualSteps (settingOf slanted) 2
 unfolding isPlot flatMap all size
 slanted-steps = plot-steps slanted refl 2 refl
 
-slanted-layers : layerCount (settingOf slanted) 0 ≡ 0
+slanted-layers : layerCountOf (settingOf slanted) 0 ≡ 0
 unfolding settingOf size layerCount flatMap beside hasFour
 slanted-layers = refl
 
@@ -152,7 +162,7 @@ slanted-cutting = plot-cutting slanted refl 0 slantedPieces (plot-ok slanted ref
 abbrev unpruned : Plot
 unpruned = slantedWith (λ s. false)
 
-unpruned-layers : layerCount (settingOf unpruned) 0 ≡ 1
+unpruned-layers : layerCountOf (settingOf unpruned) 0 ≡ 1
 unfolding settingOf size layerCount flatMap beside
 unpruned-layers = refl
 
@@ -164,7 +174,7 @@ slanted-one =
     (plot-ok unpruned refl 0 refl) refl (plot-pruning unpruned refl (λ s. refl)))
 
 -- without the pruning condition the layer count is not the number of cuttings
-slanted-unequal : Exactly (layerCount (settingOf slanted) 0) (CuttingOf (settingOf slanted) 0) → ⊥
+slanted-unequal : Exactly (layerCountOf (settingOf slanted) 0) (CuttingOf (settingOf slanted) 0) → ⊥
 slanted-unequal E = omega (arith, number-unique E slanted-one, slanted-layers)
 
 -- so the pruning is not sound: with the cells 3 and 6 free, 6 has count 4 and the board is pruned, but a tile covers both
@@ -195,7 +205,7 @@ mixed-pruning : SoundPruning (settingOf mixed)
 unfolding isPlot
 mixed-pruning = plot-pruning mixed refl (λ s. refl)
 
-mixed-counts : (layerCount (settingOf mixed) 0 ≡ 2) × (graphCount (settingOf mixed) 0 ≡ 1)
+mixed-counts : (layerCountOf (settingOf mixed) 0 ≡ 2) × (graphCount (settingOf mixed) 0 ≡ 1)
 unfolding settingOf size layerCount graphCount
 mixed-counts = (refl, refl)
 
@@ -228,6 +238,6 @@ double-edge = record {
   sums = double-sums;
 }
 
-double-edge-same : (tiling doubled doubledCount 1 0 ≡ 0 ∷ 1 ∷ []) × (tiling doubled doubledCount 1 1 ≡ 0 ∷ 1 ∷ [])
-unfolding tiling
+double-edge-same : (nodeListTo doubled doubledCount 1 0 ≡ 0 ∷ 1 ∷ []) × (nodeListTo doubled doubledCount 1 1 ≡ 0 ∷ 1 ∷ [])
+unfolding nodeListTo
 double-edge-same = (refl, refl)

@@ -10,11 +10,11 @@ use native.Mathlib.Decide.{decLt}
 use native.Mathlib.Omega.{arith}
 use lib.ListN.{length, getD, take, drop, length-append, length-take, take-append-drop, List·getD-append}
 use lib.Seq.{take-all, take-suc, getD-take}
-use Rattle.cells.specs.Firsts.{Tells, holds, addNew, addFirsts, firsts}
-use Rattle.cells.specs.FirstsLaws.{mem-getD, addFirsts-append, length-addFirsts, mem-addNew, mem-firsts}
+use Rattle.cells.specs.FirstsLaws.{Tells, mem-getD, addFirsts-append, length-addFirsts, mem-addNew, mem-firsts}
+use Rattle.cells.specs.Lists.{holds, addNew, addFirsts, firsts}
 use Rattle.cells.specs.MemberLaws.{mem-flatMap, flatMap-append, flatMap-snoc}
-use Rattle.covers.specs.Cuttings.{Setting, childBoards, Laws, EqualSteps}
-use Rattle.covers.specs.Counts.{numberIn, edgesOf, nodesOf, graphEdges}
+use Rattle.covers.specs.Setting.{Setting, childBoards, Laws, EqualSteps, nodesOf, graphEdges}
+use Rattle.covers.specs.Counts.{numberIn, edgesOf}
 use Rattle.covers.specs.NodeLaws.{number-lt, getD-number, number-getD, number-left, edge-mem}
 use Rattle.covers.specs.GraphLaws.{once-nodes, nodes-found, edge-rises}
 

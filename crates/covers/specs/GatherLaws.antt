@@ -6,8 +6,8 @@ use mathlib.Core.Bool.{Bool, true, false, cond, _||_}
 use mathlib.Core.List.{List, [], _∷_, _++_, map, map-append, map-map, map-id, List·Memᴰ as Mem, List·Memᴰ·cases-cons as cases-cons, List·Memᴰ·not-nil as not-nil, Memᴰ·cast as cast, Memᴰ·map as mem-map, Memᴰ·of-map as of-map}
 use Prim.Native.Nat.{ℕ, _+_, _≤_, _<_}
 use native.Mathlib.Omega.{arith}
-use Rattle.cells.specs.Firsts.{Once, Tells, holds, addNew, firsts}
-use Rattle.cells.specs.FirstsLaws.{same-false, mem-cases, addFirsts-append, mem-firsts, once-firsts}
+use Rattle.cells.specs.FirstsLaws.{Once, same-false, mem-cases, addFirsts-append, mem-firsts, once-firsts, Tells}
+use Rattle.cells.specs.Lists.{holds, addNew, firsts}
 use Rattle.cells.specs.MemberLaws.{mem-split, map-ext}
 use Rattle.covers.specs.Counts.{Entry, boards, weight, gather}
 use Rattle.covers.specs.SumLaws.{sum-append, sum-zero}

@@ -8,11 +8,11 @@ use mathlib.Core.List.{List, _∷_, _++_, map, flatMap, append-nil, List·Memᴰ
 use Prim.Native.Nat.{ℕ, suc, _<_}
 use native.Mathlib.Omega.{arith}
 use lib.ListN.{length, getD}
-use Rattle.cells.specs.Firsts.{Once, Tells, firsts}
-use Rattle.cells.specs.FirstsLaws.{mem-getD}
+use Rattle.cells.specs.FirstsLaws.{Once, mem-getD, Tells}
+use Rattle.cells.specs.Lists.{firsts}
 use Rattle.cells.specs.MemberLaws.{map-back}
-use Rattle.covers.specs.Cuttings.{Numbering, Exactly, Setting, childBoards, Laws, EqualSteps}
-use Rattle.covers.specs.Counts.{Chain, ChildSequence, Entry, boards, sumOf, weight, layers, numberIn, parentsOf, tiling, SumRule, layerOf, nodesOf, pathCountOf, graphEdges}
+use Rattle.covers.specs.Counts.{Numbering, Exactly, Chain, ChildSequence, Entry, boards, sumOf, weight, layers, numberIn, parentsOf, nodeListTo}
+use Rattle.covers.specs.Setting.{Setting, childBoards, Laws, EqualSteps, SumRule, layerOf, nodesOf, pathCountOf, graphEdges}
 use Rattle.covers.specs.NumberingLaws.{carry}
 use Rattle.covers.specs.NodeLaws.{chain-good, chain-map, number-lt, getD-number, number-getD, count-number, mem-edges, edge-mem, once-edges, sum-edges}
 use Rattle.covers.specs.GatherLaws.{mem-boards, mem-entry, weight-entry, weight-none}
@@ -127,7 +127,7 @@ module _ {B P : Type 0} (G : Setting B P) (L : Laws G) (a : ℕ) (E : EqualSteps
 
   -- the tilings by number to a node number the child sequences to its board
   pub tilings-numbered : (v : ℕ) → v < length nodes
-      → Numbering (ChildSequence children s (node v)) (count v) (λ m. map node (tiling edges count v m))
+      → Numbering (ChildSequence children s (node v)) (count v) (λ m. map node (nodeListTo edges count v m))
   tilings-numbered v h = carry (map node) to inj onto (tiling-numbers (length nodes) edges count sum-rule once-graph v h)
     where
       below : (p c : ℕ) → p < length nodes → Edge p c → c < length nodes
@@ -175,6 +175,6 @@ module _ {B P : Type 0} (G : Setting B P) (L : Laws G) (a : ℕ) (E : EqualSteps
   path-count j e m =
       let n = layer-node G L s ok j (e .0) (mem-boards (at j) e m) in
       let r = tilings-numbered (number (e .0)) (number-lt same tells nodes (e .0) n) in
-      let f : ℕ → List B = λ k. map node (tiling edges count (number (e .0)) k) in
+      let f : ℕ → List B = λ k. map node (nodeListTo edges count (number (e .0)) k) in
       subst (λ (k : ℕ). Exactly k (ChildSequence children s (e .0))) (entry-count j e m)
       (f, subst (λ (t : B). Numbering (ChildSequence children s t) (count (number (e .0))) f) (getD-number same tells nodes (e .0) s n) r)

@@ -8,8 +8,8 @@ use Prim.Native.Nat.{ℕ, zero, suc, _+_, _≤_, _<_}
 use native.Mathlib.Nat.{le-refl}
 use native.Mathlib.Decide.{decLt}
 use native.Mathlib.Omega.{arith}
-use Rattle.cells.specs.Firsts.{Once, Tells, holds, firsts}
-use Rattle.cells.specs.FirstsLaws.{holds-iff}
+use Rattle.cells.specs.FirstsLaws.{Once, holds-iff, Tells}
+use Rattle.cells.specs.Lists.{holds, firsts}
 use Rattle.cells.specs.MemberLaws.{map-back, flatMap-append, mem-flatMap}
 use Rattle.covers.specs.GatherLaws.{Nonzero, mem-boards, mem-entry, weight-append, boards-gather, cond-same, cond-other, once-gather, mem-gather, weight-gather, gather-positive}
 use Rattle.covers.specs.Counts.{layers, Entry, boards, sumOf, shares, weight, layer}

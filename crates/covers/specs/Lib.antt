@@ -1,7 +1,7 @@
--- The mathematics of cuttings: exact covers, and why counting child sequences counts them. `Cuttings` and `Counts` are what a reader must believe,
--- `Theorems` is what is proved of them; the rest are laws, a setting of sets of cells that meets the laws, and examples.
-pub mod Cuttings
+-- The mathematics of cuttings: exact covers, and why counting child sequences counts them. `Counts` is what a reader must believe, `Setting` is what the
+-- theorems are stated over, and `Theorems` is what is proved; the rest are laws, a setting of sets of cells that meets the laws, and examples.
 pub mod Counts
+pub mod Setting
 pub mod Theorems
 pub mod NumberingLaws
 pub mod SequenceLaws

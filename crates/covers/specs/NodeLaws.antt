@@ -10,8 +10,7 @@ use native.Mathlib.Nat.{zero-add}
 use native.Mathlib.Omega.{arith}
 use lib.Dec.{eqb}
 use lib.ListN.{length, getD}
-use Rattle.cells.specs.Firsts.{Once, Tells}
-use Rattle.cells.specs.FirstsLaws.{mem-getD, so-eq, same-false, same-cases}
+use Rattle.cells.specs.FirstsLaws.{Once, mem-getD, so-eq, same-false, same-cases, Tells}
 use Rattle.cells.specs.MemberLaws.{mem-rest, eqb-tells, mem-flatMap, once-map, once-flatMap}
 use Rattle.covers.specs.Counts.{Steps, Chain, Entry, boards, counts, sumOf, shares, weight, numberIn, edgesOf}
 use Rattle.covers.specs.GatherLaws.{mem-boards}

@@ -1,15 +1,15 @@
 -- Laws of numberings: how many there are is unique; a numbering is carried along a map that is one-to-one onto; none, and exactly one.
--- Rests on `Cuttings` and cells' `MemberLaws`. Assumes nothing.
+-- Rests on `Counts` and cells' `MemberLaws`. Assumes nothing.
 use mathlib.Core.Path.{_≡_, sym, ap, subst, _∙_}
 use mathlib.Core.List.{List·Memᴰ as Mem}
 use Prim.Native.Nat.{ℕ, _≤_, _<_}
 use native.Mathlib.Nat.{le-antisymm}
 use native.Mathlib.Omega.{arith}
-use Rattle.cells.specs.Firsts.{Once}
-use Rattle.cells.specs.Arrays.{listOf}
+use Rattle.cells.specs.FirstsLaws.{Once}
+use Rattle.cells.specs.Lists.{listOf}
 use Rattle.cells.specs.ArrayLaws.{length-listOf}
 use Rattle.cells.specs.MemberLaws.{mem-listOf, once-listOf, once-length}
-use Rattle.covers.specs.Cuttings.{Numbering, Exactly}
+use Rattle.covers.specs.Counts.{Numbering, Exactly}
 
 -- ---- the number is unique
 

@@ -9,8 +9,8 @@ use Prim.Native.Nat.{ℕ, _+_, _*_, _<_}
 use native.Mathlib.Nat.{zero-mul, mul-zero, mul-one, add-mul}
 use native.Mathlib.Omega.{arith}
 use lib.ListN.{length, length-map}
-use Rattle.cells.specs.Firsts.{Once, Tells, firsts}
-use Rattle.cells.specs.FirstsLaws.{mem-cases, mem-firsts, once-firsts}
+use Rattle.cells.specs.FirstsLaws.{Once, mem-cases, mem-firsts, once-firsts, Tells}
+use Rattle.cells.specs.Lists.{firsts}
 use Rattle.cells.specs.MemberLaws.{once-length}
 use Rattle.covers.specs.Counts.{fullCount, Entry, boards, sumOf, shares, weight, gather}
 use Rattle.covers.specs.SumLaws.{sum-ext, sum-zero, sum-single, sum-plus, sum-times}

@@ -13,8 +13,8 @@ use lib.Dec.{eqb}
 use lib.ListN.{length, getD, take, drop, length-map, take-append-drop, List·getD-eq-default}
 use lib.Seq.{take-all, take-suc}
 use Rattle.cells.specs.FirstsLaws.{mem-getD}
-use Rattle.covers.specs.Cuttings.{Setting, childBoards, Laws, EqualSteps}
-use Rattle.covers.specs.Counts.{Entry, counts, entriesOf, sumOf, parentsOf, numberIn, nodesOf, pathCountOf, graphEdges}
+use Rattle.covers.specs.Setting.{Setting, childBoards, Laws, EqualSteps, entriesOf, nodesOf, pathCountOf, graphEdges}
+use Rattle.covers.specs.Counts.{Entry, counts, sumOf, parentsOf, numberIn}
 use Rattle.covers.specs.SumLaws.{sum-append, sum-zero}
 use Rattle.covers.specs.WalkLaws.{share, share-same, share-other, sum-parentsOf, mem-parentsOf}
 use Rattle.covers.specs.GraphLaws.{edge-rises, sum-rule}

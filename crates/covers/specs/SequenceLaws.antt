@@ -1,6 +1,6 @@
 -- Laws of placing sequences and cuttings. Without the pruning condition: the pieces of a placing sequence are a cutting, two sequences with the same
 -- pieces are one, a board with no free cell has the empty cutting only. With it: each cutting has exactly one placing sequence.
--- Rests on `Cuttings` and `NumberingLaws`. Assumes nothing.
+-- Rests on `Setting` and `NumberingLaws`. Assumes nothing.
 use mathlib.Core.Path.{_≡_, refl, sym, ap, ap₂, subst, _∙_, fun-ext}
 use mathlib.Core.Logic.{_↔_, ⊎-elim}
 use mathlib.Core.Bool.{Bool, true, false, So, cond, false≢true}
@@ -8,10 +8,11 @@ use mathlib.Core.List.{List, [], _∷_, List·Memᴰ as Mem, List·Memᴰ·head 
 use Prim.Native.Nat.{ℕ, zero, suc, _≤_, _<_}
 use native.Mathlib.Omega.{arith}
 use lib.ListN.{length}
-use Rattle.cells.specs.Firsts.{Once, Tells, holds}
-use Rattle.cells.specs.FirstsLaws.{so-eq, holds-iff}
+use Rattle.cells.specs.FirstsLaws.{Once, so-eq, holds-iff, Tells}
+use Rattle.cells.specs.Lists.{holds}
 use Rattle.cells.specs.MemberLaws.{no-member}
-use Rattle.covers.specs.Cuttings.{Numbering, Exactly, Setting, Laws, FitsOn, CuttingOf, PlacingSequence, SoundPruning}
+use Rattle.covers.specs.Counts.{Numbering, Exactly}
+use Rattle.covers.specs.Setting.{Setting, Laws, FitsOn, CuttingOf, PlacingSequence, SoundPruning}
 use Rattle.covers.specs.NumberingLaws.{exactly-le, carry, exactly-one, one-is, one-only}
 
 -- ---- sets of pieces

@@ -12,11 +12,11 @@ use Prim.Native.Nat.{ℕ, zero, suc, _+_, _*_, _≤_, _<_}
 use native.Mathlib.Nat.{zero-mul, suc-mul, eq-of-mul-eq-mul-right}
 use native.Mathlib.Decide.{decLt}
 use native.Mathlib.Omega.{arith}
-use Rattle.cells.specs.Firsts.{Once, Tells, any, holds, addNew, addFirsts, firsts}
-use Rattle.cells.specs.FirstsLaws.{addFirsts-append, addFirsts-apart}
+use Rattle.cells.specs.FirstsLaws.{Once, addFirsts-append, addFirsts-apart, Tells}
+use Rattle.cells.specs.Lists.{any, holds, addNew, addFirsts, firsts}
 use Rattle.cells.specs.MemberLaws.{no-member, mem-flatMap, flatMap-append, once-append}
-use Rattle.covers.specs.Cuttings.{Setting, childBoards, Laws, EqualSteps}
-use Rattle.covers.specs.Counts.{counts, nodesOf, pathCountOf, ChildSequence, Entry, boards, layer, layers, numberIn, layerOf}
+use Rattle.covers.specs.Setting.{Setting, childBoards, Laws, EqualSteps, nodesOf, pathCountOf, layerOf}
+use Rattle.covers.specs.Counts.{counts, ChildSequence, Entry, boards, layer, layers, numberIn}
 use Rattle.covers.specs.NodeLaws.{chain-end-good, number-lt, number-left, number-right}
 use Rattle.covers.specs.GatherLaws.{mem-boards}
 use Rattle.covers.specs.LayerLaws.{layers-first, once-layer, mem-layer, boards-suc, mem-layers, layer-found, start-entry}

@@ -6,7 +6,7 @@ use mathlib.Core.List.{List, [], _∷_, _++_, map, flatMap, List·Memᴰ as Mem,
 use Prim.Native.Nat.{ℕ, _+_, _*_}
 use native.Mathlib.Nat.{mul-zero, mul-add}
 use native.Mathlib.Omega.{arith}
-use Rattle.cells.specs.Firsts.{Once}
+use Rattle.cells.specs.FirstsLaws.{Once}
 use Rattle.covers.specs.Counts.{sumOf}
 
 module _ {A : Type 0} where

@@ -1,4 +1,4 @@
--- The theorem page: what is proved of the definitions of `Cuttings` and `Counts`, each statement with its words. A proof here is a citation.
+-- The theorem page: what is proved of the definitions of `Counts` and `Setting`, each statement with its words. A proof here is a citation.
 -- Rests on the law files. Assumes nothing.
 use mathlib.Core.Path.{_≡_, sym, subst}
 use mathlib.Core.Logic.{_↔_}
@@ -6,9 +6,10 @@ use mathlib.Core.Bool.{Bool, false, So, cond}
 use mathlib.Core.List.{List, [], _∷_, map, flatMap, List·Memᴰ as Mem}
 use Prim.Native.Nat.{ℕ, suc, _≤_, _<_}
 use lib.ListN.{length, getD}
-use Rattle.cells.specs.Firsts.{Once, Tells, holds, firsts}
-use Rattle.covers.specs.Cuttings.{Numbering, Exactly, Setting, CuttingOf, PlacingSequence, childBoards, Laws, SoundPruning, EqualSteps}
-use Rattle.covers.specs.Counts.{fullCount, Chain, ChildSequence, Entry, boards, sumOf, shares, weight, gather, layerOf, tiling, SumRule, nodesOf, pathCountOf, graphEdges, layerCount, graphCount, piecesOf, tilingOf, cuttingAt}
+use Rattle.cells.specs.FirstsLaws.{Once, Tells}
+use Rattle.cells.specs.Lists.{holds, firsts}
+use Rattle.covers.specs.Counts.{Numbering, Exactly, fullCount, Chain, ChildSequence, Entry, boards, sumOf, shares, weight, gather, nodeListTo, piecesOf}
+use Rattle.covers.specs.Setting.{Setting, CuttingOf, PlacingSequence, childBoards, Laws, SoundPruning, EqualSteps, layerOf, SumRule, nodesOf, pathCountOf, graphEdges, layerCountOf, graphCount, tilingOf, cuttingAt}
 use Rattle.covers.specs.NumberingLaws.{exactly-unique, carry}
 use Rattle.covers.specs.SequenceLaws.{sequence-cutting, sequence-unique, sequences-at-most, one-sequence, full-cutting}
 use Rattle.covers.specs.ChildLaws.{child-once}
@@ -39,7 +40,7 @@ module _ {B P : Type 0} (G : Setting B P) (L : Laws G) (s : B) (ok : G .Ok s) wh
   pub full-has-one : So (G .full s) → Numbering (CuttingOf G s) 1 (λ m p. false)
   full-has-one = full-cutting G L s ok
 
-  pub full-counts-none : So (G .full s) → (layerCount G s ≡ 0) × (graphCount G s ≡ 0)
+  pub full-counts-none : So (G .full s) → (layerCountOf G s ≡ 0) × (graphCount G s ≡ 0)
   full-counts-none f = (full-layerCount G L s ok f, full-graphCount G L s ok f)
 
   -- ---- 3. Placing sequences
@@ -114,29 +115,29 @@ module _ {B P : Type 0} (G : Setting B P) (L : Laws G) (s : B) (ok : G .Ok s) wh
     -- The tilings by number to a node number the child sequences to its board.
     pub graph-tilings : (v : ℕ) → v < length (nodesOf G s)
         → Numbering (ChildSequence (childBoards G) s (getD (nodesOf G s) v s)) (pathCountOf G s v)
-        (λ m. map (λ u. getD (nodesOf G s) u s) (tiling (graphEdges G s) (pathCountOf G s) v m))
+        (λ m. map (λ u. getD (nodesOf G s) u s) (nodeListTo (graphEdges G s) (pathCountOf G s) v m))
     graph-tilings = tilings-numbered G L a E s ok
 
 -- ---- 6. The walk by turns, over any edges and counts
 
 -- The tilings by number to a node number the chains of edges from node 0 to it, where each edge stands once.
 pub walk-numbers-chains : (n : ℕ) (es : List (ℕ × ℕ)) (count : ℕ → ℕ) → SumRule n es count → Once es → (v : ℕ) → v < n
-    → Numbering (Chain (λ p c. Mem (p, c) es) 0 v) (count v) (tiling es count v)
+    → Numbering (Chain (λ p c. Mem (p, c) es) 0 v) (count v) (nodeListTo es count v)
 walk-numbers-chains = tiling-numbers
 
 -- Where an edge may stand twice, still every number gives a chain, and every chain has a number.
 pub walk-gives-chain : (n : ℕ) (es : List (ℕ × ℕ)) (count : ℕ → ℕ) → SumRule n es count → (v m : ℕ) → v < n → m < count v
-    → Chain (λ p c. Mem (p, c) es) 0 v (tiling es count v m)
+    → Chain (λ p c. Mem (p, c) es) 0 v (nodeListTo es count v m)
 walk-gives-chain = tiling-chain
 
 pub chain-has-number : (n : ℕ) (es : List (ℕ × ℕ)) (count : ℕ → ℕ) → SumRule n es count → (v : ℕ) → v < n → (xs : List ℕ)
-    → Chain (λ p c. Mem (p, c) es) 0 v xs → (m : ℕ) × (m < count v) × (tiling es count v m ≡ xs)
+    → Chain (λ p c. Mem (p, c) es) 0 v xs → (m : ℕ) × (m < count v) × (nodeListTo es count v m ≡ xs)
 chain-has-number = chain-tiling
 
 -- ---- 7. Joined, where every piece takes equally many free cells
 
 -- The layer count and the graph count are one number, whatever is pruned and also of a full start.
-pub counts-are-equal : {B P : Type 0} (G : Setting B P) → Laws G → (a : ℕ) → EqualSteps G a → (s : B) → G .Ok s → layerCount G s ≡ graphCount G s
+pub counts-are-equal : {B P : Type 0} (G : Setting B P) → Laws G → (a : ℕ) → EqualSteps G a → (s : B) → G .Ok s → layerCountOf G s ≡ graphCount G s
 counts-are-equal = counts-agree
 
 -- Where no child sequence reaches a full board, it is 0.
@@ -162,7 +163,7 @@ module _ {B P : Type 0} (G : Setting B P) (L : Laws G) (a : ℕ) (E : EqualSteps
   pub graph-count-is-cuttings : SoundPruning G → Exactly (graphCount G s) (CuttingOf G s)
   graph-count-is-cuttings sound = (cuttingAt G s, tilings-are-cuttings sound)
 
-  pub layer-count-is-cuttings : SoundPruning G → Exactly (layerCount G s) (CuttingOf G s)
+  pub layer-count-is-cuttings : SoundPruning G → Exactly (layerCountOf G s) (CuttingOf G s)
   layer-count-is-cuttings sound = subst (λ (n : ℕ). Exactly n (CuttingOf G s)) (sym (counts-are-equal G L a E s ok)) (graph-count-is-cuttings sound)
 
 -- ---- 8. The order of a layer makes no difference

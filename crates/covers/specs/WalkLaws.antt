@@ -1,4 +1,4 @@
--- The walk by turns numbers the chains to a node: laws of `parentsOf`, of `turn`, of chains taken apart at their last step, of `walk` and `tiling`.
+-- The walk by turns numbers the chains to a node: laws of `parentsOf`, of `turn`, of chains taken apart at their last step, of `walk` and `nodeListTo`.
 -- Rests on `Counts` and `NumberingLaws`. Assumes nothing.
 use mathlib.Core.Path.{_≡_, refl, sym, ap, subst, _∙_}
 use mathlib.Core.Logic.{_⊎_, inl, inr, _↔_, ⊎-elim}
@@ -8,9 +8,9 @@ use Prim.Native.Nat.{ℕ, zero, suc, _+_, _-_, _≤_, _<_}
 use native.Mathlib.Omega.{arith}
 use borrow.Author.Tests.{eqb-true, eqb-false, eq-eqb, ne-eqb, ltb-true, ltb-false, lt-ltb, le-ltb}
 use lib.Dec.{eqb, ltb}
-use Rattle.cells.specs.Firsts.{Once}
-use Rattle.covers.specs.Cuttings.{Numbering}
-use Rattle.covers.specs.Counts.{Steps, Chain, sumOf, parentsOf, turn, walk, tiling, SumRule}
+use Rattle.cells.specs.FirstsLaws.{Once}
+use Rattle.covers.specs.Counts.{Numbering, Steps, Chain, sumOf, parentsOf, turn, walk, nodeListTo}
+use Rattle.covers.specs.Setting.{SumRule}
 use Rattle.covers.specs.NumberingLaws.{carry, renumber}
 
 -- ---- parents
@@ -233,8 +233,8 @@ module _ (n : ℕ) (es : List (ℕ × ℕ)) (count : ℕ → ℕ) (S : SumRule n
       (lower (suc v) (back es count (suc v) m .0) (r .0), r .1, r .0)
 
   -- v steps are enough, and more change nothing
-  pub walk-enough : (k v m : ℕ) → v ≤ k → v < n → m < count v → walk es count k v m ≡ tiling es count v m
-  unfolding tiling
+  pub walk-enough : (k v m : ℕ) → v ≤ k → v < n → m < count v → walk es count k v m ≡ nodeListTo es count v m
+  unfolding nodeListTo
   walk-enough k v m a l h = below n (λ k m a h. walk-first es count k m) next v l k m a h
     where
       next : Next n (λ v. (k m : ℕ) → v ≤ k → m < count v → walk es count k v m ≡ walk es count v v m)
@@ -249,8 +249,8 @@ module _ (n : ℕ) (es : List (ℕ × ℕ)) (count : ℕ → ℕ) (S : SumRule n
           ∙ sym (walk-next es count (suc v) v m (omega arith))
 
   pub tiling-next : (v m : ℕ) → suc v < n → m < count (suc v)
-      → tiling es count (suc v) m ≡ tiling es count (back es count (suc v) m .0) (back es count (suc v) m .1) ++ suc v ∷ []
-  unfolding tiling
+      → nodeListTo es count (suc v) m ≡ nodeListTo es count (back es count (suc v) m .0) (back es count (suc v) m .1) ++ suc v ∷ []
+  unfolding nodeListTo
   tiling-next v m l h =
       let t = back es count (suc v) m in
       let r = back-in v m l h in
@@ -265,8 +265,8 @@ module _ (n : ℕ) (es : List (ℕ × ℕ)) (count : ℕ → ℕ) (S : SumRule n
   chain-first (x ∷ []) s = ap (λ (y : ℕ). y ∷ []) (sym (s .0))
   chain-first (x ∷ y ∷ xs) s = let r = steps-last (λ p c. Mem (p, c) es) x y 0 xs (s .1) in absurd (omega (arith, S .rises (r .0) 0 (r .3) .0))
 
-  first-numbers : Numbering (Paths es 0) (count 0) (tiling es count 0)
-  unfolding tiling
+  first-numbers : Numbering (Paths es 0) (count 0) (nodeListTo es count 0)
+  unfolding nodeListTo
   first-numbers = record {
     each = λ m h. (refl, refl);
     once = λ m k h i e. omega (arith, S .first);
@@ -275,50 +275,50 @@ module _ (n : ℕ) (es : List (ℕ × ℕ)) (count : ℕ → ℕ) (S : SumRule n
 
   -- ---- although an edge may stand twice: each number gives a chain, and each chain has a number
 
-  pub tiling-chain : (v m : ℕ) → v < n → m < count v → Chain (λ p c. Mem (p, c) es) 0 v (tiling es count v m)
+  pub tiling-chain : (v m : ℕ) → v < n → m < count v → Chain (λ p c. Mem (p, c) es) 0 v (nodeListTo es count v m)
   tiling-chain v m l h = below n (first-numbers .each) next v l m h
     where
-      next : Next n (λ v. (m : ℕ) → m < count v → Paths es v (tiling es count v m))
+      next : Next n (λ v. (m : ℕ) → m < count v → Paths es v (nodeListTo es count v m))
       next v l rec m h =
           let t = back es count (suc v) m in
           let r = back-in v m l h in
           subst (Paths es (suc v)) (sym (tiling-next v m l h))
-          (longer es (suc v) (t .0, tiling es count (t .0) (t .1)) (r .2, rec (t .0) (r .0) (t .1) (r .1)))
+          (longer es (suc v) (t .0, nodeListTo es count (t .0) (t .1)) (r .2, rec (t .0) (r .0) (t .1) (r .1)))
 
-  pub chain-tiling : (v : ℕ) → v < n → (xs : List ℕ) → Chain (λ p c. Mem (p, c) es) 0 v xs → (m : ℕ) × (m < count v) × (tiling es count v m ≡ xs)
+  pub chain-tiling : (v : ℕ) → v < n → (xs : List ℕ) → Chain (λ p c. Mem (p, c) es) 0 v xs → (m : ℕ) × (m < count v) × (nodeListTo es count v m ≡ xs)
   chain-tiling = below n (first-numbers .all) next
     where
-      next : Next n (λ v. (xs : List ℕ) → Paths es v xs → (m : ℕ) × (m < count v) × (tiling es count v m ≡ xs))
+      next : Next n (λ v. (xs : List ℕ) → Paths es v xs → (m : ℕ) × (m < count v) × (nodeListTo es count v m ≡ xs))
       next v l rec xs s =
           let c = shorter es v xs s in
           let r = rec (c .0 .0) (lower (suc v) (c .0 .0) (c .1 .0)) (c .0 .1) (c .1 .1) in
           let t = turn-all count (parentsOf es (suc v)) (c .0 .0) (r .0) (c .1 .0) (r .1) in
           let h : t .0 < count (suc v) = omega (arith, t .1, S .sums (suc v) (omega arith) l) in
-          let same = ap (λ (x : ℕ × ℕ). tiling es count (x .0) (x .1)) (t .2) ∙ r .2 in
+          let same = ap (λ (x : ℕ × ℕ). nodeListTo es count (x .0) (x .1)) (t .2) ∙ r .2 in
           (t .0, h, tiling-next v (t .0) l h ∙ ap (λ (ys : List ℕ). ys ++ suc v ∷ []) same ∙ c .2)
 
   -- each node of a tiling is one of the n
-  pub tiling-below : (v m : ℕ) → v < n → m < count v → (u : ℕ) → Mem u (tiling es count v m) → u < n
-  unfolding tiling
+  pub tiling-below : (v m : ℕ) → v < n → m < count v → (u : ℕ) → Mem u (nodeListTo es count v m) → u < n
+  unfolding nodeListTo
   tiling-below v m l h = below n first next v l m h
     where
-      first : (m : ℕ) → m < count 0 → (u : ℕ) → Mem u (tiling es count 0 m) → u < n
+      first : (m : ℕ) → m < count 0 → (u : ℕ) → Mem u (nodeListTo es count 0 m) → u < n
       first m h u i = ⊎-elim (λ e. omega arith) (λ k. absurd (not-nil k)) (cases-cons i)
 
-      next : Next n (λ v. (m : ℕ) → m < count v → (u : ℕ) → Mem u (tiling es count v m) → u < n)
+      next : Next n (λ v. (m : ℕ) → m < count v → (u : ℕ) → Mem u (nodeListTo es count v m) → u < n)
       next v l rec m h u i =
           let t = back es count (suc v) m in
           let r = back-in v m l h in
           ⊎-elim (λ k. rec (t .0) (r .0) (t .1) (r .1) u k) (λ k. ⊎-elim (λ e. omega arith) (λ z. absurd (not-nil z)) (cases-cons k))
-          (append-cases (tiling es count (t .0) (t .1)) (subst (Mem u) (tiling-next v m l h) i))
+          (append-cases (nodeListTo es count (t .0) (t .1)) (subst (Mem u) (tiling-next v m l h) i))
 
   -- ---- where each edge stands once, the tilings by number are the chains, each once
 
-  pub tiling-numbers : Once es → (v : ℕ) → v < n → Numbering (Chain (λ p c. Mem (p, c) es) 0 v) (count v) (tiling es count v)
+  pub tiling-numbers : Once es → (v : ℕ) → v < n → Numbering (Chain (λ p c. Mem (p, c) es) 0 v) (count v) (nodeListTo es count v)
   tiling-numbers o = below n first-numbers next
     where
-      next : Next n (λ v. Numbering (Paths es v) (count v) (tiling es count v))
+      next : Next n (λ v. Numbering (Paths es v) (count v) (nodeListTo es count v))
       next v l rec =
           renumber (sym (S .sums (suc v) (omega arith) l)) (λ m h. tiling-next v m l h)
           (carry (λ x. x .1 ++ suc v ∷ []) (longer es (suc v)) (longer-once es (suc v)) (shorter es v)
-          (turn-numbers count (Paths es) (tiling es count) (parentsOf es (suc v)) (once-parentsOf es (suc v) o) (λ p m. rec p (lower (suc v) p m))))
+          (turn-numbers count (Paths es) (nodeListTo es count) (parentsOf es (suc v)) (once-parentsOf es (suc v) o) (λ p m. rec p (lower (suc v) p m))))

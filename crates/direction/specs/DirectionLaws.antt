@@ -12,8 +12,13 @@ use lib.ListN.{getD, List·getD-eq-default}
 use Rattle.direction.specs.declared.Axis.{Axis}
 use Rattle.direction.specs.declared.Axis.the-variants as A
 use Rattle.refusal.specs.Refusal.{refused, given}
-use Rattle.direction.specs.Position.{at, origin, turn, mirrorRows, mirrorCols}
-use Rattle.direction.specs.Direction.{steps, step, opposites, opposite, rotations, rotate, reflections, reflect, mirror, onCode}
+use Rattle.direction.specs.Direction.{at, origin, steps, step, opposites, opposite, rotations, rotate, reflections, reflect, onCode, Position}
+use Rattle.direction.specs.PositionLaws.{quarterTurn, mirrorRows, mirrorCols}
+
+-- the reflection of the plane about an axis
+abbrev pub mirror : Axis → Position → Position
+mirror A.Vertical p = mirrorCols p
+mirror A.Horizontal p = mirrorRows p
 
 -- ---- a rule for every code, and for the numbers that are no code
 
@@ -62,10 +67,10 @@ step-opposite =
     by-code (λ c. step (opposite c) ≡ at (negℤ (step c .row)) (negℤ (step c .col))) refl refl refl refl refl refl refl refl
     (λ c h. rw (opposite-past c h, step-past c h))
 
-pub step-rotate : (c : ℕ) → step (rotate c) ≡ turn (step c)
+pub step-rotate : (c : ℕ) → step (rotate c) ≡ quarterTurn (step c)
 unfolding step rotate
 step-rotate =
-    by-code (λ c. step (rotate c) ≡ turn (step c)) refl refl refl refl refl refl refl refl (λ c h. rw (rotate-past c h, step-past c h))
+    by-code (λ c. step (rotate c) ≡ quarterTurn (step c)) refl refl refl refl refl refl refl refl (λ c h. rw (rotate-past c h, step-past c h))
 
 pub step-reflect : (x : Axis) (c : ℕ) → step (reflect x c) ≡ mirror x (step c)
 unfolding step reflect

@@ -1,5 +1,4 @@
--- Directions. `Position` and `Direction` are what a reader must believe; the rest are laws.
-pub mod Position
+-- Directions. `Direction` is what a reader must believe; the rest are laws.
 pub mod Direction
 pub mod PositionLaws
 pub mod DirectionLaws

@@ -5,9 +5,19 @@ use mathlib.Core.Logic.{_↔_}
 use mathlib.Core.Bool.{So, false≢true, and-eq-true-iff}
 use borrow.Author.Tests.{eq-eqb, eqb-true}
 use lib.IntN.{ℤ, pos, negsuc, _+ℤ_, negℤ, negℤ-negℤ, negℤ-+ℤ, +ℤ-assoc, +ℤ-comm, +ℤ-idl, +ℤ-negℤ-cancel, pos-ne-negsuc}
-use Rattle.cells.specs.Firsts.{Tells}
-use Rattle.cells.specs.FirstsLaws.{so-eq}
-use Rattle.direction.specs.Position.{Position, at, origin, shift, turn, mirrorRows, sameInt, samePosition}
+use Rattle.cells.specs.FirstsLaws.{Tells, so-eq}
+use Rattle.direction.specs.Direction.{Position, at, origin, shift, sameInt, samePosition}
+
+-- a quarter turn clockwise about the origin: up becomes right
+abbrev pub quarterTurn : Position → Position
+quarterTurn p = at (p .col) (negℤ (p .row))
+
+-- the reflections that the Rust calls `Horizontal`, up for down, and `Vertical`, left for right
+abbrev pub mirrorRows : Position → Position
+mirrorRows p = at (negℤ (p .row)) (p .col)
+
+abbrev pub mirrorCols : Position → Position
+mirrorCols p = at (p .row) (negℤ (p .col))
 
 -- ---- the tests tell equal positions
 
@@ -56,13 +66,13 @@ shift-inj d p q e =
 neg-inj : (x y : ℤ) → negℤ x ≡ negℤ y → x ≡ y
 neg-inj x y e = sym (negℤ-negℤ x) ∙ ap negℤ e ∙ negℤ-negℤ y
 
-pub turn-inj : (p q : Position) → turn p ≡ turn q → p ≡ q
+pub turn-inj : (p q : Position) → quarterTurn p ≡ quarterTurn q → p ≡ q
 turn-inj p q e = ap₂ at (neg-inj (p .row) (q .row) (ap (λ (x : Position). x .col) e)) (ap (λ (x : Position). x .row) e)
 
 pub mirrorRows-inj : (p q : Position) → mirrorRows p ≡ mirrorRows q → p ≡ q
 mirrorRows-inj p q e = ap₂ at (neg-inj (p .row) (q .row) (ap (λ (x : Position). x .row) e)) (ap (λ (x : Position). x .col) e)
 
-pub turn-shift : (p d : Position) → turn (shift p d) ≡ shift (turn p) (turn d)
+pub turn-shift : (p d : Position) → quarterTurn (shift p d) ≡ shift (quarterTurn p) (quarterTurn d)
 turn-shift p d = ap (at (p .col +ℤ d .col)) (negℤ-+ℤ (p .row) (d .row))
 
 pub mirrorRows-shift : (p d : Position) → mirrorRows (shift p d) ≡ shift (mirrorRows p) (mirrorRows d)

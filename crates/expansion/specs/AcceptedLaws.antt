@@ -8,30 +8,30 @@ use Prim.Native.Nat.{ℕ, _^_, _<_}
 use native.Mathlib.Omega.{arith}
 use borrow.Author.Tests.{eqb-true, eqb-false}
 use lib.Dec.{eqb, leb}
-use Rattle.cells.specs.Words.{number, Sound}
+use Rattle.cells.specs.Set.{number, Sound}
 use Rattle.cells.specs.WordLaws.{number-lt}
-use Rattle.cells.specs.Arrays.{allBelow}
+use Rattle.cells.specs.Lists.{allBelow}
 use Rattle.tiles.specs.declared.Tiles.{Tiles}
 use Rattle.refusal.specs.Refusal.{Answer, refused, given, mapAnswer, bindAnswer, refusalOf}
 use Rattle.refusal.specs.RefusalLaws.{refused-given, map-given, bind-given, refuses-bind, refuses-map}
 use Rattle.tile.specs.Path.{Path, cellCount}
-use Rattle.tiles.specs.Paths.{EqualCounts, equalCounts, sharedCount}
-use Rattle.tiles.specs.Stored.{soundAt, pathsIn, readTiles, readEqualTiles}
+use Rattle.tiles.specs.Paths.{EqualCounts, equalCounts, sharedCount, soundAt, pathsIn, readTiles, readEqualTiles}
 use Rattle.tile.specs.PathLaws.{cellCount-pos}
 use Rattle.tiles.specs.EqualLaws.{sharedCount-mem, readEqualTiles-given}
 use Rattle.board.specs.declared.RectangularBoard.{RectangularBoard}
 use Rattle.rectangle.specs.Board.{Board, boardAt, isFull, freeCount}
 use Rattle.board.specs.Board.{boardOf, readBoard}
 use Rattle.board.specs.BoardLaws.{readBoard-is, readBoard-positive}
-use Rattle.covers.specs.Cuttings.{Laws, EqualSteps}
-use Rattle.expansion.specs.Plots.{readPlot, Accepted, stepOf}
-use Rattle.expansion.specs.Boards.{setting, settingOf, startOf}
+use Rattle.covers.specs.Setting.{Laws, EqualSteps}
+use Rattle.expansion.specs.Plots.{acceptPlot}
+use Rattle.expansion.specs.Parts.{stepOf}
+use Rattle.expansion.specs.Boards.{Accepted, setting, settingOf, startOf}
 use Rattle.expansion.specs.SettingLaws.{setting-laws, setting-steps, start-at, start-ok}
 
 -- ---- what is read
 
-pub read-accepted : (b : RectangularBoard) (ts : Tiles) (p : Board × List Path) → readPlot b ts ≡ given p → (p ≡ (boardOf b, pathsIn ts)) × Accepted b ts
-unfolding readPlot
+pub read-accepted : (b : RectangularBoard) (ts : Tiles) (p : Board × List Path) → acceptPlot b ts ≡ given p → (p ≡ (boardOf b, pathsIn ts)) × Accepted b ts
+unfolding acceptPlot
 read-accepted b ts p e =
     let x = bind-given (readBoard b) (λ board. mapAnswer (λ (paths : List Path). (board, paths)) (readEqualTiles ts)) p e in
     let y = map-given (λ (paths : List Path). (x .0, paths)) (readEqualTiles ts) p (x .2) in
@@ -40,12 +40,12 @@ read-accepted b ts p e =
     (sym (y .2) ∙ ap₂ (λ (d : Board) (ps : List Path). (d, ps)) (sym (board .0)) tiles, record { board = board .1; tiles = y .1 ∙ ap given tiles })
 
 -- an answer that is given comes from board and tiles that are not refused
-pub from-read : {A : Type 0} (b : RectangularBoard) (ts : Tiles) (f : Board × List Path → Answer A) (x : A) → bindAnswer (readPlot b ts) f ≡ given x
+pub from-read : {A : Type 0} (b : RectangularBoard) (ts : Tiles) (f : Board × List Path → Answer A) (x : A) → bindAnswer (acceptPlot b ts) f ≡ given x
     → Accepted b ts × (f (boardOf b, pathsIn ts) ≡ given x)
 unfolding bindAnswer
-from-read {A} b ts f x e = go (readPlot b ts) refl e
+from-read {A} b ts f x e = go (acceptPlot b ts) refl e
   where
-    go : (a : Answer (Board × List Path)) → readPlot b ts ≡ a → bindAnswer a f ≡ given x → Accepted b ts × (f (boardOf b, pathsIn ts) ≡ given x)
+    go : (a : Answer (Board × List Path)) → acceptPlot b ts ≡ a → bindAnswer a f ≡ given x → Accepted b ts × (f (boardOf b, pathsIn ts) ≡ given x)
     go (refused n) q h = absurd (refused-given n x h)
     go (given p) q h = let r = read-accepted b ts p q in (r .1, ap f (sym (r .0)) ∙ h)
 
@@ -65,8 +65,8 @@ module _ (b : RectangularBoard) (ts : Tiles) where
       go true false h = omega (arith, ap refusalOf h)
       go false u h = omega (arith, ap refusalOf h)
 
-  pub plot-refusal : (n : ℕ) → readPlot b ts ≡ refused n → 0 < n
-  unfolding readPlot
+  pub plot-refusal : (n : ℕ) → acceptPlot b ts ≡ refused n → 0 < n
+  unfolding acceptPlot
   plot-refusal =
       refuses-bind (λ n. 0 < n) (readBoard b) (λ board. mapAnswer (λ (paths : List Path). (board, paths)) (readEqualTiles ts)) (readBoard-positive b)
       (λ board. refuses-map (λ n. 0 < n) (λ (paths : List Path). (board, paths)) (readEqualTiles ts) tiles-refusal)

@@ -1,22 +1,31 @@
 -- Definitions: the boards of a start and some tiles as a setting of `covers`, so that its layers, path counts, graph and cuttings are those of real
 -- boards. A board is the number of its marks, a piece the number of its cells. What stands in quotation marks is 01's. Assumes nothing.
+use mathlib.Core.Path.{_≡_}
 use mathlib.Core.Bool.{So, cond}
 use mathlib.Core.List.{List, []}
 use mathlib.Core.Option.{Option, none, some}
 use Prim.Native.Nat.{ℕ, _^_, _<_}
 use lib.Dec.{eqb}
-use Rattle.cells.specs.Set.{hasCell, Within}
+use Rattle.cells.specs.Set.{hasCell}
+use Rattle.cells.specs.BitLaws.{Within}
 use Rattle.tiles.specs.declared.Tiles.{Tiles}
 use Rattle.tile.specs.Path.{Path}
-use Rattle.tiles.specs.Stored.{pathsIn}
+use Rattle.refusal.specs.Refusal.{given}
+use Rattle.tiles.specs.Paths.{pathsIn, readEqualTiles}
 use Rattle.board.specs.declared.RectangularBoard.{RectangularBoard}
-use Rattle.rectangle.specs.Board.{Board, boardAt, bare, marks, isFree, isFull, valid, freeCount, lay}
+use Rattle.rectangle.specs.Board.{Board, boardAt, marks, isFree, isFull, valid, freeCount, lay}
+use Rattle.fit.specs.Inner.{bare}
 use Rattle.board.specs.Board.{boardOf}
 use Rattle.fit.specs.Fit.{IsPiece, pieces}
 use Rattle.choice.specs.Choice.{chosen}
 use Rattle.children.specs.Children.{pruned}
-use Rattle.covers.specs.Cuttings.{Setting}
-use Rattle.graph.specs.Result.{stepPiece}
+use Rattle.covers.specs.Setting.{Setting}
+use Rattle.graph.specs.Graph.{stepPiece}
+
+-- a board and tiles that are not refused
+pub record Accepted (b : RectangularBoard) (ts : Tiles) : Type 0 where
+  pub board : So (valid (boardOf b))
+  pub tiles : readEqualTiles ts ≡ given (pathsIn ts)
 
 -- the numbers of the accepted boards with the start's size and fixed marks
 pub record From (b : Board) (n : ℕ) : Type 0 where

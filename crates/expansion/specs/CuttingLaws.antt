@@ -7,12 +7,11 @@ use mathlib.Core.Bool.{Bool, true, false, So, cond}
 use mathlib.Core.List.{List, [], List·Memᴰ as Mem}
 use mathlib.Core.Option.{Option, none, some}
 use Prim.Native.Nat.{ℕ, _^_, _<_}
-use Rattle.cells.specs.Set.{hasCell}
-use Rattle.cells.specs.Words.{Sound}
+use Rattle.cells.specs.Set.{hasCell, Sound}
 use Rattle.cells.specs.WordLaws.{number-lt}
 use Rattle.tiles.specs.declared.Tiles.{Tiles}
 use Rattle.tile.specs.Path.{Path, codesOk}
-use Rattle.tiles.specs.Stored.{pathsIn}
+use Rattle.tiles.specs.Paths.{pathsIn}
 use Rattle.tiles.specs.ReadLaws.{readTiles-storable}
 use Rattle.tiles.specs.EqualLaws.{readEqualTiles-given}
 use Rattle.board.specs.declared.RectangularBoard.{RectangularBoard}
@@ -25,16 +24,16 @@ use Rattle.rectangle.specs.BoardLaws.{valid-width, valid-height}
 use Rattle.choice.specs.ChosenLaws.{chosen-none}
 use Rattle.children.specs.PruneLaws.{pruned-none}
 use Rattle.fit.specs.PieceLaws.{piece-cell, mem-pieces}
-use Rattle.covers.specs.Cuttings.{FitsOn, CuttingOf, SoundPruning, Numbering, Setting}
-use Rattle.covers.specs.Counts.{graphCount, cuttingAt}
+use Rattle.covers.specs.Setting.{FitsOn, CuttingOf, SoundPruning, Setting, graphCount, cuttingAt}
+use Rattle.covers.specs.Counts.{Numbering}
 use Rattle.covers.specs.Theorems.{numbering-carried, tilings-are-cuttings}
 use Rattle.covers.specs.SequenceLaws.{free-not-full}
 use Rattle.covers.specs.NumberingLaws.{one-is}
 use Rattle.fit.specs.LayLaws.{piece-some}
 use Rattle.expansion.specs.SettingLaws.{fits-piece, start-at, start-ok}
-use Rattle.expansion.specs.Boards.{cellOr, piecesOn, setting, settingOf, startOf}
-use Rattle.expansion.specs.Cuttings.{IsCutting, HasFreeCell, AllEdgeJoined}
-use Rattle.expansion.specs.Plots.{Accepted, stepOf}
+use Rattle.expansion.specs.Boards.{cellOr, piecesOn, setting, settingOf, startOf, Accepted}
+use Rattle.expansion.specs.Plots.{IsCutting, HasFreeCell, AllEdgeJoined}
+use Rattle.expansion.specs.Parts.{stepOf}
 use Rattle.expansion.specs.AcceptedLaws.{accepted-laws, accepted-steps, accepted-at, start-accepted}
 
 module _ (b : Board) (paths : List Path) (good : So (valid b)) where

@@ -1,5 +1,5 @@
--- What `judge` and `expand` tell their callers: neither board nor tiles are refused, or the refusal; and of a board of the start all children, in order.
--- Numbers below a bound by their places. Rests on `Plots`, `AcceptedLaws`, `SettingLaws` and the laws of `cells`, `tiles`, `board` and `children`. Assumes nothing.
+-- What the calls tell their callers: neither board nor tiles are refused, or the refusal; the words for the children; and of a board of the start all
+-- children, in order; and numbers below a bound, by their places. Rests on `Plots`, `Parts`, `AcceptedLaws`, `SettingLaws` and the laws of `cells`, `tiles`, `board` and `children`. Assumes nothing.
 use mathlib.Core.Path.{_≡_, refl, sym, ap, _∙_, subst}
 use mathlib.Core.Bool.{So}
 use mathlib.Core.List.{List, [], List·Memᴰ as Mem}
@@ -9,18 +9,16 @@ use native.Mathlib.Omega.{arith}
 use borrow.Author.Tests.{le-leb}
 use lib.ListN.{length, getD, take, List·getD-eq-default}
 use lib.Pow.{pow-pos}
-use lib.Seq.{take-all}
-use Rattle.cells.specs.Arrays.{listOf}
-use Rattle.cells.specs.ArrayLaws.{listOf-eta}
+use lib.Seq.{length-take-le}
+use Rattle.cells.specs.Lists.{listOf, setAt, wordsFor}
 use Rattle.cells.specs.FirstsLaws.{mem-getD}
-use Rattle.cells.specs.Lists.{setAt, storedIn}
-use Rattle.cells.specs.ListLaws.{setAt-storedIn}
+use Rattle.cells.specs.ListLaws.{sets-wordsFor}
 use Rattle.refusal.specs.declared.Refusal.{Refusal}
 use Rattle.refusal.specs.Refusal.{Answer, refused, given, mapAnswer, bindAnswer, refusalNumber, valueOr}
 use Rattle.refusal.specs.RefusalLaws.{refused-given, given-inj, refused-inj}
 use Rattle.tiles.specs.declared.Tiles.{Tiles}
 use Rattle.tile.specs.Path.{Path}
-use Rattle.tiles.specs.Stored.{pathsIn, readTiles}
+use Rattle.tiles.specs.Paths.{pathsIn, readTiles}
 use Rattle.tiles.specs.ReadLaws.{readTiles-storable}
 use Rattle.tiles.specs.EqualLaws.{readEqualTiles-given}
 use Rattle.board.specs.declared.RectangularBoard.{RectangularBoard}
@@ -28,14 +26,16 @@ use Rattle.rectangle.specs.Board.{Board, boardAt, valid}
 use Rattle.board.specs.Board.{boardOf}
 use Rattle.children.specs.Children.{children, childrenOf, placeTile}
 use Rattle.rectangle.specs.BoardLaws.{acceptBoard-given}
-use Rattle.children.specs.ChildLaws.{child-lt}
+use Rattle.fit.specs.Parts.{mostChildren}
+use Rattle.children.specs.ChildLaws.{child-lt, length-children}
 use Rattle.children.specs.WriteLaws.{few-children}
 use Rattle.board.specs.BoardLaws.{with-within}
-use Rattle.covers.specs.Cuttings.{childBoards}
+use Rattle.covers.specs.Setting.{childBoards}
 use Rattle.expansion.specs.declared.Judged.{Judged}
 use Rattle.expansion.specs.declared.Judged.the-variants as J
-use Rattle.expansion.specs.Boards.{From, settingOf}
-use Rattle.expansion.specs.Plots.{readPlot, Accepted, stepOf, judgedAnswer, markedBoard, Expands}
+use Rattle.expansion.specs.Boards.{From, settingOf, Accepted}
+use Rattle.expansion.specs.Plots.{acceptPlot}
+use Rattle.expansion.specs.Parts.{stepOf, judgedAnswer, markedBoard, Expands, childWords}
 use Rattle.expansion.specs.SettingLaws.{children-are}
 use Rattle.expansion.specs.AcceptedLaws.{read-accepted}
 
@@ -47,26 +47,26 @@ steps p = stepOf (p .1)
 
 module _ (b : RectangularBoard) (ts : Tiles) (r : Judged) where
   -- neither is refused, and the number is the step
-  pub judged-size : (n : ℕ) → judgedAnswer r ≡ mapAnswer (λ p. stepOf (p .1)) (readPlot b ts) → r ≡ J.Size n
-      → Accepted b ts × (n ≡ stepOf (pathsIn ts)) × (readPlot b ts ≡ given (boardOf b, pathsIn ts))
+  pub judged-size : (n : ℕ) → judgedAnswer r ≡ mapAnswer (λ p. stepOf (p .1)) (acceptPlot b ts) → r ≡ J.Size n
+      → Accepted b ts × (n ≡ stepOf (pathsIn ts)) × (acceptPlot b ts ≡ given (boardOf b, pathsIn ts))
   unfolding mapAnswer
-  judged-size n e f = go (readPlot b ts) refl
+  judged-size n e f = go (acceptPlot b ts) refl
     where
-      told : given n ≡ mapAnswer steps (readPlot b ts)
+      told : given n ≡ mapAnswer steps (acceptPlot b ts)
       told = sym (ap judgedAnswer f) ∙ e
 
-      go : (a : Answer (Board × List Path)) → readPlot b ts ≡ a
-          → Accepted b ts × (n ≡ stepOf (pathsIn ts)) × (readPlot b ts ≡ given (boardOf b, pathsIn ts))
+      go : (a : Answer (Board × List Path)) → acceptPlot b ts ≡ a
+          → Accepted b ts × (n ≡ stepOf (pathsIn ts)) × (acceptPlot b ts ≡ given (boardOf b, pathsIn ts))
       go (refused k) q = absurd (refused-given k n (sym (told ∙ ap (mapAnswer steps) q)))
       go (given p) q =
           let r = read-accepted b ts p q in
           (r .1, given-inj n (stepOf (p .1)) (told ∙ ap (mapAnswer steps) q) ∙ ap steps (r .0), q ∙ ap given (r .0))
 
   -- board or tiles are refused
-  pub judged-refused : (q : Refusal) → judgedAnswer r ≡ mapAnswer (λ p. stepOf (p .1)) (readPlot b ts) → r ≡ J.Refused q
-      → readPlot b ts ≡ refused (refusalNumber q)
+  pub judged-refused : (q : Refusal) → judgedAnswer r ≡ mapAnswer (λ p. stepOf (p .1)) (acceptPlot b ts) → r ≡ J.Refused q
+      → acceptPlot b ts ≡ refused (refusalNumber q)
   unfolding mapAnswer
-  judged-refused q e f = go (readPlot b ts) (sym (ap judgedAnswer f) ∙ e)
+  judged-refused q e f = go (acceptPlot b ts) (sym (ap judgedAnswer f) ∙ e)
     where
       go : (a : Answer (Board × List Path)) → refused (refusalNumber q) ≡ mapAnswer steps a → a ≡ refused (refusalNumber q)
       go (refused n) s = ap refused (sym (refused-inj (refusalNumber q) n s))
@@ -88,10 +88,6 @@ small-at = below-at (2 ^ 256) (pow-pos 256)
 
 -- ---- the children of a board
 
--- sets in front of words that have room for all are read back
-read-back : (ns ws : List ℕ) → 4 * length ns ≤ length ws → ((i : ℕ) → getD ns i 0 < 2 ^ 256) → listOf (setAt (storedIn ns ws)) (length ns) ≡ ns
-read-back ns ws r s = sym (listOf-eta 0 ns (setAt (storedIn ns ws)) (length ns) refl (λ i h. sym (setAt-storedIn ns ws i h r (s i))))
-
 module _ (b : Board) (ts : Tiles) (paths : List Path) (ok : So (valid b)) (e : readTiles ts ≡ given paths) where
   given-children : childrenOf b ts ≡ given (children b paths)
   unfolding childrenOf bindAnswer mapAnswer
@@ -101,51 +97,67 @@ module _ (b : Board) (ts : Tiles) (paths : List Path) (ok : So (valid b)) (e : r
   unfolding placeTile bindAnswer
   given-placed m h = rw (given-children, le-leb (length (children b paths)) (m / 4) h)
 
+-- ---- `child_words`
+
+-- accepted tiles are read
+accepted-read : (b : RectangularBoard) (ts : Tiles) → Accepted b ts → readTiles ts ≡ given (pathsIn ts)
+accepted-read b ts ok = readEqualTiles-given ts (pathsIn ts) (ok .tiles) .0
+
+-- their words, at most 8,448
+pub child-words : (b : RectangularBoard) (ts : Tiles) → Accepted b ts → (r : ℕ) → r ≡ childWords ts → (r ≡ 4 * mostChildren (pathsIn ts)) × (r ≤ 8448)
+unfolding childWords mapAnswer valueOr
+child-words b ts ok r e =
+    let read = accepted-read b ts ok in
+    let is : r ≡ 4 * mostChildren (pathsIn ts) = e ∙ ap (λ (a : Answer (List Path)). valueOr 0 (mapAnswer (λ paths. 4 * mostChildren paths) a)) read in
+    let stored = readTiles-storable ts (pathsIn ts) read in
+    let few = few-children (pathsIn ts) (stored .1) (λ p k. stored .0 p k .0) in
+    (is, omega arith)
+
+-- so many of 8,448 words hold the children of any board
+pub child-part : (b : RectangularBoard) (ts : Tiles) → Accepted b ts → (r : ℕ) → r ≡ childWords ts → (ws : List ℕ) → length ws ≡ 8448
+    → (r ≡ length (take r ws)) × (4 * mostChildren (pathsIn ts) ≤ length (take r ws))
+child-part b ts ok r e ws long =
+    let w = child-words b ts ok r e in
+    let is : length (take r ws) ≡ r = length-take-le r ws (omega (arith, w .1)) in
+    (sym is, omega (arith, w .0))
+
 -- ---- `expand`
 
 -- the board with these marks
 pub marked-from : (b : RectangularBoard) (m : ℕ) → From (boardOf b) m → markedBoard b m ≡ boardAt (boardOf b) m
 marked-from b m from = with-within (boardOf b) m (from .small) (from .above)
 
--- of accepted board and tiles, a board of the start and 8,448 words or more: the number of the children, and the children in order in front of the words
-module _ (b : RectangularBoard) (ts : Tiles) (ok : Accepted b ts) (m : ℕ) (from : From (boardOf b) m) (old new : List ℕ) (room : 8448 ≤ length old)
-    (r : ℕ) (x : Expands b ts m old new r) where
+-- of accepted board and tiles, a board of the start and words for as many children as there can be: the number of the children, and the children in order
+-- in front of the words
+module _ (b : RectangularBoard) (ts : Tiles) (ok : Accepted b ts) (m : ℕ) (from : From (boardOf b) m) (old new : List ℕ)
+    (room : 4 * mostChildren (pathsIn ts) ≤ length old) (r : ℕ) (x : Expands b ts m old new r) where
   abbrev at : Board
   at = boardAt (boardOf b) m
 
   abbrev all : List ℕ
   all = children at (pathsIn ts)
 
-  read : readTiles ts ≡ given (pathsIn ts)
-  read = readEqualTiles-given ts (pathsIn ts) (ok .tiles) .0
-
   fits : length all ≤ length old / 4
-  fits =
-      let stored = readTiles-storable ts (pathsIn ts) read in
-      let few = few-children at (pathsIn ts) (stored .1) (λ p k. stored .0 p k .0) in
-      omega arith
+  fits = omega (arith, length-children at (pathsIn ts))
+
+  placed : valueOr [] (placeTile (markedBoard b m) ts (length old)) ≡ all
+  unfolding valueOr
+  placed =
+      ap (λ (d : Board). valueOr [] (placeTile d ts (length old))) (marked-from b m from)
+      ∙ ap (valueOr []) (given-placed at ts (pathsIn ts) (from .accepted) (accepted-read b ts ok) (length old) fits)
 
   many : r ≡ length all
-  unfolding valueOr
-  many =
-      x .number
-      ∙ ap (λ (d : Board). length (valueOr [] (placeTile d ts (length old)))) (marked-from b m from)
-      ∙ ap (λ (a : Answer (List ℕ)). length (valueOr [] a)) (given-placed at ts (pathsIn ts) (from .accepted) read (length old) fits)
+  many = x .number ∙ ap length placed
 
-  written : new ≡ storedIn all old
-  unfolding valueOr
-  written =
-      x .words
-      ∙ ap (λ (d : Board). storedIn (take (length old / 4) (valueOr [] (childrenOf d ts))) old) (marked-from b m from)
-      ∙ ap (λ (a : Answer (List ℕ)). storedIn (take (length old / 4) (valueOr [] a)) old) (given-children at ts (pathsIn ts) (from .accepted) read)
-      ∙ ap (λ (ns : List ℕ). storedIn ns old) (take-all (length old / 4) all fits)
+  written : new ≡ wordsFor all (length old)
+  written = x .words ∙ ap (λ (ns : List ℕ). wordsFor ns (length old)) placed
 
   pub expanded-children : (r ≡ length (childBoards (settingOf b ts) m)) × (listOf (setAt new) r ≡ childBoards (settingOf b ts) m)
   expanded-children =
       subst (λ (ns : List ℕ). (r ≡ length ns) × (listOf (setAt new) r ≡ ns)) (sym (children-are (boardOf b) (pathsIn ts) m)) (
         many,
         ap (listOf (setAt new)) many ∙ ap (λ (ws : List ℕ). listOf (setAt ws) (length all)) written
-            ∙ read-back all old (let f = fits in omega arith) (small-at all (child-lt at (pathsIn ts))),
+            ∙ sets-wordsFor all (length old) (let f = fits in omega arith) (small-at all (child-lt at (pathsIn ts))),
       )
 
 -- ---- a contract and what follows from it

@@ -10,10 +10,10 @@ use Prim.Native.Nat.{ℕ, _+_, _-_, _^_, _≤_, _<_}
 use native.Mathlib.Nat.{lt-of-le-of-lt}
 use native.Mathlib.Decide.{decLt}
 use native.Mathlib.Omega.{arith}
-use Rattle.cells.specs.Set.{bit, hasCell, fromBits, unionOf, Disjoint, Within, size}
-use Rattle.cells.specs.BitLaws.{bit-le, bit-ext, bit-high, bit-add, fromBits-lt, bit-fromBits}
+use Rattle.cells.specs.Set.{bit, hasCell, fromBits, unionOf, size}
+use Rattle.cells.specs.BitLaws.{Disjoint, Within, bit-le, bit-ext, bit-high, bit-add, fromBits-lt, bit-fromBits}
 use Rattle.cells.specs.SetLaws.{within-le, hasCell-iff, bit-unionOf, unionOf-lt, unionOf-disjoint, bit-sub, digit, bit-free}
-use Rattle.cells.specs.Firsts.{Once}
+use Rattle.cells.specs.FirstsLaws.{Once}
 use Rattle.cells.specs.MemberLaws.{eqb-tells}
 use Rattle.tile.specs.Path.{Path, cellCount}
 use Rattle.rectangle.specs.Board.{Board, boardAt, marks, isFree, isFull, valid, freeCount, lay}
@@ -24,8 +24,8 @@ use Rattle.rectangle.specs.BoardLaws.{marks-lt, none-full, full-none, valid-wid
 use Rattle.choice.specs.ChosenLaws.{chosen-best, chosen-none}
 use Rattle.fit.specs.PieceLaws.{mem-pieces, once-pieces}
 use Rattle.fit.specs.LayLaws.{piece-lt, piece-apart, marks-lay, lay-valid, piece-iff, piece-some, piece-size, lay-free, lay-count}
-use Rattle.covers.specs.Cuttings.{FitsOn, childBoards, Laws, EqualSteps}
-use Rattle.graph.specs.Result.{stepPiece}
+use Rattle.covers.specs.Setting.{FitsOn, childBoards, Laws, EqualSteps}
+use Rattle.graph.specs.Graph.{stepPiece}
 use Rattle.rectangle.specs.FreeLaws.{free-lt, full-marks}
 use Rattle.tile.specs.PathLaws.{cellCount-pos}
 use Rattle.expansion.specs.Boards.{From, cellOr, piecesOn, setting}

@@ -11,10 +11,13 @@
 // of fixed size that is too short.
 // After any refusal every lent word and byte is zero.
 ghost use lib.ListN.{length};
-ghost use Rattle.graph.specs.Rooms.{layerRoom};
-ghost use Rattle.host_plots.specs.Calls.{placed, AnswersChildren, orbitFor, AnswersTiles, readFile, AnswersPlot};
+ghost use Rattle.graph.specs.Graph.{layerRoom};
+ghost use Rattle.host_plots.specs.Calls.{placed, orbitFor, readFile, AnswersPlot};
 ghost use Rattle.host_counts.specs.Calls.{counted, AnswersCount, generated, AnswersGraph};
-ghost use Rattle.host_tilings.specs.Calls.{searched, AnswersSingle, numbered, AnswersList};
+ghost use Rattle.host_tilings.specs.Calls.{searched, AnswersSingle, numbered};
+ghost use Rattle.host_words.specs.Layout.{AnswersList};
+ghost use Rattle.host_tiles.specs.TileBytes.{bytesFor};
+ghost use Rattle.cells.specs.Lists.{padded, wordsFor};
 
 // The children of a board, four words each, zeros behind. Answer: their number.
 #[no_mangle]
@@ -27,7 +30,7 @@ pub extern "C" fn cuttings_place_tile(
     answer: &mut [u64],
 ) -> u64
     ensures { λ r.
-        ⌜ AnswersChildren (placed width height (now (marks .entry)) (now (tiles .entry)) (length (now (out .entry))) (length (now (answer .entry))))
+        ⌜ AnswersList wordsFor (placed width height (now (marks .entry)) (now (tiles .entry)) (length (now (out .entry))) (length (now (answer .entry))))
         (now (out .entry)) (now (answer .entry)) (now (out .exit)) (now (answer .exit)) r ⌝ }
 {
     host_plots::place_tile(width, height, marks, tiles, out, answer)
@@ -117,7 +120,7 @@ pub extern "C" fn cuttings_tiling(
     answer: &mut [u64],
 ) -> u64
     ensures { λ r.
-        ⌜ AnswersList (numbered (length (now (nodes .entry))) (now (counts .entry)) (now (edges .entry)) (now (graph .entry)) (now (m .entry))
+        ⌜ AnswersList padded (numbered (length (now (nodes .entry))) (now (counts .entry)) (now (edges .entry)) (now (graph .entry)) (now (m .entry))
         (length (now (out .entry))) (length (now (answer .entry)))) (now (out .entry)) (now (answer .entry)) (now (out .exit)) (now (answer .exit)) r ⌝ }
 {
     host_tilings::tiling(nodes, counts, edges, graph, m, out, answer)
@@ -127,7 +130,7 @@ pub extern "C" fn cuttings_tiling(
 #[no_mangle]
 pub extern "C" fn cuttings_orbit(tile: &[u8], tiles: &mut [u8], answer: &mut [u64]) -> u64
     ensures { λ r.
-        ⌜ AnswersTiles (orbitFor (now (tile .entry)) (length (now (tiles .entry))) (length (now (answer .entry))))
+        ⌜ AnswersList bytesFor (orbitFor (now (tile .entry)) (length (now (tiles .entry))) (length (now (answer .entry))))
         (now (tiles .entry)) (now (answer .entry)) (now (tiles .exit)) (now (answer .exit)) r ⌝ }
 {
     host_plots::orbit(tile, tiles, answer)

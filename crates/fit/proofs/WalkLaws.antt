@@ -10,27 +10,26 @@ use lib.IntN.{pos}
 use lib.ListN.{length, getD, drop, drop-of-length-le}
 use lib.Seq.{drop-cons}
 use Rattle.cells.specs.declared.Cells.{Cells}
-use Rattle.cells.specs.Set.{hasCell, withCell}
-use Rattle.cells.specs.Words.{value, number}
+use Rattle.cells.specs.Set.{hasCell, withCell, value, number}
 use Rattle.cells.specs.ListLaws.{value-none}
 use Rattle.refusal.specs.declared.Refusal.{Refusal}
 use Rattle.refusal.specs.Refusal.{refused, given, refusalNumber}
 use Rattle.direction.specs.declared.Code.{Code}
 use Rattle.direction.specs.declared.Code.the-variants as Codes
-use Rattle.direction.specs.Position.{Position, at, shift}
-use Rattle.direction.specs.Direction.{step, opposite, onCode, codeAnswer}
+use Rattle.direction.specs.Direction.{Position, at, shift, step, opposite, onCode, codeAnswer}
 use Rattle.direction.specs.DirectionLaws.{onCode-given, opposite-lt}
 use Rattle.tile.specs.Path.{codesOk, isPath, Path}
 use Rattle.tile.specs.StoredLaws.{isPath-is}
 use Rattle.rectangle.specs.declared.Place.{Place}
 use Rattle.rectangle.specs.declared.Place.the-variants as P
-use Rattle.rectangle.specs.Board.{cellOf, inside, freeIn}
-use Rattle.rectangle.specs.Place.{placeAnswer, placeIf, placeAfter}
+use Rattle.rectangle.specs.Board.{cellOf, inside}
+use Rattle.rectangle.specs.Parts.{freeIn, placeAnswer, placeIf, placeAfter}
 use Rattle.rectangle.specs.BoardLaws.{inside-iff}
 use Rattle.rectangle.specs.PlaceLaws.{Placed, place-false, place-placed, place-true, placed, placed-cell, placeAfter-is}
 use Rattle.fit.specs.declared.Fit.{Fit}
 use Rattle.fit.specs.declared.Fit.the-variants as F
-use Rattle.fit.specs.Fit.{cover, moved, offset, pointAt, fitPieces}
+use Rattle.fit.specs.Fit.{cover, moved, offset, pointAt}
+use Rattle.fit.specs.Parts.{fitPieces}
 use Rattle.fit.specs.Inner.{back, onward, walked}
 use Rattle.fit.specs.FitLaws.{cover-free, cover-blocked, cover-end, cover-append, walked-moved}
 

@@ -1,21 +1,17 @@
 -- Definitions: pieces, and the fit of a path with one of its points on a cell. What stands in quotation marks is 01's, from its section Children.
 -- Assumes nothing.
 use mathlib.Core.Path.{_≡_}
-use mathlib.Core.Bool.{Bool, So, not, cond, _&&_}
+use mathlib.Core.Bool.{Bool, So, not, cond}
 use mathlib.Core.List.{List, [], _∷_, map, flatMap, List·Memᴰ as Mem}
 use Prim.Native.Nat.{ℕ, _+_}
-use lib.Dec.{eqb, leb}
+use lib.Dec.{eqb}
 use lib.IntN.{_+ℤ_, negℤ}
 use lib.ListN.{length, getD}
 use Rattle.cells.specs.Set.{withCell}
-use Rattle.cells.specs.Words.{value}
-use Rattle.cells.specs.Firsts.{any, firsts}
-use Rattle.cells.specs.Arrays.{listOf}
-use Rattle.direction.specs.Position.{Position, at, origin, shift}
-use Rattle.tile.specs.Path.{isPath, Path, points, cells}
-use Rattle.rectangle.specs.Board.{freeIn, Board, cellOf, positionOf, freeAt, sizeOk}
-use Rattle.fit.specs.declared.Fit.{Fit}
-use Rattle.fit.specs.declared.Fit.the-variants as F
+use Rattle.cells.specs.Lists.{any, firsts, listOf}
+use Rattle.direction.specs.Direction.{Position, at, origin, shift}
+use Rattle.tile.specs.Path.{Path, points, cells}
+use Rattle.rectangle.specs.Board.{Board, cellOf, positionOf, freeAt}
 
 -- ---- pieces
 
@@ -65,27 +61,3 @@ fitsOf b cell path = flatMap (λ j. fitAt b path j cell) (listOf (λ j. j) (leng
 unfoldable pub pieces : Board → List Path → ℕ → List ℕ
 unfolding firsts flatMap fitsOf
 pieces b paths cell = firsts eqb (flatMap (fitsOf b cell) paths)
-
--- ---- `tile_fits_at_position`
-
--- the piece that some codes make as a path, with point j on a cell of a rectangle with some marks; none for a size that no board has, for codes that
--- are no path, and for a point that the path does not have
-unfoldable pub fitIn : ℕ → ℕ → ℕ → List ℕ → ℕ → ℕ → List ℕ
-unfolding sizeOk isPath cover freeIn points cells
-fitIn w h m codes j cell = cond (sizeOk w h && (isPath codes && leb j (length codes))) (cover (freeIn w h m) 0 (moved (offset (pointAt codes j) (positionOf cell)) codes)) []
-
--- the same on a board
-unfoldable pub fitFor : Board → List ℕ → ℕ → ℕ → List ℕ
-unfolding sizeOk isPath fitAt
-fitFor b codes j cell = cond (sizeOk (b .width) (b .height) && (isPath codes && leb j (length codes))) (fitAt b codes j cell) []
-
-abbrev pub fitPieces : Fit → List ℕ
-fitPieces (F.Piece w0 w1 w2 w3) = value (w0 ∷ w1 ∷ w2 ∷ w3 ∷ []) ∷ []
-fitPieces F.Nothing = []
-
--- ---- words that the laws use
-
--- "Children never exceed the sum of k + 1 over the tiles"
-unfoldable pub mostChildren : List Path → ℕ
-mostChildren [] = 0
-mostChildren (path ∷ paths) = length path + 1 + mostChildren paths

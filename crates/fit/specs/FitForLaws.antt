@@ -8,11 +8,14 @@ use borrow.Author.Tests.{le-leb, lt-leb, leb-true}
 use lib.Dec.{leb}
 use lib.ListN.{length}
 use Rattle.cells.specs.Set.{size}
-use Rattle.direction.specs.Position.{Position}
+use Rattle.direction.specs.Direction.{Position}
 use Rattle.tile.specs.Path.{isPath}
-use Rattle.rectangle.specs.Board.{freeIn, marks, Board, positionOf, inside, freeAt, sizeOk}
+use Rattle.rectangle.specs.Parts.{freeIn}
+use Rattle.rectangle.specs.Board.{marks, Board, positionOf, inside, freeAt, sizeOk}
 use Rattle.rectangle.specs.BoardLaws.{sizeOk-le, freeIn-freeAt}
-use Rattle.fit.specs.Fit.{fitIn, cover, moved, offset, pointAt, fitAt, fitFor}
+use Rattle.fit.specs.Parts.{fitIn}
+use Rattle.fit.specs.Fit.{cover, moved, offset, pointAt, fitAt}
+use Rattle.fit.specs.Inner.{fitFor}
 use Rattle.fit.specs.FitLaws.{mem-cover, cover-ext}
 use Rattle.fit.specs.PieceLaws.{fit-on}
 

@@ -14,11 +14,10 @@ use lib.IntN.{ℤ, _+ℤ_, negℤ, +ℤ-comm, +ℤ-negℤ-cancel, -ℤ-+ℤ-canc
 use Rattle.cells.specs.Set.{bit, withCell}
 use Rattle.cells.specs.BitLaws.{bit-le, bit-ext, zero-bit}
 use Rattle.cells.specs.SetLaws.{withCell-old, withCell-past, withCell-lt, bit-withCell-same, bit-withCell-other}
-use Rattle.cells.specs.Firsts.{any, firsts}
+use Rattle.cells.specs.Lists.{any, firsts}
 use Rattle.cells.specs.FirstsLaws.{so-eq, any-true, any-some, mem-firsts}
-use Rattle.direction.specs.Position.{Position, at, origin, shift, samePosition}
+use Rattle.direction.specs.Direction.{Position, at, origin, shift, samePosition, step, opposite}
 use Rattle.direction.specs.PositionLaws.{samePosition-iff, shift-origin, shift-shift}
-use Rattle.direction.specs.Direction.{step, opposite}
 use Rattle.direction.specs.DirectionLaws.{step-opposite}
 use Rattle.tile.specs.Path.{Path, points}
 use Rattle.tile.specs.PathLaws.{cells-shift}

@@ -10,15 +10,16 @@ use borrow.Author.Tests.{not-true}
 use lib.Dec.{eqb}
 use lib.Pow.{pow-pos}
 use mathlib.Core.Logic.{_↔_}
-use Rattle.cells.specs.Set.{bit, hasCell, unionOf, Disjoint, size}
-use Rattle.cells.specs.BitLaws.{bit-le, bit-ext, bit-high, bit-add, add-lt, zero-bit}
+use Rattle.cells.specs.Set.{bit, hasCell, unionOf, size}
+use Rattle.cells.specs.BitLaws.{Disjoint, bit-le, bit-ext, bit-high, bit-add, add-lt, zero-bit}
 use Rattle.cells.specs.SetLaws.{hasCell-false, bit-unionOf, unionOf-lt, size-add, bit-free, hasCell-iff, digit}
-use Rattle.cells.specs.Arrays.{allBelow}
+use Rattle.cells.specs.Lists.{allBelow}
 use Rattle.cells.specs.ArrayLaws.{allBelow-all}
-use Rattle.direction.specs.Position.{Position, origin, shift}
+use Rattle.direction.specs.Direction.{Position, origin, shift}
 use Rattle.tile.specs.Path.{Path, cellCount}
 use Rattle.tile.specs.PathLaws.{cells-origin}
-use Rattle.rectangle.specs.Board.{Board, cellOf, positionOf, inside, marks, isMarked, freeAt, sizeOk, markOk, valid, lay, bare, isFree, freeSet, freeCount}
+use Rattle.rectangle.specs.Board.{Board, cellOf, positionOf, inside, marks, isMarked, freeAt, sizeOk, markOk, valid, lay, isFree, freeSet, freeCount}
+use Rattle.fit.specs.Inner.{bare}
 use Rattle.rectangle.specs.BoardLaws.{positionOf-cellOf, freeAt-inside, marks-lt, isMarked-marks, valid-size, valid-mark, valid-width, valid-height, cellOf-lt, hasCell-freeSet, freeSet-lt}
 use Rattle.rectangle.specs.FreeLaws.{bit-freeSet, free-iff, free-lt}
 use Rattle.fit.specs.Fit.{withCells, moved, Fits, IsPiece}

@@ -13,19 +13,18 @@ use lib.ListN.{length, length-append, length-map}
 use Rattle.cells.specs.Set.{bit, hasCell, withCell, size}
 use Rattle.cells.specs.BitLaws.{zero-bit}
 use Rattle.cells.specs.SetLaws.{hasCell-iff, bit-withCell-other, size-zero, size-withCell-new}
-use Rattle.cells.specs.Firsts.{Once}
-use Rattle.cells.specs.FirstsLaws.{mem-getD, mem-firsts, once-firsts, length-addFirsts}
-use Rattle.cells.specs.Arrays.{listOf}
+use Rattle.cells.specs.FirstsLaws.{Once, mem-getD, mem-firsts, once-firsts, length-addFirsts}
+use Rattle.cells.specs.Lists.{listOf}
 use Rattle.cells.specs.ArrayLaws.{length-listOf}
 use Rattle.cells.specs.MemberLaws.{eqb-tells, mem-place, mem-listOf, mem-flatMap, length-flatMap}
-use Rattle.direction.specs.Position.{Position, origin, shift, samePosition}
+use Rattle.direction.specs.Direction.{Position, origin, shift, samePosition, step}
 use Rattle.direction.specs.PositionLaws.{samePosition-iff}
-use Rattle.direction.specs.Direction.{step}
 use Rattle.tile.specs.Path.{Path, points, cells, cellCount}
 use Rattle.tile.specs.PathLaws.{cells-shift}
 use Rattle.rectangle.specs.Board.{Board, cellOf, positionOf, inside, freeAt}
 use Rattle.rectangle.specs.BoardLaws.{cellOf-lt, positionOf-cellOf, cellOf-inj, cellOf-positionOf, freeAt-inside}
-use Rattle.fit.specs.Fit.{withCells, cover, moved, offset, pointAt, Fits, IsPiece, fitAt, fitsOf, pieces, mostChildren}
+use Rattle.fit.specs.Fit.{withCells, cover, moved, offset, pointAt, Fits, IsPiece, fitAt, fitsOf, pieces}
+use Rattle.fit.specs.Parts.{mostChildren}
 use Rattle.fit.specs.FitLaws.{mem-cover, length-cover, bit-withCells-past, bit-withCells-new, bit-withCells-iff, offset-takes, offset-only}
 
 -- ---- the points of a path stand on its moved cells

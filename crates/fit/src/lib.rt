@@ -1,9 +1,9 @@
 // The fit: where a path lies with one of its points on a cell. Nothing is asked of a caller: any marks,
-// numbers and codes have an answer, which is a definition of specs/Fit.antt.
+// numbers and codes have an answer, which is a definition of specs/Parts.antt.
 use cells::Cells;
 ghost use mathlib.Core.Path.{_≡_};
-ghost use Rattle.cells.specs.Words.{number};
-ghost use Rattle.fit.specs.Fit.{fitIn, fitPieces};
+ghost use Rattle.cells.specs.Set.{number};
+ghost use Rattle.fit.specs.Parts.{fitIn, fitPieces};
 
 mod walk;
 

@@ -9,13 +9,12 @@ ghost use mathlib.Core.Bool.{So};
 ghost use Prim.Native.Nat.{_≤_, _<_};
 ghost use lib.IntN.{pos};
 ghost use lib.ListN.{length, drop};
-ghost use Rattle.cells.specs.Words.{number};
-ghost use Rattle.direction.specs.Position.{at, shift};
-ghost use Rattle.direction.specs.Direction.{step, opposite};
+ghost use Rattle.cells.specs.Set.{number};
+ghost use Rattle.direction.specs.Direction.{at, shift, step, opposite};
 ghost use Rattle.tile.specs.Path.{codesOk};
-ghost use Rattle.rectangle.specs.Board.{freeIn};
-ghost use Rattle.rectangle.specs.Place.{placeAnswer, placeIf};
-ghost use Rattle.fit.specs.Fit.{cover, moved, offset, pointAt, fitPieces};
+ghost use Rattle.rectangle.specs.Parts.{freeIn, placeAnswer, placeIf};
+ghost use Rattle.fit.specs.Fit.{cover, moved, offset, pointAt};
+ghost use Rattle.fit.specs.Parts.{fitPieces};
 ghost use Rattle.fit.specs.Inner.{back, onward};
 
 // Where one step from a place leads, if that place has no mark.

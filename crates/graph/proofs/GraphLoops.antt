@@ -7,13 +7,13 @@ use native.Mathlib.Omega.{arith}
 use borrow.Author.Tests.{lt-ltb, le-ltb, le-leb, lt-leb}
 use lib.ListN.{length, getD, set, take, drop, length-append, length-set}
 use lib.Seq.{getD-append-seam, getD-set-same, getD-set-other}
-use Rattle.cells.specs.Arrays.{listFrom, listOf}
+use Rattle.cells.specs.Lists.{listFrom, listOf, padded}
+use Rattle.cells.specs.Parts.{clearedFrom}
 use Rattle.cells.specs.ArrayLaws.{getD-snoc, listOf-snoc}
-use Rattle.cells.specs.Lists.{clearedFrom}
 use Rattle.refusal.specs.Refusal.{given, mapAnswer, valueOr}
 use Rattle.refusal.specs.declared.Refusal.the-variants as R
 use Rattle.graph.specs.declared.Edges.the-variants as E
-use Rattle.graph.specs.Graph.{nodePart, edgeAt, edgesIn, edgesFrom, getEdges, numbersFor, GetsEdges}
+use Rattle.graph.specs.Graph.{nodePart, edgeAt, edgesIn, edgesFrom, getEdges, GetsEdges}
 use Rattle.graph.specs.Inner.{StandsIn}
 use Rattle.graph.specs.GraphLaws.{edgesFrom-more, edgesFrom-other, cleared-numbers}
 
@@ -150,5 +150,5 @@ module _ (ws : List ℕ) (n v : ℕ) (old : List ℕ) (count : ℕ) (e : count �
             (f
             ∙ ap (λ (k : ℕ). clearedFrom k mid) e
             ∙ cleared-numbers mid (edgesFrom (edgesIn ws n) v) (omega (arith, e, l)) (λ k a. s k a (omega (arith, e, l)))
-            ∙ ap (numbersFor (edgesFrom (edgesIn ws n) v)) l);
+            ∙ ap (padded (edgesFrom (edgesIn ws n) v)) l);
       }

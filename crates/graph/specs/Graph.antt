@@ -1,15 +1,55 @@
--- Definitions: a graph in lent words. Nodes are boards, four words each; edges are pairs of words. What stands in quotation marks is 01's, from its
--- section The graph. Assumes nothing.
-use mathlib.Core.Path.{_≡_}
-use mathlib.Core.Bool.{cond}
-use mathlib.Core.List.{List, [], _∷_}
-use Prim.Native.Nat.{ℕ, _+_, _*_, _/_, _%_, min}
+-- Definitions: how many boards, nodes or edges lent words hold; a graph in lent words, nodes as boards of four words and edges as pairs of words; the result
+-- of a graph, its count, and the cutting that a list of its nodes gives. What stands in quotation marks is 01's, from its sections on the layer count, the
+-- graph and the tiling by number; "quotients drop their remainder". Assumes nothing.
+use Prim.Native.Nat.{ℕ, _/_, min, _+_, _*_}
+use Rattle.path_count.specs.PathCounts.{countRoom, countIn}
+use mathlib.Core.Bool.{cond, Bool, not, _&&_}
+use mathlib.Core.List.{List, [], _∷_, flatMap, map}
 use lib.Dec.{eqb, ltb, leb}
 use lib.ListN.{length, getD, take, drop}
-use Rattle.cells.specs.Arrays.{listOf}
-use Rattle.refusal.specs.Refusal.{Answer, refused, given, mapAnswer, refusalNumber, valueOr}
+use Rattle.cells.specs.Lists.{listOf, padded, holds, setAt}
+use Rattle.refusal.specs.Refusal.{Answer, refused, given, refusalNumber, Leaves}
 use Rattle.graph.specs.declared.Edges.{Edges}
 use Rattle.graph.specs.declared.Edges.the-variants as E
+use mathlib.Core.Option.{Option, none, some}
+use Rattle.cells.specs.Set.{hasCell, setOf}
+use Rattle.covers.specs.Counts.{atNode, piecesOf}
+use Rattle.graph.specs.declared.Complete.{Complete}
+use Rattle.graph.specs.declared.Complete.the-variants as N
+
+-- "a room for boards, nodes or edges above 16,777,216 counts as that"
+abbrev pub roomLimit : ℕ
+roomLimit = 16777216
+
+-- a room with this limit
+unfoldable pub roomOf : ℕ → ℕ
+roomOf n = min n roomLimit
+
+-- "Room is the boards that each of two lent layers holds (the least of both layers' words ÷ 4 and of both layers' count words […])"
+unfoldable pub layerRoom : ℕ → ℕ → ℕ → ℕ → ℕ
+unfolding roomOf countRoom
+layerRoom boardsA countsA boardsB countsB = roomOf (min (min (boardsA / 4) (countRoom countsA)) (min (boardsB / 4) (countRoom countsB)))
+
+-- how many nodes the node words and the count words hold: "node words ÷ 4 or the count words"
+unfoldable pub nodeRoom : ℕ → ℕ → ℕ
+unfolding roomOf countRoom
+nodeRoom nodeWords countWords = roomOf (min (nodeWords / 4) (countRoom countWords))
+
+-- how many edges the edge words hold: "half the edge words"
+unfoldable pub edgeRoom : ℕ → ℕ
+unfolding roomOf
+edgeRoom edgeWords = roomOf (edgeWords / 2)
+
+-- ---- the rooms that the program `plot` lends: "512 boards a layer, 1,024 nodes, 4,096 edges"
+
+abbrev pub plotBoards : ℕ
+plotBoards = 512
+
+abbrev pub plotNodes : ℕ
+plotNodes = 1024
+
+abbrev pub plotEdges : ℕ
+plotEdges = 4096
 
 -- ---- nodes
 
@@ -38,25 +78,44 @@ unfoldable pub getEdges : List ℕ → ℕ → ℕ → ℕ → Answer (List ℕ)
 unfolding edgesIn edgesFrom
 getEdges ws n v room = cond (leb (length (edgesFrom (edgesIn ws n) v)) room) (given (edgesFrom (edgesIn ws n) v)) (refused 8)
 
+-- what `get_edges` answers
 abbrev pub edgesAnswer : Edges → Answer ℕ
 edgesAnswer (E.Number n) = given n
 edgesAnswer (E.Refused r) = refused (refusalNumber r)
 
--- so many words that hold a list of numbers, zeros behind
-unfoldable pub numbersFor : List ℕ → ℕ → List ℕ
-unfolding listOf
-numbersFor ns count = listOf (λ k. getD ns k 0) count
-
--- word k of a list of edges, 0 behind the last
-unfoldable pub edgeWord : List (ℕ × ℕ) → ℕ → ℕ
-edgeWord es k = cond (eqb (k % 2) 0) (getD es (k / 2) (0, 0) .0) (getD es (k / 2) (0, 0) .1)
-
--- so many words that hold a list of edges, zeros behind the last
+-- so many words that hold a list of edges, the parent before the child, zeros behind
 unfoldable pub edgesFor : List (ℕ × ℕ) → ℕ → List ℕ
-unfolding edgeWord listOf
-edgesFor es count = listOf (edgeWord es) count
+unfolding flatMap padded
+edgesFor es count = padded (flatMap (λ e. e .0 ∷ e .1 ∷ []) es) count
 
 -- `get_edges`: the number of children; and the words hold the children, zeros behind, or zeros after a refusal
-pub record GetsEdges (ws : List ℕ) (n v : ℕ) (old new : List ℕ) (r : Edges) : Type 0 where
-  pub answer : edgesAnswer r ≡ mapAnswer length (getEdges ws n v (length old))
-  pub words : new ≡ numbersFor (valueOr [] (getEdges ws n v (length old))) (length old)
+abbrev pub GetsEdges : List ℕ → ℕ → ℕ → List ℕ → List ℕ → Edges → Type 0
+GetsEdges ws n v old new r = Leaves padded (getEdges ws n v (length old)) (edgesAnswer r) old new
+
+-- ---- the result: "the numbers of nodes and edges and the full board's node, or none"
+
+-- the full board's node, or none
+abbrev pub completeNode : Complete → Option ℕ
+completeNode (N.Node v) = some v
+completeNode N.Nothing = none
+
+-- "The graph count is that node's path count, 0 with none": of any node or none and any count words
+unfoldable pub countFromGraph : Option ℕ → List ℕ → ℕ
+unfolding atNode countIn
+countFromGraph complete counts = atNode (countIn counts) complete
+
+-- ---- the cutting that a node list gives
+
+-- the piece of a step: "the cells marked in the later node and free in the earlier"; "A cell with no mark is free"
+unfoldable pub stepPiece : ℕ → ℕ → ℕ
+unfolding setOf hasCell
+stepPiece earlier later = setOf (λ c. hasCell later c && not (hasCell earlier c))
+
+-- "the set of pieces that its steps mark", of the boards of a list
+abbrev pub markedPieces : List ℕ → ℕ → Bool
+markedPieces boards = holds eqb (piecesOf stepPiece boards)
+
+-- the same of a node list, the boards read from the node words
+unfoldable pub markedPiecesIn : List ℕ → List ℕ → ℕ → Bool
+unfolding holds setAt stepPiece
+markedPiecesIn nodes list = markedPieces (map (setAt nodes) list)

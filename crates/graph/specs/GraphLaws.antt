@@ -1,28 +1,23 @@
 -- Laws of a graph in lent words: what the search for a node finds; the edges out of a node; and what is stored is read back: one edge more, and the
--- words behind the last node, edge or number cleared. Rests on `Graph`, `cells` and `covers`. Assumes nothing.
+-- words behind the last edge or number cleared. Rests on `Graph`, `cells` and `covers`. Assumes nothing.
 use mathlib.Core.Path.{_≡_, refl, sym, ap, ap₂, _∙_, subst}
 use mathlib.Core.Logic.{_↔_, ⊎-elim}
 use mathlib.Core.Bool.{Bool, true, false, cond, _||_}
-use mathlib.Core.List.{List, [], _∷_, _++_, List·Memᴰ as Mem, List·Memᴰ·head as here, List·Memᴰ·tail as there, List·Memᴰ·cases-cons as cases-cons, List·Memᴰ·not-nil as not-nil}
+use mathlib.Core.List.{List, [], _∷_, _++_, List·Memᴰ as Mem, List·Memᴰ·head as here, List·Memᴰ·tail as there, List·Memᴰ·cases-cons as cases-cons, List·Memᴰ·not-nil as not-nil, flatMap}
 use mathlib.Core.Option.{none, some}
-use Prim.Native.Nat.{ℕ, zero, suc, _+_, _-_, _*_, _/_, _%_, _^_, _≤_, _<_, min}
+use Prim.Native.Nat.{ℕ, zero, suc, _+_, _-_, _*_, _/_, _%_, _≤_, _<_, min}
 use native.Mathlib.Nat.{add-zero, zero-add}
 use native.Mathlib.Decide.{ℕ-discrete, decLt}
 use native.Mathlib.Omega.{arith}
 use borrow.Author.Tests.{lt-ltb, le-ltb, eq-eqb, ne-eqb}
 use lib.Dec.{eqb, ltb}
-use lib.Pow.{pow-pos}
 use lib.ListN.{length, getD, set, take, length-set, List·getD-eq-default}
 use lib.Seq.{getD-set-same, getD-set-other}
-use Rattle.cells.specs.Firsts.{any, holds}
-use Rattle.cells.specs.Words.{value, wordsOf, Small}
-use Rattle.cells.specs.WordLaws.{wordsOf-value}
-use Rattle.cells.specs.Arrays.{listFrom, listOf}
-use Rattle.cells.specs.ArrayLaws.{length-listOf, getD-listOf, listOf-ext, listOf-eta, listOf-getD, listOf-snoc}
-use Rattle.cells.specs.Lists.{setAt, firstFrom, findSet, clearedFrom, wordAt, wordsFor}
-use Rattle.cells.specs.ListLaws.{setAt-value, wordAt-past}
+use Rattle.cells.specs.Lists.{any, holds, listFrom, listOf, padded, setAt}
+use Rattle.cells.specs.Parts.{firstFrom, findSet, clearedFrom}
+use Rattle.cells.specs.ArrayLaws.{length-listOf, getD-listOf, listOf-ext, listOf-eta, listOf-getD, listOf-snoc, getD-block}
 use Rattle.covers.specs.Counts.{numberIn}
-use Rattle.graph.specs.Graph.{edgeAt, edgesIn, edgesFrom, numbersFor, edgeWord, edgesFor}
+use Rattle.graph.specs.Graph.{edgeAt, edgesIn, edgesFrom, edgesFor}
 
 -- ---- the search for a node
 
@@ -105,7 +100,33 @@ module _ (e : ℕ × ℕ) (v : ℕ) where
 
 -- ---- a list of edges in words
 
+-- word k of a list of edges, 0 behind the last
+unfoldable pub edgeWord : List (ℕ × ℕ) → ℕ → ℕ
+edgeWord es k = cond (eqb (k % 2) 0) (getD es (k / 2) (0, 0) .0) (getD es (k / 2) (0, 0) .1)
+
 module _ (es : List (ℕ × ℕ)) where
+  edge-word : (k : ℕ) → getD (flatMap (λ (e : ℕ × ℕ). e .0 ∷ e .1 ∷ []) es) k 0 ≡ edgeWord es k
+  unfolding edgeWord
+  edge-word k =
+      let e : 2 * (k / 2) + k % 2 ≡ k = omega arith in
+      ap (λ (i : ℕ). getD (flatMap (λ (e : ℕ × ℕ). e .0 ∷ e .1 ∷ []) es) i 0) (sym e)
+      ∙ getD-block 2 (λ (e : ℕ × ℕ). e .0 ∷ e .1 ∷ []) (λ e. refl) (0, 0) zeros es (k / 2) (k % 2) (omega arith)
+      ∙ half (k % 2) (omega arith) (getD es (k / 2) (0, 0))
+    where
+      zeros : (j : ℕ) → _≡_ {A = ℕ} (getD (0 ∷ 0 ∷ []) j 0) 0
+      zeros zero = refl
+      zeros (suc zero) = refl
+      zeros (suc (suc j)) = refl
+
+      half : (j : ℕ) → j < 2 → (e : ℕ × ℕ) → getD (e .0 ∷ e .1 ∷ []) j 0 ≡ cond (eqb j 0) (e .0) (e .1)
+      half zero h e = refl
+      half (suc zero) h e = refl
+      half (suc (suc j)) h e = absurd (omega arith)
+
+  pub edgesFor-at : (count : ℕ) → edgesFor es count ≡ listOf (edgeWord es) count
+  unfolding edgesFor padded
+  edgesFor-at count = listOf-ext (λ k. getD (flatMap (λ (e : ℕ × ℕ). e .0 ∷ e .1 ∷ []) es) k 0) (edgeWord es) count (λ k h. edge-word k)
+
   edgeWord-even : (i : ℕ) → edgeWord es (2 * i) ≡ getD es i (0, 0) .0
   unfolding edgeWord
   edgeWord-even i =
@@ -130,12 +151,7 @@ module _ (es : List (ℕ × ℕ)) where
       go false = refl
 
 pub length-edgesFor : (es : List (ℕ × ℕ)) (count : ℕ) → length (edgesFor es count) ≡ count
-unfolding edgesFor
-length-edgesFor es count = length-listOf (edgeWord es) count
-
-pub length-numbersFor : (ns : List ℕ) (count : ℕ) → length (numbersFor ns count) ≡ count
-unfolding numbersFor
-length-numbersFor ns count = length-listOf (λ k. getD ns k 0) count
+length-edgesFor es count = ap length (edgesFor-at es count) ∙ length-listOf (edgeWord es) count
 
 take-listFrom : {A : Type 0} (f : ℕ → A) (i k n : ℕ) → k ≤ n → take k (listFrom f i n) ≡ listFrom f i k
 unfolding listFrom
@@ -144,14 +160,15 @@ take-listFrom f i (suc k) zero h = absurd (omega arith)
 take-listFrom f i (suc k) (suc n) h = ap (λ (l : List _). f i ∷ l) (take-listFrom f (suc i) k n (omega arith))
 
 -- a list that is stored is read back
-pub take-numbersFor : (ns : List ℕ) (count : ℕ) → length ns ≤ count → take (length ns) (numbersFor ns count) ≡ ns
-unfolding numbersFor listOf
-take-numbersFor ns count h = take-listFrom (λ k. getD ns k 0) 0 (length ns) count h ∙ listOf-getD 0 ns
+pub take-padded : (ns : List ℕ) (count : ℕ) → length ns ≤ count → take (length ns) (padded ns count) ≡ ns
+unfolding padded listOf
+take-padded ns count h = take-listFrom (λ k. getD ns k 0) 0 (length ns) count h ∙ listOf-getD 0 ns
 
 edgeAt-edgesFor : (es : List (ℕ × ℕ)) (count i : ℕ) → i < length es → 2 * length es ≤ count → edgeAt (edgesFor es count) i ≡ getD es i (0, 0)
-unfolding edgeAt edgesFor
+unfolding edgeAt
 edgeAt-edgesFor es count i h l =
-    ap₂ (λ (a b : ℕ). (a, b)) (getD-listOf (edgeWord es) count (2 * i) 0 (omega arith) ∙ edgeWord-even es i)
+    ap (λ (ws : List ℕ). edgeAt ws i) (edgesFor-at es count)
+    ∙ ap₂ (λ (a b : ℕ). (a, b)) (getD-listOf (edgeWord es) count (2 * i) 0 (omega arith) ∙ edgeWord-even es i)
     (getD-listOf (edgeWord es) count (2 * i + 1) 0 (omega arith) ∙ edgeWord-odd es i)
 
 -- edges that are all lent
@@ -196,9 +213,10 @@ set-edge ws es p c h e =
 -- the words behind the last edge cleared
 pub cleared-edges : (ws : List ℕ) (es : List (ℕ × ℕ)) → 2 * length es ≤ length ws → listOf (edgeAt ws) (length es) ≡ es
     → clearedFrom (2 * length es) ws ≡ edgesFor es (length ws)
-unfolding clearedFrom edgesFor edgeAt
+unfolding clearedFrom edgeAt
 cleared-edges ws es h e =
     listOf-ext (λ k. cond (ltb k (2 * length es)) (getD ws k 0) 0) (edgeWord es) (length ws) (λ k l. go k (decLt k (2 * length es)))
+    ∙ sym (edgesFor-at es (length ws))
   where
     edge : (i : ℕ) → i < length es → getD es i (0, 0) ≡ edgeAt ws i
     edge i l = ap (λ (ds : List (ℕ × ℕ)). getD ds i (0, 0)) (sym e) ∙ getD-listOf (edgeAt ws) (length es) i (0, 0) l
@@ -215,55 +233,10 @@ cleared-edges ws es h e =
     go k (yes a) = rw (lt-ltb k (2 * length es) a) (stored k a (ℕ-discrete (k % 2) 0))
     go k (no a) = rw (le-ltb k (2 * length es) (omega arith)) (sym (edgeWord-past es k (omega arith)))
 
--- the four words of a node are machine words where all are
-small-four : (ws : List ℕ) → Small ws → (i : ℕ) → Small (getD ws (4 * i) 0 ∷ getD ws (4 * i + 1) 0 ∷ getD ws (4 * i + 2) 0 ∷ getD ws (4 * i + 3) 0 ∷ [])
-small-four ws s i zero = s (4 * i)
-small-four ws s i (suc zero) = s (4 * i + 1)
-small-four ws s i (suc (suc zero)) = s (4 * i + 2)
-small-four ws s i (suc (suc (suc zero))) = s (4 * i + 3)
-small-four ws s i (suc (suc (suc (suc k)))) = pow-pos 64
-
--- the four words of a node, as they stand
-four-words : (ws : List ℕ) (k j : ℕ) → k % 4 ≡ j → j < 4
-    → getD (getD ws (4 * (k / 4)) 0 ∷ getD ws (4 * (k / 4) + 1) 0 ∷ getD ws (4 * (k / 4) + 2) 0 ∷ getD ws (4 * (k / 4) + 3) 0 ∷ []) j 0 ≡ getD ws k 0
-four-words ws k zero e h = let q : 4 * (k / 4) ≡ k = omega arith in ap (λ (i : ℕ). getD ws i 0) q
-four-words ws k (suc zero) e h = let q : 4 * (k / 4) + 1 ≡ k = omega arith in ap (λ (i : ℕ). getD ws i 0) q
-four-words ws k (suc (suc zero)) e h = let q : 4 * (k / 4) + 2 ≡ k = omega arith in ap (λ (i : ℕ). getD ws i 0) q
-four-words ws k (suc (suc (suc zero))) e h = let q : 4 * (k / 4) + 3 ≡ k = omega arith in ap (λ (i : ℕ). getD ws i 0) q
-four-words ws k (suc (suc (suc (suc j)))) e h = absurd (omega arith)
-
--- the words behind the last node cleared
-pub cleared-nodes : (ws bs : List ℕ) → ((i : ℕ) → getD ws i 0 < 2 ^ 64) → 4 * length bs ≤ length ws → listOf (setAt ws) (length bs) ≡ bs
-    → clearedFrom (4 * length bs) ws ≡ wordsFor bs (length ws)
-unfolding clearedFrom wordsFor wordAt
-cleared-nodes ws bs s h e =
-    listOf-ext (λ k. cond (ltb k (4 * length bs)) (getD ws k 0) 0) (wordAt bs) (length ws) (λ k l. go k (decLt k (4 * length bs)))
-  where
-    four : ℕ → List ℕ
-    four i = getD ws (4 * i) 0 ∷ getD ws (4 * i + 1) 0 ∷ getD ws (4 * i + 2) 0 ∷ getD ws (4 * i + 3) 0 ∷ []
-
-    node : (i : ℕ) → i < length bs → getD bs i 0 ≡ value (four i)
-    node i l =
-        ap (λ (ns : List ℕ). getD ns i 0) (sym e) ∙ getD-listOf (setAt ws) (length bs) i 0 l ∙ sym (setAt-value ws i (omega arith))
-
-    back : (i : ℕ) → wordsOf (value (four i)) ≡ four i
-    back i = wordsOf-value (four i) refl (small-four ws s i)
-
-    stored : (k : ℕ) → k < 4 * length bs → getD ws k 0 ≡ wordAt bs k
-    stored k a =
-        sym
-        (ap (λ (n : ℕ). getD (wordsOf n) (k % 4) 0) (node (k / 4) (omega arith))
-        ∙ ap (λ (l : List ℕ). getD l (k % 4) 0) (back (k / 4))
-        ∙ four-words ws k (k % 4) refl (omega arith))
-
-    go : (k : ℕ) → Dec (k < 4 * length bs) → cond (ltb k (4 * length bs)) (getD ws k 0) 0 ≡ wordAt bs k
-    go k (yes a) = rw (lt-ltb k (4 * length bs) a) (stored k a)
-    go k (no a) = rw (le-ltb k (4 * length bs) (omega arith)) (sym (wordAt-past bs k (omega arith)))
-
 -- the words behind the last number cleared
 pub cleared-numbers : (ws ns : List ℕ) → length ns ≤ length ws → ((i : ℕ) → i < length ns → getD ws i 0 ≡ getD ns i 0)
-    → clearedFrom (length ns) ws ≡ numbersFor ns (length ws)
-unfolding clearedFrom numbersFor
+    → clearedFrom (length ns) ws ≡ padded ns (length ws)
+unfolding clearedFrom padded
 cleared-numbers ws ns h e =
     listOf-ext (λ k. cond (ltb k (length ns)) (getD ws k 0) 0) (λ k. getD ns k 0) (length ws) (λ k l. go k (decLt k (length ns)))
   where

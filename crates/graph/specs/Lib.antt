@@ -1,8 +1,5 @@
--- A graph in lent words. `Rooms`, `Graph` and `Result` are what a reader must believe; `Inner` serves private contracts; the rest are laws, and
--- examples.
-pub mod Rooms
+-- A graph in lent words. `Graph` is what a reader must believe; `Inner` serves private contracts; the rest are laws, and examples.
 pub mod Graph
-pub mod Result
 pub mod Inner
 pub mod RoomLaws
 pub mod GraphLaws

@@ -1,10 +1,11 @@
--- A room is no more than the lent words hold, and words for the program's boards and nodes hold just these. Rests on `Rooms` and path_count's laws. Assumes nothing.
+-- A room is no more than the lent words hold, and words for the program's boards and nodes hold just these. Rests on `Graph` and path_count's laws. Assumes nothing.
 use mathlib.Core.Path.{_≡_, ap}
 use Prim.Native.Nat.{ℕ, _*_, _/_, _≤_, min}
 use native.Mathlib.Omega.{arith}
-use Rattle.path_count.specs.PathCounts.{countRoom, countSpan}
+use Rattle.path_count.specs.PathCounts.{countRoom}
+use Rattle.path_count.specs.Inner.{countSpan}
 use Rattle.path_count.specs.PathCountLaws.{room-span}
-use Rattle.graph.specs.Rooms.{roomOf, layerRoom, nodeRoom, edgeRoom, plotBoards, plotNodes}
+use Rattle.graph.specs.Graph.{roomOf, layerRoom, nodeRoom, edgeRoom, plotBoards, plotNodes}
 
 pub layer-room : (n boardsA countsA boardsB countsB : ℕ) → n ≡ layerRoom boardsA countsA boardsB countsB
     → (4 * n ≤ boardsA) × (n ≤ countRoom countsA) × (4 * n ≤ boardsB) × (n ≤ countRoom countsB)

@@ -9,8 +9,7 @@ ghost use mathlib.Core.Path.{_≡_};
 ghost use Prim.Native.Nat.{_/_, min};
 ghost use lib.ListN.{length, set};
 ghost use Rattle.path_count.specs.PathCounts.{countValue};
-ghost use Rattle.graph.specs.Graph.{nodePart, edgesIn, edgesFrom, GetsEdges};
-ghost use Rattle.graph.specs.Result.{completeNode, countFromGraph};
+ghost use Rattle.graph.specs.Graph.{nodePart, edgesIn, edgesFrom, GetsEdges, completeNode, countFromGraph};
 ghost use Rattle.graph.specs.Inner.{StandsIn};
 
 pub mod rooms;

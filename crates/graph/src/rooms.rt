@@ -1,7 +1,7 @@
 // How many boards, nodes or edges lent words hold, by the numbers of words: at most 16,777,216.
 ghost use mathlib.Core.Path.{_≡_};
 ghost use Prim.Native.Nat.{min};
-ghost use Rattle.graph.specs.Rooms.{roomOf, layerRoom, nodeRoom, edgeRoom};
+ghost use Rattle.graph.specs.Graph.{roomOf, layerRoom, nodeRoom, edgeRoom};
 
 // The smaller of two numbers.
 fn least(m: usize, n: usize) -> usize

@@ -5,8 +5,8 @@ use mathlib.Core.List.{List, []}
 use Prim.Native.Nat.{ℕ}
 use native.Mathlib.Omega.{arith}
 use lib.ListN.{length}
-use Rattle.cells.specs.Arrays.{listFrom, listOf}
-use Rattle.cells.specs.Lists.{clearedFrom}
+use Rattle.cells.specs.Lists.{listFrom, listOf}
+use Rattle.cells.specs.Parts.{clearedFrom}
 use Rattle.cells.specs.ListLaws.{cleared-all}
 use Rattle.refusal.specs.declared.Refusal.{Refusal}
 use Rattle.refusal.specs.declared.Verdict.{Verdict}
@@ -15,14 +15,12 @@ use Rattle.refusal.specs.Refusal.{Answer, refused, mapAnswer, refusalNumber, va
 use Rattle.tiles.specs.declared.Tiles.{Tiles}
 use Rattle.board.specs.declared.RectangularBoard.{RectangularBoard}
 use Rattle.path_count.specs.PathCountLaws.{cleared-countsFor}
-use Rattle.graph.specs.Graph.{edgesFor}
+use Rattle.graph.specs.Graph.{edgesFor, layerRoom}
 use Rattle.graph.specs.GraphLaws.{cleared-edges}
-use Rattle.graph.specs.Rooms.{layerRoom}
 use Rattle.layers.specs.LayerCounts.{countTilings}
 use Rattle.layers.proofs.StartLaws.{cleared-zeros}
 use Rattle.tiler.specs.Graphs.{Graph, generateGraph}
-use Rattle.host_words.specs.Layout.{boardIn, plotShape}
-use Rattle.host_words.specs.Answers.{AnswersWords}
+use Rattle.host_words.specs.Layout.{boardIn, plotShape, AnswersWords}
 use Rattle.host_words.specs.AnswerLaws.{unless-accepted, unless-refused}
 use Rattle.host_tiles.specs.TileBytes.{tilesIn}
 use Rattle.host_counts.specs.Calls.{counted, AnswersCount, generated, AnswersGraph}

@@ -5,7 +5,7 @@ use mathlib.Core.Option.{Option}
 use Prim.Native.Nat.{ℕ, _/_, _%_, _<_, _^_}
 use native.Mathlib.Omega.{arith}
 use lib.ListN.{length}
-use Rattle.cells.specs.Words.{wordsBelow}
+use Rattle.cells.specs.Set.{wordsBelow}
 use Rattle.refusal.specs.declared.Refusal.{Refusal}
 use Rattle.refusal.specs.declared.Verdict.the-variants as Verdicts
 use Rattle.refusal.specs.Refusal.{Answer, refused, given, refusalNumber, valueOr, verdictNumber}
@@ -16,16 +16,14 @@ use Rattle.path_count.specs.declared.PathCount.{PathCount}
 use Rattle.path_count.specs.PathCounts.{countValue}
 use Rattle.graph.specs.declared.Complete.{Complete}
 use Rattle.graph.specs.declared.Complete.the-variants as N
-use Rattle.graph.specs.Graph.{numbersFor}
-use Rattle.graph.specs.Rooms.{layerRoom}
-use Rattle.graph.specs.Result.{completeNode}
+use Rattle.cells.specs.Lists.{padded}
+use Rattle.graph.specs.Graph.{layerRoom, completeNode}
 use Rattle.layers.specs.declared.Count.{Count}
 use Rattle.layers.specs.declared.Count.the-variants as K
 use Rattle.layers.specs.LayerCounts.{countTilings, countAnswer, CountsTilings}
 use Rattle.tiler.specs.declared.MadeGraph.{MadeGraph}
 use Rattle.tiler.specs.Graphs.{Graph, noGraph, generateGraph, GeneratesGraph}
-use Rattle.host_words.specs.Layout.{resultWords}
-use Rattle.host_words.specs.Answers.{AnswersWords}
+use Rattle.host_words.specs.Layout.{resultWords, AnswersWords}
 use Rattle.host_words.specs.AnswerLaws.{numbers-none, numbers-two, tells-value, tells-no, tells-struct}
 use Rattle.host_counts.specs.Calls.{AnswersCount, AnswersGraph}
 
@@ -48,7 +46,7 @@ module _ (b : RectangularBoard) (ts : Tiles) (ba ca bb cb ba′ ca′ bb′ cb�
   count-told n low high l h s e t =
       record {
         answered = tells-value answer answer′ r (wordsBelow 2) (countTilings b ts room) (countValue n) (low ∷ high ∷ 0 ∷ 0 ∷ []) (sym (counts .answer) ∙ ap countAnswer e)
-            (numbers-two low high (length answer) ∙ ap (λ (ns : List ℕ). numbersFor ns (length answer)) (count-words (countValue n) low high l h s)) t;
+            (numbers-two low high (length answer) ∙ ap (λ (ns : List ℕ). padded ns (length answer)) (count-words (countValue n) low high l h s)) t;
         zeroBoardsA = counts .zeroBoardsA;
         zeroCountsA = counts .zeroCountsA;
         zeroBoardsB = counts .zeroBoardsB;
@@ -70,7 +68,7 @@ module _ (b : RectangularBoard) (ts : Tiles) (ba ca bb cb ba′ ca′ bb′ cb�
 abbrev resultOf : Graph → List ℕ
 resultOf g = resultWords (length (g .nodes)) (length (g .edges)) (g .complete)
 
-no-result : (count : ℕ) → numbersFor (resultOf noGraph) count ≡ numbersFor [] count
+no-result : (count : ℕ) → padded (resultOf noGraph) count ≡ padded [] count
 unfolding resultWords
 no-result count = numbers-none count
 
@@ -86,8 +84,8 @@ module _ (b : RectangularBoard) (ts : Tiles) (nodes counts edges nodes′ counts
       record {
         answered = tells-struct answer answer′ r resultOf a noGraph (resultWords (made .graph .nodes) (made .graph .edges) (completeNode (made .graph .complete)))
             (sym (ap verdictNumber e) ∙ makes .verdict)
-            (ap₂ (λ (x y : ℕ). numbersFor (resultWords x y (completeNode (made .graph .complete))) (length answer)) (makes .nodeNumber) (makes .edgeNumber)
-            ∙ ap (λ (z : Option ℕ). numbersFor (resultWords (length (valueOr noGraph a .nodes)) (length (valueOr noGraph a .edges)) z) (length answer)) (makes .complete))
+            (ap₂ (λ (x y : ℕ). padded (resultWords x y (completeNode (made .graph .complete))) (length answer)) (makes .nodeNumber) (makes .edgeNumber)
+            ∙ ap (λ (z : Option ℕ). padded (resultWords (length (valueOr noGraph a .nodes)) (length (valueOr noGraph a .edges)) z) (length answer)) (makes .complete))
             (no-result (length answer)) t;
         nodesLeft = makes .nodes;
         countsLeft = makes .counts;

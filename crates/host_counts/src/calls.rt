@@ -8,12 +8,10 @@ use refusal::Verdict;
 use tiles::Tiles;
 ghost use lib.ListN.{length};
 ghost use Rattle.refusal.specs.Refusal.{given};
-ghost use Rattle.graph.specs.Rooms.{layerRoom};
-ghost use Rattle.graph.specs.Result.{completeNode};
+ghost use Rattle.graph.specs.Graph.{layerRoom, completeNode};
 ghost use Rattle.layers.specs.LayerCounts.{countTilings};
 ghost use Rattle.tiler.specs.Graphs.{generateGraph};
-ghost use Rattle.host_words.specs.Layout.{resultWords};
-ghost use Rattle.host_words.specs.Answers.{AnswersWords};
+ghost use Rattle.host_words.specs.Layout.{resultWords, AnswersWords};
 ghost use Rattle.host_counts.specs.Calls.{AnswersCount, AnswersGraph};
 
 pub fn count_tilings(

@@ -4,7 +4,7 @@
 use cells::list;
 use refusal::Verdict;
 ghost use lib.ListN.{length};
-ghost use Rattle.graph.specs.Rooms.{layerRoom};
+ghost use Rattle.graph.specs.Graph.{layerRoom};
 ghost use Rattle.host_counts.specs.Calls.{counted, AnswersCount, generated, AnswersGraph};
 
 mod calls;

@@ -12,10 +12,9 @@ use Rattle.refusal.specs.RefusalLaws.{refused-of, map-refused}
 use Rattle.tile.specs.declared.Tile.{Tile}
 use Rattle.tiles.specs.declared.Tiles.{Tiles}
 use Rattle.tiles.specs.declared.MadeTiles.{MadeTiles}
-use Rattle.tile.specs.Path.{Path}
-use Rattle.tiles.specs.Paths.{orbit}
-use Rattle.tiles.specs.Stored.{Storable, tilesOf, MakesTiles}
-use Rattle.tile.specs.Stored.{readTile}
+use Rattle.tile.specs.Path.{Path, readTile}
+use Rattle.tiles.specs.Paths.{orbit, tilesOf, MakesTiles}
+use Rattle.tiles.specs.Inner.{Storable}
 use Rattle.tile.specs.StoredLaws.{readTile-is}
 use Rattle.tiles.specs.StoredLaws.{count-tilesOf}
 use Rattle.tiles.specs.OrbitLaws.{orbit-length-le, orbit-length-path, orbit-codesOk}
@@ -25,25 +24,24 @@ use Rattle.children.specs.declared.Children.the-variants as C
 use Rattle.rectangle.specs.Board.{Board}
 use Rattle.board.specs.Board.{boardOf}
 use Rattle.children.specs.Children.{placeTile, childrenAnswer, PlacesTiles}
-use Rattle.graph.specs.Graph.{numbersFor}
+use Rattle.cells.specs.Lists.{padded, wordsFor}
 use Rattle.plot_file.specs.declared.MadePlot.{MadePlot}
 use Rattle.plot_file.specs.PlotFile.{Plot, noPlot, plotIn, ReadsPlot}
 use Rattle.plot_file.specs.Theorems.{accepted-plot}
-use Rattle.host_words.specs.Layout.{boardWords}
-use Rattle.host_words.specs.Answers.{AnswersWords}
+use Rattle.host_words.specs.Layout.{boardWords, AnswersWords, AnswersList}
 use Rattle.host_words.specs.AnswerLaws.{numbers-zero, numbers-one, tells-one, tells-no, tells-struct}
 use Rattle.host_tiles.specs.TileBytes.{bytesFor, structBytes}
 use Rattle.host_tiles.specs.TileByteLaws.{stored-bytes, none-storable}
-use Rattle.host_plots.specs.Calls.{AnswersChildren, AnswersTiles, AnswersPlot}
+use Rattle.host_plots.specs.Calls.{AnswersPlot}
 
 -- ---- `place_tile`
 
 module _ (b : RectangularBoard) (ts : Tiles) (out out′ answer answer′ : List ℕ) (ch : Children) (places : PlacesTiles b ts out out′ ch) (r : ℕ) where
-  pub children-told : (n : ℕ) → ch ≡ C.Number n → AnswersWords (given (n ∷ 0 ∷ 0 ∷ 0 ∷ [])) answer answer′ r → AnswersChildren (placeTile (boardOf b) ts (length out)) out answer out′ answer′ r
+  pub children-told : (n : ℕ) → ch ≡ C.Number n → AnswersWords (given (n ∷ 0 ∷ 0 ∷ 0 ∷ [])) answer answer′ r → AnswersList wordsFor (placeTile (boardOf b) ts (length out)) out answer out′ answer′ r
   children-told n e t =
       record { answered = tells-one answer answer′ r length (placeTile (boardOf b) ts (length out)) n (sym (ap childrenAnswer e) ∙ places .answer) t; outLeft = places .words }
 
-  pub children-refused : (q : Refusal) → ch ≡ C.Refused q → AnswersWords (refused (refusalNumber q)) answer answer′ r → AnswersChildren (placeTile (boardOf b) ts (length out)) out answer out′ answer′ r
+  pub children-refused : (q : Refusal) → ch ≡ C.Refused q → AnswersWords (refused (refusalNumber q)) answer answer′ r → AnswersList wordsFor (placeTile (boardOf b) ts (length out)) out answer out′ answer′ r
   children-refused q e t =
       let no = map-refused length (placeTile (boardOf b) ts (length out)) (refusalNumber q) .0 (sym (places .answer) ∙ ap childrenAnswer e) in
       record { answered = tells-no answer answer′ r (λ ns. length ns ∷ []) (placeTile (boardOf b) ts (length out)) q no t; outLeft = places .words }
@@ -70,8 +68,8 @@ tells-tiles : {A : Type 0} (old new : List ℕ) (r : ℕ) (f : A → List Path) 
 tells-tiles old new r f a d ts e s z t =
     let c : ts .count ≡ length (f (valueOr d a)) = ap (λ (x : Tiles). x .count) s ∙ count-tilesOf (f (valueOr d a)) in
     tells-struct old new r (λ x. length (f x) ∷ []) a d (ts .count ∷ 0 ∷ 0 ∷ 0 ∷ []) e
-    (numbers-one (ts .count) (length old) ∙ ap (λ (n : ℕ). numbersFor (n ∷ []) (length old)) c)
-    (ap (λ (ps : List Path). numbersFor (length ps ∷ []) (length old)) z ∙ numbers-zero [] (length old)) t
+    (numbers-one (ts .count) (length old) ∙ ap (λ (n : ℕ). padded (n ∷ []) (length old)) c)
+    (ap (λ (ps : List Path). padded (length ps ∷ []) (length old)) z ∙ numbers-zero [] (length old)) t
 
 -- ---- `orbit`
 
@@ -85,30 +83,30 @@ module _ (t : Tile) (made : MadeTiles) (makes : MakesTiles (mapAnswer orbit (rea
       let ok = orbit-fine t (readTile t) refl in
       left ∙ stored-bytes (made .tiles) (valueOr [] a) (ok .0) (ok .1) (makes .tiles) (length tiles)
 
-  pub orbit-told : made .verdict ≡ Verdicts.Accepted → AnswersWords (given (made .tiles .count ∷ 0 ∷ 0 ∷ 0 ∷ [])) answer answer′ r → AnswersTiles a tiles answer tiles′ answer′ r
+  pub orbit-told : made .verdict ≡ Verdicts.Accepted → AnswersWords (given (made .tiles .count ∷ 0 ∷ 0 ∷ 0 ∷ [])) answer answer′ r → AnswersList bytesFor a tiles answer tiles′ answer′ r
   orbit-told e x =
       record {
         answered = tells-tiles answer answer′ r (λ ps. ps) a [] (made .tiles) (sym (ap verdictNumber e) ∙ makes .verdict) (makes .tiles) refl x;
-        tilesLeft = orbit-left;
+        outLeft = orbit-left;
       }
 
-  pub orbit-refused : (q : Refusal) → made .verdict ≡ Verdicts.Refused q → AnswersWords (refused (refusalNumber q)) answer answer′ r → AnswersTiles a tiles answer tiles′ answer′ r
+  pub orbit-refused : (q : Refusal) → made .verdict ≡ Verdicts.Refused q → AnswersWords (refused (refusalNumber q)) answer answer′ r → AnswersList bytesFor a tiles answer tiles′ answer′ r
   orbit-refused q e x =
       record {
         answered = tells-no answer answer′ r (λ ps. length ps ∷ []) a q (refused-of a q (sym (ap verdictNumber e) ∙ makes .verdict)) x;
-        tilesLeft = orbit-left;
+        outLeft = orbit-left;
       }
 
 -- ---- `read_plot`
 
 module _ (file : List ℕ) (made : MadePlot) (reads : ReadsPlot (plotIn file) made) (board board′ tiles tiles′ answer answer′ : List ℕ)
-    (leftBoard : board′ ≡ numbersFor (boardWords (boardOf (made .board))) (length board)) (leftTiles : tiles′ ≡ structBytes (made .tiles) (length tiles)) (r : ℕ) where
+    (leftBoard : board′ ≡ padded (boardWords (boardOf (made .board))) (length board)) (leftTiles : tiles′ ≡ structBytes (made .tiles) (length tiles)) (r : ℕ) where
   told-plot : AnswersWords (mapAnswer (λ p. length (p .tiles) ∷ []) (plotIn file)) answer answer′ r → AnswersPlot (plotIn file) board tiles answer board′ tiles′ answer′ r
   told-plot x =
       let ok = plot-fine file (plotIn file) refl in
       record {
         answered = x;
-        boardLeft = leftBoard ∙ ap (λ (b : Board). numbersFor (boardWords b) (length board)) (reads .board);
+        boardLeft = leftBoard ∙ ap (λ (b : Board). padded (boardWords b) (length board)) (reads .board);
         tilesLeft = leftTiles ∙ stored-bytes (made .tiles) (valueOr noPlot (plotIn file) .tiles) (ok .0) (ok .1) (reads .tiles) (length tiles);
       }
 

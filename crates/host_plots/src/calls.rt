@@ -8,14 +8,17 @@ use tiles::Tiles;
 ghost use lib.ListN.{length};
 ghost use Rattle.refusal.specs.Refusal.{mapAnswer};
 ghost use Rattle.tiles.specs.Paths.{orbit};
-ghost use Rattle.tile.specs.Stored.{readTile};
+ghost use Rattle.tile.specs.Path.{readTile};
 ghost use Rattle.board.specs.Board.{boardOf};
 ghost use Rattle.children.specs.Children.{placeTile};
 ghost use Rattle.plot_file.specs.PlotFile.{plotIn};
-ghost use Rattle.host_plots.specs.Calls.{AnswersChildren, AnswersTiles, AnswersPlot};
+ghost use Rattle.host_plots.specs.Calls.{AnswersPlot};
+ghost use Rattle.host_words.specs.Layout.{AnswersList};
+ghost use Rattle.host_tiles.specs.TileBytes.{bytesFor};
+ghost use Rattle.cells.specs.Lists.{wordsFor};
 
 pub fn place_tile(board: RectangularBoard, tiles: Tiles, out: &mut [u64], answer: &mut [u64]) -> u64
-    ensures { λ r. ⌜ AnswersChildren (placeTile (boardOf board) tiles (length (now (out .entry)))) (now (out .entry)) (now (answer .entry)) (now (out .exit)) (now (answer .exit)) r ⌝ }
+    ensures { λ r. ⌜ AnswersList wordsFor (placeTile (boardOf board) tiles (length (now (out .entry)))) (now (out .entry)) (now (answer .entry)) (now (out .exit)) (now (answer .exit)) r ⌝ }
 {
     let children = children::place_tile(board, tiles, out);
     match children {
@@ -25,7 +28,7 @@ pub fn place_tile(board: RectangularBoard, tiles: Tiles, out: &mut [u64], answer
 }
 
 pub fn orbit(tile: Tile, tiles: &mut [u8], answer: &mut [u64]) -> u64
-    ensures { λ r. ⌜ AnswersTiles (mapAnswer orbit (readTile tile)) (now (tiles .entry)) (now (answer .entry)) (now (tiles .exit)) (now (answer .exit)) r ⌝ }
+    ensures { λ r. ⌜ AnswersList bytesFor (mapAnswer orbit (readTile tile)) (now (tiles .entry)) (now (answer .entry)) (now (tiles .exit)) (now (answer .exit)) r ⌝ }
 {
     let made = Tiles::orbit(tile);
     let verdict = made.verdict;

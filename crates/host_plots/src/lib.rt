@@ -5,7 +5,10 @@ use cells::list;
 use refusal::Verdict;
 use tiles::Tiles;
 ghost use lib.ListN.{length};
-ghost use Rattle.host_plots.specs.Calls.{placed, AnswersChildren, orbitFor, AnswersTiles, readFile, AnswersPlot};
+ghost use Rattle.host_plots.specs.Calls.{placed, orbitFor, readFile, AnswersPlot};
+ghost use Rattle.host_words.specs.Layout.{AnswersList};
+ghost use Rattle.host_tiles.specs.TileBytes.{bytesFor};
+ghost use Rattle.cells.specs.Lists.{wordsFor};
 
 mod calls;
 mod shapes;
@@ -20,7 +23,7 @@ pub fn place_tile(
     answer: &mut [u64],
 ) -> u64
     ensures { λ r.
-        ⌜ AnswersChildren (placed width height (now (marks .entry)) (now (tiles .entry)) (length (now (out .entry))) (length (now (answer .entry))))
+        ⌜ AnswersList wordsFor (placed width height (now (marks .entry)) (now (tiles .entry)) (length (now (out .entry))) (length (now (answer .entry))))
         (now (out .entry)) (now (answer .entry)) (now (out .exit)) (now (answer .exit)) r ⌝ }
 {
     let verdict = host_words::of_plot(1, marks.len(), tiles.len(), answer.len());
@@ -41,7 +44,7 @@ pub fn place_tile(
 // The orbit of a tile: its tiles, 33 bytes each, and their number.
 pub fn orbit(tile: &[u8], tiles: &mut [u8], answer: &mut [u64]) -> u64
     ensures { λ r.
-        ⌜ AnswersTiles (orbitFor (now (tile .entry)) (length (now (tiles .entry))) (length (now (answer .entry))))
+        ⌜ AnswersList bytesFor (orbitFor (now (tile .entry)) (length (now (tiles .entry))) (length (now (answer .entry))))
         (now (tiles .entry)) (now (answer .entry)) (now (tiles .exit)) (now (answer .exit)) r ⌝ }
 {
     let verdict = shapes::of_orbit(tile.len(), tiles.len(), answer.len());

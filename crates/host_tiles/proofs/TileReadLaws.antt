@@ -3,7 +3,7 @@ use mathlib.Core.Path.{_≡_}
 use mathlib.Core.List.{List}
 use Prim.Native.Nat.{ℕ, _+_, _*_, _/_, _%_}
 use lib.ListN.{length, getD}
-use Rattle.cells.specs.Arrays.{listOf}
+use Rattle.cells.specs.Lists.{listOf}
 use Rattle.tile.specs.declared.Tile.{Tile}
 use Rattle.tiles.specs.declared.Tiles.{Tiles}
 use Rattle.host_tiles.specs.TileBytes.{tileIn, tilesIn}

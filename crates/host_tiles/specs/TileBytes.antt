@@ -1,21 +1,22 @@
 -- Definitions: what the bytes of tiles that a host hands in stand for, and what is written into those that it lends: 33 bytes a tile, its length and 32 codes.
 -- Assumes nothing.
 use mathlib.Core.Bool.{cond}
-use mathlib.Core.List.{List, []}
+use mathlib.Core.List.{List, flatMap, _∷_}
 use Prim.Native.Nat.{ℕ, _+_, _-_, _*_, _/_, _%_}
 use lib.Dec.{eqb}
 use lib.ListN.{length, getD}
-use Rattle.cells.specs.Arrays.{listOf}
+use Rattle.cells.specs.Lists.{listOf, padded}
 use Rattle.tile.specs.declared.Tile.{Tile}
 use Rattle.tiles.specs.declared.Tiles.{Tiles}
 use Rattle.tile.specs.Path.{Path}
 
 -- ---- bytes that are handed in
 
+-- one tile
 abbrev pub tileIn : List ℕ → Tile
 tileIn bytes = record { len = getD bytes 0 0; codes = listOf (λ j. getD bytes (1 + j) 0) 32 }
 
--- the struct has room for 64 tiles; where more are handed in its count says so, which is refusal 6
+-- several: the struct has room for 64 tiles; where more are handed in its count says so, which is refusal 6
 abbrev pub tilesIn : List ℕ → Tiles
 tilesIn bytes =
     record {
@@ -26,14 +27,10 @@ tilesIn bytes =
 
 -- ---- bytes that are lent
 
--- byte k of some tiles, 0 behind a path and behind the last tile
-unfoldable pub byteOf : List Path → ℕ → ℕ
-byteOf paths k = cond (eqb (k % 33) 0) (length (getD paths (k / 33) [])) (getD (getD paths (k / 33) []) (k % 33 - 1) 0)
-
--- so many bytes that hold some tiles, zeros behind the last
+-- so many bytes that hold some tiles, each its length and 32 codes, zeros behind a path and behind the last tile
 unfoldable pub bytesFor : List Path → ℕ → List ℕ
-unfolding byteOf listOf
-bytesFor paths count = listOf (byteOf paths) count
+unfolding flatMap padded
+bytesFor paths count = padded (flatMap (λ p. length p ∷ padded p 32) paths) count
 
 -- ---- the bytes of a struct, whatever it holds. Of tiles that are stored with zeros behind they are `bytesFor` of those tiles (`stored-bytes`)
 

@@ -7,7 +7,7 @@ use tiles::Tiles;
 ghost use mathlib.Core.Path.{_≡_};
 ghost use Prim.Native.Nat.{_+_, _*_, _/_, _%_};
 ghost use lib.ListN.{length, getD};
-ghost use Rattle.cells.specs.Arrays.{listOf};
+ghost use Rattle.cells.specs.Lists.{listOf};
 ghost use Rattle.host_tiles.specs.TileBytes.{tileIn, tilesIn, storedByte, structBytes};
 ghost use Rattle.host_tiles.specs.Inner.{Arrays};
 

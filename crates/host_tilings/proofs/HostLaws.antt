@@ -5,8 +5,9 @@ use mathlib.Core.List.{List}
 use mathlib.Core.Option.{none}
 use Prim.Native.Nat.{ℕ, _/_}
 use lib.ListN.{length}
-use Rattle.cells.specs.Words.{value}
-use Rattle.cells.specs.Lists.{clearedFrom}
+use Rattle.cells.specs.Set.{value}
+use Rattle.cells.specs.Parts.{clearedFrom}
+use Rattle.cells.specs.Lists.{padded}
 use Rattle.cells.specs.ListLaws.{cleared-all}
 use Rattle.refusal.specs.declared.Refusal.{Refusal}
 use Rattle.refusal.specs.declared.Verdict.{Verdict}
@@ -20,11 +21,10 @@ use Rattle.rectangle.specs.Board.{Board}
 use Rattle.graph.specs.declared.GraphResult.{GraphResult}
 use Rattle.numbered_tilings.specs.Tilings.{tilingByNumber}
 use Rattle.single_tiling.specs.SingleTiling.{readSearch}
-use Rattle.host_words.specs.Layout.{boardIn, resultIn, plotShape}
-use Rattle.host_words.specs.Answers.{AnswersWords}
+use Rattle.host_words.specs.Layout.{boardIn, resultIn, plotShape, AnswersWords, AnswersList}
 use Rattle.host_words.specs.AnswerLaws.{cleared-none, unless-accepted, unless-refused}
 use Rattle.host_tiles.specs.TileBytes.{tilesIn}
-use Rattle.host_tilings.specs.Calls.{searched, AnswersSingle, tilingShape, numbered, AnswersList}
+use Rattle.host_tilings.specs.Calls.{searched, AnswersSingle, tilingShape, numbered}
 use Rattle.host_tilings.specs.CallLaws.{tiling-two}
 
 -- ---- one tiling without a graph
@@ -60,18 +60,18 @@ module _ (nodes counts edges graph m out answer : List ℕ) (v : Verdict) (shape
   tiling-words e = tiling-two graph (length m) (length answer) v shape e
 
   pub tiling-accepted : v ≡ Verdicts.Accepted → (g : GraphResult) → g ≡ resultIn graph → {out′ answer′ : List ℕ} {r : ℕ}
-      → AnswersList (tilingByNumber g (length nodes) counts edges (value m) (length out)) out answer out′ answer′ r
-      → AnswersList (numbered (length nodes) counts edges graph m (length out) (length answer)) out answer out′ answer′ r
+      → AnswersList padded (tilingByNumber g (length nodes) counts edges (value m) (length out)) out answer out′ answer′ r
+      → AnswersList padded (numbered (length nodes) counts edges graph m (length out) (length answer)) out answer out′ answer′ r
   unfolding numbered
   tiling-accepted e g is {out′} {answer′} {r} t =
-      subst (λ (a : Answer (List ℕ)). AnswersList a out answer out′ answer′ r)
+      subst (λ (a : Answer (List ℕ)). AnswersList padded a out answer out′ answer′ r)
       (ap (λ (x : GraphResult). tilingByNumber x (length nodes) counts edges (value m) (length out)) is
       ∙ sym (unless-accepted (tilingShape graph (length m) (length answer)) (tilingByNumber (resultIn graph) (length nodes) counts edges (value m) (length out)) v shape e)) t
 
   pub tiling-unshaped : (q : Refusal) → v ≡ Verdicts.Refused q → {out′ answer′ : List ℕ} {r : ℕ} → out′ ≡ clearedFrom 0 out → AnswersWords (refused (refusalNumber q)) answer answer′ r
-      → AnswersList (numbered (length nodes) counts edges graph m (length out) (length answer)) out answer out′ answer′ r
+      → AnswersList padded (numbered (length nodes) counts edges graph m (length out) (length answer)) out answer out′ answer′ r
   unfolding numbered valueOr mapAnswer
   tiling-unshaped q e {out′} {answer′} {r} z t =
-      subst (λ (a : Answer (List ℕ)). AnswersList a out answer out′ answer′ r)
+      subst (λ (a : Answer (List ℕ)). AnswersList padded a out answer out′ answer′ r)
       (sym (unless-refused (tilingShape graph (length m) (length answer)) (tilingByNumber (resultIn graph) (length nodes) counts edges (value m) (length out)) v shape q e))
       record { answered = t; outLeft = cleared-none out out′ z }

@@ -7,7 +7,8 @@ use Prim.Native.Nat.{ℕ, _+_, _-_, _*_, _/_, _^_, min}
 use native.Mathlib.Nat.{add-zero}
 use native.Mathlib.Omega.{arith}
 use lib.ListN.{length, getD}
-use Rattle.cells.specs.Words.{value, Small}
+use Rattle.cells.specs.Set.{value}
+use Rattle.cells.specs.WordLaws.{Small}
 use Rattle.refusal.specs.declared.Refusal.{Refusal}
 use Rattle.refusal.specs.Refusal.{Answer, refused, given, mapAnswer, refusalNumber, valueOr}
 use Rattle.refusal.specs.RefusalLaws.{map-given, map-refused}
@@ -18,7 +19,7 @@ use Rattle.rectangle.specs.Board.{Board}
 use Rattle.covers.specs.Counts.{atNode}
 use Rattle.path_count.specs.PathCounts.{countLimit}
 use Rattle.graph.specs.declared.GraphResult.{GraphResult}
-use Rattle.graph.specs.Graph.{numbersFor}
+use Rattle.cells.specs.Lists.{padded}
 use Rattle.numbered_tilings.specs.declared.Tiling.{Tiling}
 use Rattle.numbered_tilings.specs.declared.Tiling.the-variants as T
 use Rattle.numbered_tilings.specs.Tilings.{tilingByNumber, tilingAnswer, GivesTiling}
@@ -26,9 +27,9 @@ use Rattle.numbered_tilings.specs.TilingLaws.{number-capped}
 use Rattle.single_tiling.specs.declared.SingleTiling.{SingleTiling}
 use Rattle.single_tiling.specs.declared.SingleTiling.the-variants as S
 use Rattle.single_tiling.specs.SingleTiling.{readSearch, numberFound, singleAnswer, GetsSingleTiling}
-use Rattle.host_words.specs.Answers.{AnswersWords}
+use Rattle.host_words.specs.Layout.{AnswersWords, AnswersList}
 use Rattle.host_words.specs.AnswerLaws.{numbers-one, tells-value, tells-one, tells-no}
-use Rattle.host_tilings.specs.Calls.{AnswersSingle, AnswersList}
+use Rattle.host_tilings.specs.Calls.{AnswersSingle}
 
 -- ---- `get_single_tiling`
 
@@ -52,7 +53,7 @@ module _ (b : RectangularBoard) (ts : Tiles) (out out′ answer answer′ : List
   single-told o e t =
       let m = map-given (λ (p : Board × List Path). numberFound (gets .found)) search o (sym (gets .answer) ∙ e) in
       told-single (tells-value answer answer′ r (λ p. atNode (λ n. n) (numberFound (gets .found)) ∷ []) search (m .0) (atNode (λ n. n) o ∷ 0 ∷ 0 ∷ 0 ∷ []) (m .1)
-      (numbers-one (atNode (λ n. n) o) (length answer) ∙ ap (λ (x : Option ℕ). numbersFor (atNode (λ n. n) x ∷ []) (length answer)) (sym (m .2))) t)
+      (numbers-one (atNode (λ n. n) o) (length answer) ∙ ap (λ (x : Option ℕ). padded (atNode (λ n. n) x ∷ []) (length answer)) (sym (m .2))) t)
 
   pub single-refused : (q : Refusal) → s ≡ S.Refused q → AnswersWords (refused (refusalNumber q)) answer answer′ r → AnswersSingle search out answer out′ answer′ r
   single-refused q e t =
@@ -70,10 +71,10 @@ value-two (a ∷ b ∷ []) e = ap (λ (k : ℕ). a + 2 ^ 64 * k) (add-zero b)
 value-two (a ∷ b ∷ c ∷ m) e = absurd (omega (arith, e))
 
 -- the number that was handed on: that of the two words, or the largest count
-pub gives-number : (m : List ℕ) {g : GraphResult} {nodes counts edges out out′ : List ℕ} {t : Tiling} {k : ℕ} → length m ≡ 2
+pub gives-number : (g : GraphResult) (nodes counts edges m out out′ : List ℕ) (t : Tiling) (k : ℕ) → length m ≡ 2
     → k ≡ min (getD m 0 0 + 2 ^ 64 * getD m 1 0) (countLimit - 1) → GivesTiling g nodes counts edges k out out′ t
     → GivesTiling g nodes counts edges (min (value m) (countLimit - 1)) out out′ t
-gives-number m {g} {nodes} {counts} {edges} {out} {out′} {t} two e x =
+gives-number g nodes counts edges m out out′ t k two e x =
     subst (λ (n : ℕ). GivesTiling g nodes counts edges n out out′ t) (e ∙ ap (λ (n : ℕ). min n (countLimit - 1)) (sym (value-two m two))) x
 
 module _ (g : GraphResult) (nodes counts edges m out out′ answer answer′ : List ℕ) (t : Tiling)
@@ -85,13 +86,13 @@ module _ (g : GraphResult) (nodes counts edges m out out′ answer answer′ : L
   same : tilingByNumber g (length nodes) counts edges (min (value m) (countLimit - 1)) (length out) ≡ list
   same = number-capped g (length nodes) counts edges (value m) (length out) small
 
-  told-list : AnswersWords (mapAnswer (λ ns. length ns ∷ []) list) answer answer′ r → AnswersList list out answer out′ answer′ r
-  told-list x = record { answered = x; outLeft = gives .words ∙ ap (λ (a : Answer (List ℕ)). numbersFor (valueOr [] a) (length out)) same }
+  told-list : AnswersWords (mapAnswer (λ ns. length ns ∷ []) list) answer answer′ r → AnswersList padded list out answer out′ answer′ r
+  told-list x = record { answered = x; outLeft = gives .words ∙ ap (λ (a : Answer (List ℕ)). padded (valueOr [] a) (length out)) same }
 
-  pub list-told : (n : ℕ) → t ≡ T.Length n → AnswersWords (given (n ∷ 0 ∷ 0 ∷ 0 ∷ [])) answer answer′ r → AnswersList list out answer out′ answer′ r
+  pub list-told : (n : ℕ) → t ≡ T.Length n → AnswersWords (given (n ∷ 0 ∷ 0 ∷ 0 ∷ [])) answer answer′ r → AnswersList padded list out answer out′ answer′ r
   list-told n e x = told-list (tells-one answer answer′ r length list n (sym (ap tilingAnswer e) ∙ gives .answer ∙ ap (mapAnswer length) same) x)
 
-  pub list-refused : (q : Refusal) → t ≡ T.Refused q → AnswersWords (refused (refusalNumber q)) answer answer′ r → AnswersList list out answer out′ answer′ r
+  pub list-refused : (q : Refusal) → t ≡ T.Refused q → AnswersWords (refused (refusalNumber q)) answer answer′ r → AnswersList padded list out answer out′ answer′ r
   list-refused q e x =
       let no = map-refused length list (refusalNumber q) .0 (sym (ap (mapAnswer length) same) ∙ sym (gives .answer) ∙ ap tilingAnswer e) in
       told-list (tells-no answer answer′ r (λ ns. length ns ∷ []) list q no x)

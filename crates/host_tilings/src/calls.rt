@@ -9,10 +9,12 @@ use tiles::Tiles;
 ghost use mathlib.Core.Path.{_≡_};
 ghost use Prim.Native.Nat.{_/_};
 ghost use lib.ListN.{length};
-ghost use Rattle.cells.specs.Words.{value};
+ghost use Rattle.cells.specs.Set.{value};
 ghost use Rattle.numbered_tilings.specs.Tilings.{tilingByNumber};
 ghost use Rattle.single_tiling.specs.SingleTiling.{readSearch};
-ghost use Rattle.host_tilings.specs.Calls.{AnswersSingle, AnswersList};
+ghost use Rattle.host_tilings.specs.Calls.{AnswersSingle};
+ghost use Rattle.host_words.specs.Layout.{AnswersList};
+ghost use Rattle.cells.specs.Lists.{padded};
 
 pub fn single_tiling(
     board: RectangularBoard,
@@ -41,7 +43,7 @@ pub fn tiling(
 ) -> u64
     requires { ⌜ length (now m) ≡ 2 ⌝ }
     ensures { λ r.
-        ⌜ AnswersList (tilingByNumber graph (length (now (nodes .entry))) (now (counts .entry)) (now (edges .entry)) (value (now (m .entry))) (length (now (out .entry))))
+        ⌜ AnswersList padded (tilingByNumber graph (length (now (nodes .entry))) (now (counts .entry)) (now (edges .entry)) (value (now (m .entry))) (length (now (out .entry))))
         (now (out .entry)) (now (answer .entry)) (now (out .exit)) (now (answer .exit)) r ⌝ }
 {
     let number = PathCount::of_words(m[0], m[1]);

@@ -4,7 +4,9 @@
 use cells::list;
 use refusal::Verdict;
 ghost use lib.ListN.{length};
-ghost use Rattle.host_tilings.specs.Calls.{numbered, AnswersList, searched, AnswersSingle};
+ghost use Rattle.host_tilings.specs.Calls.{numbered, searched, AnswersSingle};
+ghost use Rattle.host_words.specs.Layout.{AnswersList};
+ghost use Rattle.cells.specs.Lists.{padded};
 
 mod calls;
 mod shapes;
@@ -49,7 +51,7 @@ pub fn tiling(
     answer: &mut [u64],
 ) -> u64
     ensures { λ r.
-        ⌜ AnswersList (numbered (length (now (nodes .entry))) (now (counts .entry)) (now (edges .entry)) (now (graph .entry)) (now (m .entry))
+        ⌜ AnswersList padded (numbered (length (now (nodes .entry))) (now (counts .entry)) (now (edges .entry)) (now (graph .entry)) (now (m .entry))
         (length (now (out .entry))) (length (now (answer .entry)))) (now (out .entry)) (now (answer .entry)) (now (out .exit)) (now (answer .exit)) r ⌝ }
 {
     let verdict = shapes::of_tiling(graph, m.len(), answer.len());

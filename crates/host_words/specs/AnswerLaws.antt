@@ -1,5 +1,5 @@
 -- Laws of answers in words: answers of fewer words than four; what is told of a value and of a refusal; and an answer where the shapes are right, or not.
--- Rests on `Answers`, refusal's `RefusalLaws` and graph's `GraphLaws`. Assumes nothing.
+-- Rests on `Layout`, refusal's `RefusalLaws` and graph's `GraphLaws`. Assumes nothing.
 use mathlib.Core.Path.{_≡_, refl, sym, ap, _∙_, subst}
 use mathlib.Core.List.{List, [], _∷_, _++_}
 use Prim.Native.Nat.{ℕ, zero, suc}
@@ -7,15 +7,15 @@ use native.Mathlib.Omega.{arith}
 use lib.ListN.{length, getD}
 use borrow.Author.Tests.{eq-eqb, ne-eqb}
 use Rattle.cells.specs.ArrayLaws.{listOf-ext}
-use Rattle.cells.specs.Lists.{clearedFrom}
+use Rattle.cells.specs.Parts.{clearedFrom}
+use Rattle.cells.specs.Lists.{padded}
 use Rattle.refusal.specs.declared.Refusal.{Refusal}
 use Rattle.refusal.specs.declared.Verdict.{Verdict}
 use Rattle.refusal.specs.declared.Verdict.the-variants as Verdicts
 use Rattle.refusal.specs.Refusal.{Answer, refused, given, mapAnswer, refusalNumber, refusalOf, valueOr, verdictNumber}
 use Rattle.refusal.specs.RefusalLaws.{refusalNumber-pos, map-given}
-use Rattle.graph.specs.Graph.{numbersFor}
 use Rattle.graph.specs.GraphLaws.{cleared-numbers}
-use Rattle.host_words.specs.Answers.{unless, AnswersWords}
+use Rattle.host_words.specs.Layout.{unless, AnswersWords}
 
 -- ---- words in order
 
@@ -26,36 +26,36 @@ getD-zero (n ∷ ns) zero = refl
 getD-zero (n ∷ ns) (suc k) = getD-zero ns k
 
 -- a zero behind the last word says nothing
-pub numbers-zero : (ns : List ℕ) (count : ℕ) → numbersFor (ns ++ 0 ∷ []) count ≡ numbersFor ns count
-unfolding numbersFor
+pub numbers-zero : (ns : List ℕ) (count : ℕ) → padded (ns ++ 0 ∷ []) count ≡ padded ns count
+unfolding padded
 numbers-zero ns count = listOf-ext (λ k. getD (ns ++ 0 ∷ []) k 0) (λ k. getD ns k 0) count (λ k h. getD-zero ns k)
 
-pub numbers-none : (count : ℕ) → numbersFor (0 ∷ 0 ∷ 0 ∷ 0 ∷ []) count ≡ numbersFor [] count
+pub numbers-none : (count : ℕ) → padded (0 ∷ 0 ∷ 0 ∷ 0 ∷ []) count ≡ padded [] count
 numbers-none count = numbers-zero (0 ∷ 0 ∷ 0 ∷ []) count ∙ numbers-zero (0 ∷ 0 ∷ []) count ∙ numbers-zero (0 ∷ []) count ∙ numbers-zero [] count
 
-pub numbers-two : (a b count : ℕ) → numbersFor (a ∷ b ∷ 0 ∷ 0 ∷ []) count ≡ numbersFor (a ∷ b ∷ []) count
+pub numbers-two : (a b count : ℕ) → padded (a ∷ b ∷ 0 ∷ 0 ∷ []) count ≡ padded (a ∷ b ∷ []) count
 numbers-two a b count = numbers-zero (a ∷ b ∷ 0 ∷ []) count ∙ numbers-zero (a ∷ b ∷ []) count
 
-pub numbers-one : (a count : ℕ) → numbersFor (a ∷ 0 ∷ 0 ∷ 0 ∷ []) count ≡ numbersFor (a ∷ []) count
+pub numbers-one : (a count : ℕ) → padded (a ∷ 0 ∷ 0 ∷ 0 ∷ []) count ≡ padded (a ∷ []) count
 numbers-one a count = numbers-two a 0 count ∙ numbers-zero (a ∷ []) count
 
 -- words that are cleared hold nothing
-pub cleared-none : (ws ws′ : List ℕ) → ws′ ≡ clearedFrom 0 ws → ws′ ≡ numbersFor [] (length ws)
+pub cleared-none : (ws ws′ : List ℕ) → ws′ ≡ clearedFrom 0 ws → ws′ ≡ padded [] (length ws)
 cleared-none ws ws′ e = e ∙ cleared-numbers ws [] (omega arith) (λ i h. absurd (omega arith))
 
 -- ---- values and refusals
 
-pub tells-given : (ns old new : List ℕ) → new ≡ numbersFor ns (length old) → AnswersWords (given ns) old new 0
+pub tells-given : (ns old new : List ℕ) → new ≡ padded ns (length old) → AnswersWords (given ns) old new 0
 unfolding refusalOf valueOr
 tells-given ns old new e = record { number = refl; words = e }
 
-pub tells-refused : (q : Refusal) (old new : List ℕ) (r : ℕ) → new ≡ numbersFor (0 ∷ 0 ∷ 0 ∷ 0 ∷ []) (length old) → r ≡ refusalNumber q → AnswersWords (refused (refusalNumber q)) old new r
+pub tells-refused : (q : Refusal) (old new : List ℕ) (r : ℕ) → new ≡ padded (0 ∷ 0 ∷ 0 ∷ 0 ∷ []) (length old) → r ≡ refusalNumber q → AnswersWords (refused (refusalNumber q)) old new r
 unfolding refusalOf valueOr
 tells-refused q old new r e n = record { number = n; words = e ∙ numbers-none (length old) }
 
 module _ {A : Type 0} (old new : List ℕ) (r : ℕ) where
   -- the words of a value
-  pub tells-value : (f : A → List ℕ) (a : Answer A) (x : A) (ns : List ℕ) → a ≡ given x → numbersFor ns (length old) ≡ numbersFor (f x) (length old) → AnswersWords (given ns) old new r → AnswersWords (mapAnswer f a) old new r
+  pub tells-value : (f : A → List ℕ) (a : Answer A) (x : A) (ns : List ℕ) → a ≡ given x → padded ns (length old) ≡ padded (f x) (length old) → AnswersWords (given ns) old new r → AnswersWords (mapAnswer f a) old new r
   unfolding mapAnswer refusalOf valueOr
   tells-value f a x ns e w t =
       subst (λ (y : Answer A). AnswersWords (mapAnswer f y) old new r) (sym e) (record { number = t .number; words = t .words ∙ w })
@@ -65,7 +65,7 @@ module _ {A : Type 0} (old new : List ℕ) (r : ℕ) where
   tells-one f a n e t =
       let m = map-given f a n (sym e) in
       tells-value (λ x. f x ∷ []) a (m .0) (n ∷ 0 ∷ 0 ∷ 0 ∷ []) (m .1)
-      (numbers-one n (length old) ∙ ap (λ (k : ℕ). numbersFor (k ∷ []) (length old)) (sym (m .2))) t
+      (numbers-one n (length old) ∙ ap (λ (k : ℕ). padded (k ∷ []) (length old)) (sym (m .2))) t
 
   pub tells-no : (f : A → List ℕ) (a : Answer A) (q : Refusal) → a ≡ refused (refusalNumber q) → AnswersWords (refused (refusalNumber q)) old new r → AnswersWords (mapAnswer f a) old new r
   unfolding mapAnswer refusalOf valueOr
@@ -73,7 +73,7 @@ module _ {A : Type 0} (old new : List ℕ) (r : ℕ) where
 
 -- the words of a struct whose verdict tells no refusal: those of its value, and zeros for the value of a refusal
 pub tells-struct : {A : Type 0} (old new : List ℕ) (r : ℕ) (f : A → List ℕ) (a : Answer A) (d : A) (ns : List ℕ) → 0 ≡ refusalOf a
-    → numbersFor ns (length old) ≡ numbersFor (f (valueOr d a)) (length old) → numbersFor (f d) (length old) ≡ numbersFor [] (length old)
+    → padded ns (length old) ≡ padded (f (valueOr d a)) (length old) → padded (f d) (length old) ≡ padded [] (length old)
     → AnswersWords (given ns) old new r → AnswersWords (mapAnswer f a) old new r
 unfolding mapAnswer refusalOf valueOr
 tells-struct old new r f (given x) d ns e w z t = record { number = t .number; words = t .words ∙ w }

@@ -4,13 +4,13 @@ use mathlib.Core.List.{List, [], _∷_, _++_}
 use Prim.Native.Nat.{ℕ, zero, suc, _%_, _≤_, _<_}
 use lib.ListN.{getD}
 use borrow.Author.Tests.{eq-eqb, ne-eqb, le-leb, lt-leb}
-use Rattle.cells.specs.Words.{Sound}
+use Rattle.cells.specs.Set.{Sound}
 use Rattle.cells.specs.WordLaws.{wordsOf-number}
 use Rattle.cells.specs.ArrayLaws.{listOf-ext}
 use Rattle.board.specs.declared.RectangularBoard.{RectangularBoard}
 use Rattle.board.specs.Board.{boardOf}
 use Rattle.rectangle.specs.Board.{noBoard}
-use Rattle.graph.specs.Graph.{numbersFor}
+use Rattle.cells.specs.Lists.{padded}
 use Rattle.host_words.specs.Layout.{boardWords, plotShape}
 use Rattle.host_words.specs.Inner.{structWords}
 
@@ -22,8 +22,8 @@ board-words b f l =
     ap₂ (λ (x y : List ℕ). b .width ∷ b .height ∷ x ++ y) (sym (wordsOf-number (b .fixed) f)) (sym (wordsOf-number (b .laid) l))
 
 -- the words of the 0 by 0 board are zeros
-pub board-none : (count : ℕ) → numbersFor [] count ≡ numbersFor (boardWords noBoard) count
-unfolding numbersFor boardWords
+pub board-none : (count : ℕ) → padded [] count ≡ padded (boardWords noBoard) count
+unfolding padded boardWords
 board-none count = listOf-ext (λ k. getD [] k 0) (λ k. getD (boardWords noBoard) k 0) count (λ k h. ten k)
   where
     ten : (k : ℕ) → 0 ≡ getD (boardWords noBoard) k 0

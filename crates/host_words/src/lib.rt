@@ -13,9 +13,8 @@ ghost use mathlib.Core.List.{[], _∷_};
 ghost use lib.ListN.{length, getD};
 ghost use Rattle.refusal.specs.Refusal.{refused, given, refusalNumber, verdictNumber};
 ghost use Rattle.board.specs.Board.{boardOf};
-ghost use Rattle.graph.specs.Graph.{numbersFor};
-ghost use Rattle.host_words.specs.Layout.{boardIn, boardWords, completeIn, resultIn, plotShape};
-ghost use Rattle.host_words.specs.Answers.{AnswersWords};
+ghost use Rattle.cells.specs.Lists.{padded};
+ghost use Rattle.host_words.specs.Layout.{boardIn, boardWords, completeIn, resultIn, plotShape, AnswersWords};
 ghost use Rattle.host_words.specs.Inner.{structWords};
 
 // Word i, 0 where it is not lent.
@@ -100,7 +99,7 @@ fn word_of(i: usize, w0: u64, w1: u64, w2: u64, w3: u64) -> u64
 
 // Four words, or as many of them as are lent, and zeros behind.
 fn put_words(words: &mut [u64], w0: u64, w1: u64, w2: u64, w3: u64)
-    ensures { λ _. ⌜ now (words .exit) ≡ numbersFor (w0 ∷ w1 ∷ w2 ∷ w3 ∷ []) (length (now (words .entry))) ⌝ }
+    ensures { λ _. ⌜ now (words .exit) ≡ padded (w0 ∷ w1 ∷ w2 ∷ w3 ∷ []) (length (now (words .entry))) ⌝ }
 {
     let mut i = 0;
     while i < words.len() {
@@ -148,7 +147,7 @@ fn board_word(board: RectangularBoard, i: usize) -> u64
 
 // The words of a board, and zeros behind.
 pub fn put_board(words: &mut [u64], board: RectangularBoard)
-    ensures { λ _. ⌜ now (words .exit) ≡ numbersFor (boardWords (boardOf board)) (length (now (words .entry))) ⌝ }
+    ensures { λ _. ⌜ now (words .exit) ≡ padded (boardWords (boardOf board)) (length (now (words .entry))) ⌝ }
 {
     let mut i = 0;
     while i < words.len() {

@@ -10,19 +10,18 @@ use lib.ListN.{length, replicate, take}
 use Rattle.refusal.specs.Refusal.{Answer, refused, given, mapAnswer, refusalOf, valueOr}
 use Rattle.direction.specs.Direction.{step, rotate, reflect}
 use Rattle.tile.specs.Path.{cellCount}
-use Rattle.tiles.specs.Stored.{pathsIn}
+use Rattle.tiles.specs.Paths.{pathsIn}
 use Rattle.tile.specs.EdgeTest.{edgeJoined, edgeJoined-iff}
 use Rattle.board.specs.Board.{boardOf}
 use Rattle.rectangle.specs.Board.{isFree}
-use Rattle.covers.specs.Cuttings.{Exactly}
-use Rattle.graph.specs.Rooms.{layerRoom}
+use Rattle.covers.specs.Counts.{Exactly}
+use Rattle.graph.specs.Graph.{layerRoom, edgesFor}
 use Rattle.path_count.specs.PathCounts.{countsFor}
-use Rattle.graph.specs.Graph.{numbersFor, edgesFor}
-use Rattle.cells.specs.Lists.{wordsFor}
-use Rattle.cells.specs.Arrays.{listOf}
-use Rattle.cells.specs.Words.{number, value, wordsBelow, Small}
+use Rattle.cells.specs.Lists.{padded, listOf, wordsFor}
+use Rattle.cells.specs.Set.{number, value, wordsBelow}
+use Rattle.cells.specs.WordLaws.{Small}
 use Rattle.tiler.specs.Graphs.{Graph}
-use Rattle.expansion.specs.Cuttings.{IsCutting, HasFreeCell, AllEdgeJoined}
+use Rattle.expansion.specs.Plots.{IsCutting, HasFreeCell, AllEdgeJoined}
 use Rattle.known_plots.specs.KnownPlots.{map-at}
 use Rattle.plot_file.specs.PlotFile.{Plot, noPlot}
 use Rattle.host_words.specs.Layout.{boardIn, boardWords, resultWords}
@@ -112,8 +111,8 @@ unfolding counted step listOf number
 two-tilings = refl
 
 -- what `cuttings_count_tilings` then leaves in two answer words, and in five
-two-words : (numbersFor (wordsBelow 2 2) 2 ≡ 2 ∷ 0 ∷ []) × (numbersFor (wordsBelow 2 2) 5 ≡ 2 ∷ 0 ∷ 0 ∷ 0 ∷ 0 ∷ [])
-unfolding numbersFor wordsBelow
+two-words : (padded (wordsBelow 2 2) 2 ≡ 2 ∷ 0 ∷ []) × (padded (wordsBelow 2 2) 5 ≡ 2 ∷ 0 ∷ 0 ∷ 0 ∷ 0 ∷ [])
+unfolding padded wordsBelow
 two-words = (refl, refl)
 
 -- "graph 2 nodes 4 edges 4": nodes, counts, edges and full node
@@ -146,8 +145,8 @@ graph-words : (wordsFor (twoByTwo .nodes) 16 ≡ nodeWords) × (countsFor (twoBy
 unfolding wordsFor countsFor edgesFor
 graph-words = (refl, refl, refl)
 
-result-four-words : numbersFor (resultWords 4 4 (some 3)) 4 ≡ result
-unfolding resultWords numbersFor
+result-four-words : padded (resultWords 4 4 (some 3)) 4 ≡ result
+unfolding resultWords padded
 result-four-words = refl
 
 -- a 1 by 1 board, which no domino covers: one node, and no full node
@@ -155,8 +154,8 @@ one-cell : generated 1 1 noMarks dominoes 4 1 0 4 ≡ given (record { nodes = 0 
 unfolding generated step listOf number
 one-cell = refl
 
-no-full-node : numbersFor (resultWords 1 0 none) 4 ≡ 1 ∷ 0 ∷ 0 ∷ 0 ∷ []
-unfolding resultWords numbersFor
+no-full-node : padded (resultWords 1 0 none) 4 ≡ 1 ∷ 0 ∷ 0 ∷ 0 ∷ []
+unfolding resultWords padded
 no-full-node = refl
 
 -- ---- the tiling by number, of that graph
@@ -219,14 +218,14 @@ joined = subst AllEdgeJoined (sym two-paths) dominoes-joined
 
 count-call : AnswersCount (counted 2 2 noMarks dominoes (layerRoom 8 2 8 2) 2) (lent 8) (lent 2) (lent 8) (lent 2) (lent 2)
     (replicate 8 0) (replicate 2 0) (replicate 8 0) (replicate 2 0) (2 ∷ 0 ∷ []) 0
-unfolding layerRoom refusalOf mapAnswer valueOr wordsBelow numbersFor
+unfolding layerRoom refusalOf mapAnswer valueOr wordsBelow padded
 count-call =
     subst (λ (a : Answer ℕ). AnswersCount a (lent 8) (lent 2) (lent 8) (lent 2) (lent 2) (replicate 8 0) (replicate 2 0) (replicate 8 0) (replicate 2 0) (2 ∷ 0 ∷ []) 0)
     (sym two-tilings)
     record { answered = record { number = refl; words = refl }; zeroBoardsA = refl; zeroCountsA = refl; zeroBoardsB = refl; zeroCountsB = refl }
 
 graph-call : AnswersGraph (generated 2 2 noMarks dominoes 16 4 8 4) (lent 16) (lent 4) (lent 8) (lent 4) nodeWords countWords edgeWords result 0
-unfolding refusalOf mapAnswer valueOr wordsFor numbersFor countsFor edgesFor resultWords
+unfolding refusalOf mapAnswer valueOr wordsFor padded countsFor edgesFor resultWords
 graph-call =
     subst (λ (a : Answer Graph). AnswersGraph a (lent 16) (lent 4) (lent 8) (lent 4) nodeWords countWords edgeWords result 0) (sym its-graph)
     record { answered = record { number = refl; words = refl }; nodesLeft = refl; countsLeft = refl; edgesLeft = refl }
@@ -236,11 +235,11 @@ abbrev Numbered : List ℕ → List ℕ → Type 0
 Numbered m out′ = NumberedCall (countTold (2 ∷ 0 ∷ [])) nodeWords countWords edgeWords (take 4 result) m (lent 5) (lent 1) out′ (3 ∷ []) 0
 
 call-0 : Numbered (0 ∷ 0 ∷ []) (0 ∷ 1 ∷ 3 ∷ 0 ∷ 0 ∷ [])
-unfolding numbered value refusalOf mapAnswer valueOr numbersFor
+unfolding numbered value refusalOf mapAnswer valueOr padded
 call-0 = record { two = refl; below = lit< tt; room = lit≤ tt; word = lit≤ tt; call = record { answered = record { number = refl; words = refl }; outLeft = refl } }
 
 call-1 : Numbered (1 ∷ 0 ∷ []) (0 ∷ 2 ∷ 3 ∷ 0 ∷ 0 ∷ [])
-unfolding numbered value refusalOf mapAnswer valueOr numbersFor
+unfolding numbered value refusalOf mapAnswer valueOr padded
 call-1 = record { two = refl; below = lit< tt; room = lit≤ tt; word = lit≤ tt; call = record { answered = record { number = refl; words = refl }; outLeft = refl } }
 
 -- two cuttings, and each call gives one
@@ -298,12 +297,12 @@ unfolding readFile rotate reflect
 worked-plot = refl
 
 -- the ten words of the board, and the number of tiles
-worked-board : numbersFor (boardWords (plot .board)) 10 ≡ 2 ∷ 2 ∷ replicate 8 0
-unfolding numbersFor boardWords
+worked-board : padded (boardWords (plot .board)) 10 ≡ 2 ∷ 2 ∷ replicate 8 0
+unfolding padded boardWords
 worked-board = refl
 
-worked-number : numbersFor (length (plot .tiles) ∷ []) 1 ≡ 4 ∷ []
-unfolding numbersFor
+worked-number : padded (length (plot .tiles) ∷ []) 1 ≡ 4 ∷ []
+unfolding padded
 worked-number = refl
 
 -- so is left, whatever stood in the lent words
@@ -316,15 +315,15 @@ worked-left board tiles answer board′ tiles′ answer′ r b t a told =
       read-plot-returns worked board tiles answer board′ tiles′ answer′ r told .1 (plot, e),
       told .boardLeft ∙ left (length board) (readFile worked (length board) (length tiles) (length answer)) b e,
       words-given (λ p. length (p .tiles) ∷ []) (readFile worked (length board) (length tiles) (length answer)) plot answer answer′ r e (told .answered)
-          ∙ ap (numbersFor (4 ∷ [])) a
+          ∙ ap (padded (4 ∷ [])) a
           ∙ worked-number,
     )
   where
-    left : (n : ℕ) (x : Answer Plot) → n ≡ 10 → x ≡ given plot → numbersFor (boardWords (valueOr noPlot x .board)) n ≡ 2 ∷ 2 ∷ replicate 8 0
+    left : (n : ℕ) (x : Answer Plot) → n ≡ 10 → x ≡ given plot → padded (boardWords (valueOr noPlot x .board)) n ≡ 2 ∷ 2 ∷ replicate 8 0
     left n x p q = rw (p, q) worked-board
 
 -- a board with marks: fixed 1 and 2^64, laid 2^255
-marked-board : numbersFor (boardWords (record { width = 16; height = 16; fixed = 1 + 2 ^ 64; laid = 2 ^ 255 })) 11
+marked-board : padded (boardWords (record { width = 16; height = 16; fixed = 1 + 2 ^ 64; laid = 2 ^ 255 })) 11
     ≡ 16 ∷ 16 ∷ 1 ∷ 1 ∷ 0 ∷ 0 ∷ 0 ∷ 0 ∷ 0 ∷ 9223372036854775808 ∷ 0 ∷ []
-unfolding numbersFor boardWords
+unfolding padded boardWords
 marked-board = refl

@@ -6,34 +6,29 @@ use Prim.Native.Nat.{ℕ, _*_, _%_, _^_, _≤_, _<_}
 use native.Mathlib.Omega.{arith}
 use lib.Dec.{lit<}
 use lib.ListN.{length, getD, take, drop, length-take, length-drop}
-use Rattle.cells.specs.Words.{wordsBelow}
-use Rattle.cells.specs.Lists.{wordsFor}
+use Rattle.cells.specs.Set.{wordsBelow}
+use Rattle.cells.specs.Lists.{wordsFor, padded}
 use Rattle.refusal.specs.declared.Verdict.the-variants as Verdicts
 use Rattle.refusal.specs.Refusal.{Answer, given, mapAnswer, refusalOf, valueOr}
 use Rattle.refusal.specs.RefusalLaws.{map-given}
-use Rattle.tile.specs.Path.{Path}
-use Rattle.tiles.specs.Paths.{orbit}
-use Rattle.tile.specs.Stored.{readTile}
-use Rattle.tiles.specs.Stored.{readTiles}
+use Rattle.tile.specs.Path.{Path, readTile}
+use Rattle.tiles.specs.Paths.{orbit, readTiles}
 use Rattle.tile.specs.StoredLaws.{readTile-is}
 use Rattle.tiles.specs.StoredLaws.{readTiles-orbit}
 use Rattle.tiles.specs.OrbitLaws.{orbit-length-le}
 use Rattle.board.specs.Board.{readBoard}
 use Rattle.path_count.specs.PathCounts.{countsFor}
-use Rattle.graph.specs.Graph.{numbersFor, edgesFor}
-use Rattle.graph.specs.GraphLaws.{length-numbersFor}
-use Rattle.graph.specs.Rooms.{layerRoom}
-use Rattle.graph.specs.Result.{completeNode}
+use Rattle.graph.specs.Graph.{edgesFor, layerRoom, completeNode}
+use Rattle.cells.specs.ArrayLaws.{length-padded}
 use Rattle.layers.specs.LayerCounts.{countTilings}
 use Rattle.tiler.specs.declared.MadeGraph.{MadeGraph}
 use Rattle.tiler.specs.Graphs.{Graph, noGraph, generateGraph, GeneratesGraph}
 use Rattle.plot_file.specs.PlotFile.{Plot, noPlot, plotIn}
 use Rattle.plot_file.specs.Theorems.{accepted-plot, accepted-fixed}
-use Rattle.host_words.specs.Layout.{boardIn, boardWords, resultIn, resultWords, plotShape}
-use Rattle.host_words.specs.Answers.{AnswersWords}
+use Rattle.host_words.specs.Layout.{boardIn, boardWords, resultIn, resultWords, plotShape, AnswersWords, AnswersList}
 use Rattle.host_words.specs.LayoutLaws.{plot-right}
 use Rattle.host_tiles.specs.TileBytes.{tileIn, tilesIn, bytesFor}
-use Rattle.host_plots.specs.Calls.{orbitShape, fileShape, orbitFor, AnswersTiles, readFile, AnswersPlot}
+use Rattle.host_plots.specs.Calls.{orbitShape, fileShape, orbitFor, readFile, AnswersPlot}
 use Rattle.host_counts.specs.Calls.{counted, AnswersCount, generated, AnswersGraph}
 use Rattle.host_tilings.specs.Calls.{tilingShape}
 use Rattle.host_tilings.specs.CallLaws.{tiling-right}
@@ -41,13 +36,13 @@ use Rattle.hosts.specs.ReturnLaws.{zero-given, unless-given, plot-shape,
 use Rattle.hosts.specs.ReadBackLaws.{number-at, board-back, tiles-stored, tiles-back, bytes-length, result-left, result-nodes, result-edges, result-length, result-complete, result-flag}
 
 -- the words of a value
-pub words-given : {A : Type 0} (f : A → List ℕ) (a : Answer A) (x : A) (old new : List ℕ) (r : ℕ) → a ≡ given x → AnswersWords (mapAnswer f a) old new r → new ≡ numbersFor (f x) (length old)
+pub words-given : {A : Type 0} (f : A → List ℕ) (a : Answer A) (x : A) (old new : List ℕ) (r : ℕ) → a ≡ given x → AnswersWords (mapAnswer f a) old new r → new ≡ padded (f x) (length old)
 unfolding mapAnswer valueOr
-words-given {A} f a x old new r e t = t .words ∙ ap (λ (y : Answer A). numbersFor (valueOr [] (mapAnswer f y)) (length old)) e
+words-given {A} f a x old new r e t = t .words ∙ ap (λ (y : Answer A). padded (valueOr [] (mapAnswer f y)) (length old)) e
 
 -- ---- `cuttings_orbit`
 
-module _ (tile tiles answer tiles′ answer′ : List ℕ) (told : AnswersTiles (orbitFor tile (length tiles) (length answer)) tiles answer tiles′ answer′ 0) where
+module _ (tile tiles answer tiles′ answer′ : List ℕ) (told : AnswersList bytesFor (orbitFor tile (length tiles) (length answer)) tiles answer tiles′ answer′ 0) where
   tiles-told : (ps : List Path) × (orbitFor tile (length tiles) (length answer) ≡ given ps)
   tiles-told =
       zero-given (λ ps. length ps ∷ []) (orbitFor tile (length tiles) (length answer)) answer answer′ 0 (orbitFor-refuses tile (length tiles) (length answer)) (told .answered) .0 refl
@@ -67,7 +62,7 @@ module _ (tile tiles answer tiles′ answer′ : List ℕ) (told : AnswersTiles 
       let number : getD answer′ 0 0 ≡ length (orbit (m .0)) =
       ap (λ (ws : List ℕ). getD ws 0 0) (words-given (λ ps. length ps ∷ []) (orbitFor tile (length tiles) (length answer)) (orbit (m .0)) answer answer′ 0 e (told .answered))
       ∙ number-at (length (orbit (m .0)) ∷ []) (length answer) 0 (lent .2) in
-      let left : tiles′ ≡ bytesFor (orbit (m .0)) (length tiles) = told .tilesLeft ∙ ap (λ (a : Answer (List Path)). bytesFor (valueOr [] a) (length tiles)) e in
+      let left : tiles′ ≡ bytesFor (orbit (m .0)) (length tiles) = told .outLeft ∙ ap (λ (a : Answer (List Path)). bytesFor (valueOr [] a) (length tiles)) e in
       let fine = readTile-is (tileIn tile) (m .0) (m .1) in (
         m .0,
         m .1,
@@ -103,9 +98,9 @@ module _ (file board tiles answer board′ tiles′ answer′ : List ℕ)
       (words-given (λ p. length (p .tiles) ∷ []) (readFile file (length board) (length tiles) (length answer)) plot answer answer′ 0 (plot-told .1) (told .answered))
       ∙ number-at (length (plot .tiles) ∷ []) (length answer) 0 (plot-lent .2)
 
-  left-board : board′ ≡ numbersFor (boardWords (plot .board)) (length board)
+  left-board : board′ ≡ padded (boardWords (plot .board)) (length board)
   unfolding valueOr
-  left-board = told .boardLeft ∙ ap (λ (a : Answer Plot). numbersFor (boardWords (valueOr noPlot a .board)) (length board)) (plot-told .1)
+  left-board = told .boardLeft ∙ ap (λ (a : Answer Plot). padded (boardWords (valueOr noPlot a .board)) (length board)) (plot-told .1)
 
   left-tiles : tiles′ ≡ bytesFor (plot .tiles) (length tiles)
   unfolding valueOr
@@ -127,7 +122,7 @@ module _ (file board tiles answer board′ tiles′ answer′ : List ℕ)
   -- and has the shapes that other calls want
   plot-shaped : (length (take 8 (drop 2 board′)) ≡ 8) × (length (take (33 * getD answer′ 0 0) tiles′) ≡ 33 * getD answer′ 0 0)
   plot-shaped = (
-    marks (length board) (plot-lent .0) board′ (ap length left-board ∙ length-numbersFor (boardWords (plot .board)) (length board)),
+    marks (length board) (plot-lent .0) board′ (ap length left-board ∙ length-padded (boardWords (plot .board)) (length board)),
     ap (λ (n : ℕ). length (take (33 * n) tiles′)) plot-number
         ∙ bytes-length (plot .tiles) (length tiles) (plot-lent .1) (accepted-plot file plot (plot-parts .1) .2) tiles′ left-tiles
         ∙ ap (λ (n : ℕ). 33 * n) (sym plot-number),
@@ -158,7 +153,7 @@ module _ (width height : ℕ) (marks tiles boardsA countsA boardsB countsB answe
     count-parts = unless-given (plotShape 2 (length marks) (length tiles) (length answer)) (countTilings (boardIn width height marks) (tilesIn tiles) room) (count-told .0) (count-told .1)
 
     -- the count, and its two words
-    pub count-given : (n : ℕ) × (countTilings (boardIn width height marks) (tilesIn tiles) room ≡ given n) × (2 ≤ length answer) × (answer′ ≡ numbersFor (wordsBelow 2 n) (length answer))
+    pub count-given : (n : ℕ) × (countTilings (boardIn width height marks) (tilesIn tiles) room ≡ given n) × (2 ≤ length answer) × (answer′ ≡ padded (wordsBelow 2 n) (length answer))
     count-given = (
       count-told .0,
       count-parts .1,

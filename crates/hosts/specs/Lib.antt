@@ -7,3 +7,4 @@ pub mod HandedOnLaws
 pub mod CuttingLaws
 pub mod Theorems
 pub mod Examples
+pub mod WordExamples

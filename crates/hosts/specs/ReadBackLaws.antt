@@ -12,36 +12,37 @@ use lib.Dec.{eqb, lit<, lit≤}
 use lib.ListN.{length, getD, take, drop, List·getD-eq-default}
 use lib.Seq.{getD-take, getD-drop, length-take-le}
 use borrow.Author.Tests.{ne-eqb}
-use Rattle.cells.specs.Words.{value, wordsBelow, wordsOf, Small}
-use Rattle.cells.specs.WordLaws.{value-wordsBelow}
-use Rattle.cells.specs.Arrays.{listOf}
+use Rattle.cells.specs.Set.{value, wordsBelow, wordsOf}
+use Rattle.cells.specs.WordLaws.{Small, value-wordsBelow}
+use Rattle.cells.specs.Lists.{listOf, padded}
 use Rattle.cells.specs.ArrayLaws.{length-listOf, getD-listOf, listOf-ext}
 use Rattle.tile.specs.Path.{Path}
-use Rattle.tiles.specs.Stored.{Storable, readTiles, tilesOf}
-use Rattle.tiles.specs.StoredLaws.{readTiles-tilesOf}
+use Rattle.tiles.specs.Inner.{Storable}
+use Rattle.tiles.specs.Paths.{readTiles, tilesOf}
+use Rattle.tiles.specs.StoredLaws.{readTiles-tilesOf, tilesAt, tilesOf-at}
 use Rattle.refusal.specs.Refusal.{given}
 use Rattle.rectangle.specs.Board.{Board, valid}
 use Rattle.board.specs.Board.{readBoard}
 use Rattle.board.specs.BoardLaws.{structOf, board-struct, readBoard-given}
 use Rattle.covers.specs.Counts.{atNode}
 use Rattle.path_count.specs.PathCounts.{countLimit}
-use Rattle.graph.specs.Graph.{numbersFor}
-use Rattle.graph.specs.GraphLaws.{take-numbersFor}
-use Rattle.graph.specs.Result.{completeNode}
+use Rattle.graph.specs.GraphLaws.{take-padded}
+use Rattle.graph.specs.Graph.{completeNode}
 use Rattle.host_words.specs.Layout.{boardIn, boardWords, completeIn, resultIn, hasNode, resultWords}
-use Rattle.host_tiles.specs.TileBytes.{tilesIn, byteOf, bytesFor}
+use Rattle.host_tiles.specs.TileBytes.{tilesIn, bytesFor}
+use Rattle.host_tiles.specs.TileByteLaws.{byteOf, bytesFor-at}
 
 -- ---- words in order
 
-pub number-at : (ns : List ℕ) (count k : ℕ) → k < count → getD (numbersFor ns count) k 0 ≡ getD ns k 0
-unfolding numbersFor
+pub number-at : (ns : List ℕ) (count k : ℕ) → k < count → getD (padded ns count) k 0 ≡ getD ns k 0
+unfolding padded
 number-at ns count k h = getD-listOf (λ i. getD ns i 0) count k 0 h
 
 -- ---- a board
 
 module _ (b : Board) (count : ℕ) (ten : 10 ≤ count) where
   abbrev left : List ℕ
-  left = numbersFor (boardWords b) count
+  left = padded (boardWords b) count
 
   word-left : (k : ℕ) → k < 10 → getD left k 0 ≡ getD (boardWords b) k 0
   word-left k h = number-at (boardWords b) count k (omega arith)
@@ -66,7 +67,7 @@ module _ (b : Board) (count : ℕ) (ten : 10 ≤ count) where
       )
 
 -- a valid board's words are read as that board
-pub board-back : (b : Board) (count : ℕ) → 10 ≤ count → b .fixed < 2 ^ 256 → b .laid < 2 ^ 256 → valid b ≡ true → (ws : List ℕ) → ws ≡ numbersFor (boardWords b) count
+pub board-back : (b : Board) (count : ℕ) → 10 ≤ count → b .fixed < 2 ^ 256 → b .laid < 2 ^ 256 → valid b ≡ true → (ws : List ℕ) → ws ≡ padded (boardWords b) count
     → readBoard (boardIn (getD ws 0 0) (getD ws 1 0) (take 8 (drop 2 ws))) ≡ given b
 board-back b count ten f l ok ws e =
     let same = board-struct b f l in
@@ -109,25 +110,23 @@ module _ (ps : List Path) (count : ℕ) (room : 33 * length ps ≤ count) where
   bytes = take (33 * length ps) (bytesFor ps count)
 
   length-bytesFor : length (bytesFor ps count) ≡ count
-  unfolding bytesFor
-  length-bytesFor = length-listOf (byteOf ps) count
+  length-bytesFor = ap length (bytesFor-at ps count) ∙ length-listOf (byteOf ps) count
 
   length-bytes : length bytes ≡ 33 * length ps
   length-bytes = length-take-le (33 * length ps) (bytesFor ps count) (omega (arith, length-bytesFor))
 
   byte-left : (k : ℕ) → getD bytes k 0 ≡ byteOf ps k
-  unfolding bytesFor
   byte-left k = go (decLt k (33 * length ps))
     where
       go : Dec (k < 33 * length ps) → getD bytes k 0 ≡ byteOf ps k
-      go (yes h) = getD-take (33 * length ps) (listOf (byteOf ps) count) k 0 h ∙ getD-listOf (byteOf ps) count k 0 (omega arith)
+      go (yes h) = getD-take (33 * length ps) (bytesFor ps count) k 0 h ∙ ap (λ (bs : List ℕ). getD bs k 0) (bytesFor-at ps count) ∙ getD-listOf (byteOf ps) count k 0 (omega arith)
       go (no h) =
           let a : length bytes ≤ k = omega (arith, length-bytes) in
           let b : 33 * length ps ≤ k = omega arith in
           List·getD-eq-default bytes 0 a ∙ sym (byte-past ps k b)
 
   tiles-left : tilesIn bytes ≡ tilesOf ps
-  unfolding tilesOf
+  unfolding tilesAt
   tiles-left =
       let n : length bytes / 33 ≡ length ps = omega (arith, length-bytes) in
       let lens : listOf (λ i. getD bytes (33 * i) 0) 64 ≡ listOf (λ i. length (getD ps i [])) 64 =
@@ -135,7 +134,8 @@ module _ (ps : List Path) (count : ℕ) (room : 33 * length ps ≤ count) where
       let codes : listOf (λ k. getD bytes (33 * (k / 32) + (1 + k % 32)) 0) 2048 ≡ listOf (λ k. getD (getD ps (k / 32) []) (k % 32) 0) 2048 =
       listOf-ext (λ k. getD bytes (33 * (k / 32) + (1 + k % 32)) 0) (λ k. getD (getD ps (k / 32) []) (k % 32) 0) 2048
       (λ k h. byte-left (33 * (k / 32) + (1 + k % 32)) ∙ byte-code ps (k / 32) (k % 32) (omega arith)) in
-      λ i. record { count = n i; lens = lens i; codes = codes i }
+      let e : tilesIn bytes ≡ tilesAt ps = λ i. record { count = n i; lens = lens i; codes = codes i } in
+      e ∙ sym (tilesOf-at ps)
 
 -- the bytes of tiles are those tiles, as they are stored
 pub tiles-stored : (ps : List Path) (count : ℕ) → 33 * length ps ≤ count → (bs : List ℕ) → bs ≡ bytesFor ps count → tilesIn (take (33 * length ps) bs) ≡ tilesOf ps
@@ -161,11 +161,11 @@ module _ (nodes edges : ℕ) (complete : Option ℕ) where
   result-four = refl
 
   -- four words that were written are read as they were
-  pub result-left : (count : ℕ) → 4 ≤ count → (ws : List ℕ) → ws ≡ numbersFor (resultWords nodes edges complete) count → take 4 ws ≡ resultWords nodes edges complete
+  pub result-left : (count : ℕ) → 4 ≤ count → (ws : List ℕ) → ws ≡ padded (resultWords nodes edges complete) count → take 4 ws ≡ resultWords nodes edges complete
   result-left count h ws e =
       ap (take 4) e
-      ∙ subst (λ (k : ℕ). take k (numbersFor (resultWords nodes edges complete) count) ≡ resultWords nodes edges complete) result-four
-      (take-numbersFor (resultWords nodes edges complete) count (omega (arith, result-four)))
+      ∙ subst (λ (k : ℕ). take k (padded (resultWords nodes edges complete) count) ≡ resultWords nodes edges complete) result-four
+      (take-padded (resultWords nodes edges complete) count (omega (arith, result-four)))
 
   pub result-nodes : resultIn (resultWords nodes edges complete) .nodes ≡ nodes
   unfolding resultIn resultWords
@@ -216,9 +216,9 @@ pub value-two : (n : ℕ) → n < countLimit → value (wordsBelow 2 n) ≡ n
 value-two n h = value-wordsBelow 2 n (lt-of-lt-of-le h (lit≤ tt))
 
 -- the two words of a count are read as the count
-pub count-back : (n count : ℕ) → n < countLimit → 2 ≤ count → (ws : List ℕ) → ws ≡ numbersFor (wordsBelow 2 n) count → value (take 2 ws) ≡ n
+pub count-back : (n count : ℕ) → n < countLimit → 2 ≤ count → (ws : List ℕ) → ws ≡ padded (wordsBelow 2 n) count → value (take 2 ws) ≡ n
 count-back n count h l ws e =
     ap value
     (ap (take 2) e
-    ∙ subst (λ (k : ℕ). take k (numbersFor (wordsBelow 2 n) count) ≡ wordsBelow 2 n) (two-words n) (take-numbersFor (wordsBelow 2 n) count (subst (λ (k : ℕ). k ≤ count) (sym (two-words n)) l)))
+    ∙ subst (λ (k : ℕ). take k (padded (wordsBelow 2 n) count) ≡ wordsBelow 2 n) (two-words n) (take-padded (wordsBelow 2 n) count (subst (λ (k : ℕ). k ≤ count) (sym (two-words n)) l)))
     ∙ value-two n h

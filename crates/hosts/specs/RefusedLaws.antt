@@ -1,39 +1,34 @@
 -- Laws of calls that returned a refusal's number: every lent word and byte is zero. Rests on `ReturnLaws`, `ReadBackLaws`, cells' `ArrayLaws`
 -- and `ListLaws`, and path_count's `PathCountLaws`. Assumes nothing.
 use mathlib.Core.Path.{_≡_, refl, sym, ap, _∙_, subst}
-use mathlib.Core.Bool.{Bool, true, false, cond}
 use mathlib.Core.List.{List, []}
-use Prim.Native.Nat.{ℕ, zero, suc, _/_, _%_, _<_}
+use Prim.Native.Nat.{ℕ, zero, suc, _<_}
 use native.Mathlib.Omega.{arith}
-use lib.Dec.{eqb}
 use lib.ListN.{length, getD, replicate, length-replicate}
-use Rattle.cells.specs.Arrays.{listOf}
+use Rattle.cells.specs.Lists.{listOf, padded, wordsFor}
+use Rattle.cells.specs.ListLaws.{cleared-all}
 use Rattle.cells.specs.ArrayLaws.{listOf-ext, replicate-listOf}
-use Rattle.cells.specs.Lists.{wordsFor, wordAt}
-use Rattle.cells.specs.ListLaws.{wordAt-past, cleared-all}
 use Rattle.refusal.specs.Refusal.{Answer, refused, given, mapAnswer, refusalOf, valueOr}
 use Rattle.rectangle.specs.Board.{noBoard}
 use Rattle.path_count.specs.PathCounts.{countsFor}
 use Rattle.path_count.specs.PathCountLaws.{cleared-countsFor}
-use Rattle.graph.specs.Graph.{numbersFor, edgeWord, edgesFor}
-use Rattle.host_words.specs.Layout.{boardWords}
-use Rattle.host_words.specs.Answers.{AnswersWords}
-use Rattle.host_tiles.specs.TileBytes.{byteOf, bytesFor}
+use Rattle.graph.specs.Graph.{edgesFor}
+use Rattle.host_words.specs.Layout.{boardWords, AnswersWords}
+use Rattle.host_tiles.specs.TileBytes.{bytesFor}
 use Rattle.hosts.specs.ReturnLaws.{map-number}
-use Rattle.hosts.specs.ReadBackLaws.{byte-past}
 
 -- ---- words that hold nothing are zero
 
 zeros : (f : ℕ → ℕ) (n : ℕ) → ((k : ℕ) → f k ≡ 0) → listOf f n ≡ replicate n 0
 zeros f n z = listOf-ext f (λ k. 0) n (λ k h. z k) ∙ sym (replicate-listOf 0 n 0)
 
-pub no-numbers : (n : ℕ) → numbersFor [] n ≡ replicate n 0
-unfolding numbersFor
+pub no-numbers : (n : ℕ) → padded [] n ≡ replicate n 0
+unfolding padded
 no-numbers n = zeros (λ k. getD [] k 0) n (λ k. refl)
 
 pub no-sets : (n : ℕ) → wordsFor [] n ≡ replicate n 0
 unfolding wordsFor
-no-sets n = zeros (wordAt []) n (λ k. wordAt-past [] k (omega arith))
+no-sets n = no-numbers n
 
 pub no-counts : (n : ℕ) → countsFor [] n ≡ replicate n 0
 no-counts n =
@@ -45,16 +40,12 @@ no-counts n =
     ∙ ap (λ (k : ℕ). replicate k 0) long
 
 pub no-edges : (n : ℕ) → edgesFor [] n ≡ replicate n 0
-unfolding edgesFor edgeWord
-no-edges n = zeros (edgeWord []) n (λ k. go k (eqb (k % 2) 0))
-  where
-    go : (k : ℕ) (b : Bool) → cond b (getD {A = ℕ × ℕ} [] (k / 2) (0, 0) .0) (getD {A = ℕ × ℕ} [] (k / 2) (0, 0) .1) ≡ 0
-    go k true = refl
-    go k false = refl
+unfolding edgesFor
+no-edges n = no-numbers n
 
 pub no-tiles : (n : ℕ) → bytesFor [] n ≡ replicate n 0
 unfolding bytesFor
-no-tiles n = zeros (byteOf []) n (λ k. byte-past [] k (omega arith))
+no-tiles n = no-numbers n
 
 pub zero-at : (n k : ℕ) → getD (replicate {A = ℕ} n 0) k 0 ≡ 0
 zero-at zero k = refl
@@ -65,9 +56,9 @@ ten-zeros : boardWords noBoard ≡ replicate 10 0
 unfolding boardWords
 ten-zeros = refl
 
-pub no-board : (n : ℕ) → numbersFor (boardWords noBoard) n ≡ replicate n 0
-unfolding numbersFor
-no-board n = ap (λ (ws : List ℕ). numbersFor ws n) ten-zeros ∙ zeros (λ k. getD (replicate 10 0) k 0) n (zero-at 10)
+pub no-board : (n : ℕ) → padded (boardWords noBoard) n ≡ replicate n 0
+unfolding padded
+no-board n = ap (λ (ws : List ℕ). padded ws n) ten-zeros ∙ zeros (λ k. getD (replicate 10 0) k 0) n (zero-at 10)
 
 -- ---- an answer with a refusal's number has no value
 
@@ -89,7 +80,7 @@ module _ {A : Type 0} where
 
     -- and the answer words are zero
     pub words-zero : new ≡ replicate (length old) 0
-    words-zero = told .words ∙ ap (λ (ns : List ℕ). numbersFor ns (length old)) (nothing-put f a [] was-refused) ∙ no-numbers (length old)
+    words-zero = told .words ∙ ap (λ (ns : List ℕ). padded ns (length old)) (nothing-put f a [] was-refused) ∙ no-numbers (length old)
 
 -- ---- what else is lent
 

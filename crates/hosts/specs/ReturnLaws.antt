@@ -9,44 +9,37 @@ use native.Mathlib.Omega.{arith}
 use lib.Dec.{eqb, leb, ltb, lit<}
 use lib.ListN.{length}
 use borrow.Author.Tests.{eqb-true, eqb-false, leb-true}
-use Rattle.cells.specs.Words.{value}
+use Rattle.cells.specs.Set.{value}
 use Rattle.refusal.specs.Refusal.{Answer, refused, given, mapAnswer, refusalOf}
-use Rattle.refusal.specs.RefusalLaws.{refused-given}
+use Rattle.refusal.specs.RefusalLaws.{refused-given, Refuses, refuses-one, refuses-none, refuses-cond, refuses-bind, refuses-map}
 use Rattle.tile.specs.declared.Tile.{Tile}
 use Rattle.tiles.specs.declared.Tiles.{Tiles}
-use Rattle.tile.specs.Path.{Path}
-use Rattle.tiles.specs.Paths.{equalCounts, orbit}
-use Rattle.tile.specs.Stored.{readTile}
+use Rattle.tile.specs.Path.{Path, readTile}
+use Rattle.tiles.specs.Paths.{equalCounts, orbit, pathsIn, soundAt, readTiles, readEqualTiles}
 use Rattle.tile.specs.StoredLaws.{readTile-refuses}
-use Rattle.tiles.specs.Stored.{pathsIn, soundAt, readTiles, readEqualTiles}
-use Rattle.cells.specs.Arrays.{allBelow}
+use Rattle.cells.specs.Lists.{allBelow}
 use Rattle.board.specs.declared.RectangularBoard.{RectangularBoard}
 use Rattle.board.specs.Board.{boardOf, readBoard}
 use Rattle.board.specs.BoardLaws.{readBoard-positive}
 use Rattle.rectangle.specs.BoardLaws.{acceptBoard-positive}
 use Rattle.rectangle.specs.Board.{Board, marks as marksOf, acceptBoard, freeCount}
-use Rattle.children.specs.Children.{children, childrenOf, placeTile}
-use Rattle.covers.specs.Cuttings.{Setting}
-use Rattle.covers.specs.Counts.{Entry, counts, layerOf, layerCount}
+use Rattle.children.specs.Children.{children, childrenOf, placeTile, childrenAt, freeCountAt}
+use Rattle.covers.specs.Counts.{Entry, counts, layer}
 use Rattle.graph.specs.declared.GraphResult.{GraphResult}
-use Rattle.graph.specs.Rooms.{nodeRoom, edgeRoom}
-use Rattle.graph.specs.Result.{completeNode, countFromGraph}
-use Rattle.numbered_tilings.specs.Tilings.{badGraph, nodeList, tilingByNumber}
-use Rattle.expansion.specs.Boards.{setting}
+use Rattle.graph.specs.Graph.{nodeRoom, edgeRoom, completeNode, countFromGraph}
+use Rattle.numbered_tilings.specs.Tilings.{badGraph, nodeListIn, tilingByNumber}
 use Rattle.tiler.specs.Graphs.{Graph, graphOf, judgeGraph, generateGraph}
-use Rattle.layers.specs.LayerCounts.{tooLarge, judgeLayer, judgeLayers, layersAnswer, countTilings}
-use Rattle.expansion.specs.Plots.{readPlot}
+use Rattle.layers.specs.LayerCounts.{tooLarge, judgeLayer, judgeLayers, countTilings, layerCountFor}
+use Rattle.expansion.specs.Plots.{acceptPlot}
 use Rattle.single_tiling.specs.SingleTiling.{readSearch}
 use Rattle.plot_file.specs.PlotFile.{plotIn}
 use Rattle.plot_file.specs.Theorems.{refusal-listed}
-use Rattle.host_words.specs.Layout.{boardIn, resultIn, plotShape}
-use Rattle.host_words.specs.Answers.{unless, AnswersWords}
+use Rattle.host_words.specs.Layout.{boardIn, resultIn, plotShape, unless, AnswersWords}
 use Rattle.host_words.specs.AnswerLaws.{unless-right}
 use Rattle.host_tiles.specs.TileBytes.{tileIn, tilesIn}
 use Rattle.host_plots.specs.Calls.{orbitShape, fileShape, placed, orbitFor, readFile}
 use Rattle.host_counts.specs.Calls.{counted, generated}
 use Rattle.host_tilings.specs.Calls.{tilingShape, searched, numbered}
-use Rattle.refusal.specs.RefusalLaws.{Refuses, refuses-one, refuses-none, refuses-cond, refuses-bind, refuses-map}
 
 -- ---- no definition refuses by 0
 
@@ -82,8 +75,8 @@ place-refuses b ts room =
     (refuses-bind Positive (acceptBoard b) _ (accept-refuses b) (λ board. refuses-map Positive (children board) (readTiles ts) (tiles-refuses ts)))
     (λ ns. test (leb (length ns) (room / 4)) ns 8 (lit< tt))
 
-plot-refuses : (b : RectangularBoard) (ts : Tiles) → Refuses Positive (readPlot b ts)
-unfolding readPlot
+plot-refuses : (b : RectangularBoard) (ts : Tiles) → Refuses Positive (acceptPlot b ts)
+unfolding acceptPlot
 plot-refuses b ts =
     refuses-bind Positive (readBoard b) _ (board-refuses b) (λ board. refuses-map Positive (λ (paths : List Path). (board, paths)) (readEqualTiles ts) (equal-refuses ts))
 
@@ -98,15 +91,14 @@ unfolding judgeLayers
 judgeLayers-refuses at room zero = judgeLayer-refuses room (at zero)
 judgeLayers-refuses at room (suc n) = refuses-bind Positive (judgeLayers at room n) _ (judgeLayers-refuses at room n) (λ es. judgeLayer-refuses room (at (suc n)))
 
-layers-refuses : {P : Type 0} (G : Setting ℕ P) (start room : ℕ) → Refuses Positive (layersAnswer G start room)
-unfolding layersAnswer
-layers-refuses G start room =
-    refuses-map Positive (λ es. layerCount G start) (judgeLayers (layerOf G start) room (G .freeCount start)) (judgeLayers-refuses (layerOf G start) room (G .freeCount start))
+layers-refuses : (b : Board) (paths : List Path) (room : ℕ) → Refuses Positive (layerCountFor b paths room)
+unfolding layerCountFor
+layers-refuses b paths room = refuses-map Positive _ _ (judgeLayers-refuses (layer eqb (childrenAt b paths) (marksOf b)) room (freeCountAt b (marksOf b)))
 
 pub count-refuses : (b : RectangularBoard) (ts : Tiles) (room : ℕ) → Refuses Positive (countTilings b ts room)
 unfolding countTilings
 count-refuses b ts room =
-    refuses-bind Positive (readPlot b ts) _ (plot-refuses b ts) (λ p. layers-refuses (setting (p .0) (p .1)) (marksOf (p .0)) room)
+    refuses-bind Positive (acceptPlot b ts) _ (plot-refuses b ts) (λ p. layers-refuses (p .0) (p .1) room)
 
 judgeGraph-refuses : (nodes edges : ℕ) (g : Graph) → Refuses Positive (judgeGraph nodes edges g)
 unfolding judgeGraph
@@ -118,8 +110,8 @@ judgeGraph-refuses nodes edges g =
 pub graph-refuses : (b : RectangularBoard) (ts : Tiles) (nodeWords countWords edgeWords : ℕ) → Refuses Positive (generateGraph b ts nodeWords countWords edgeWords)
 unfolding generateGraph
 graph-refuses b ts nodeWords countWords edgeWords =
-    refuses-bind Positive (readPlot b ts) _ (plot-refuses b ts)
-    (λ p. judgeGraph-refuses (nodeRoom nodeWords countWords) (edgeRoom edgeWords) (graphOf (setting (p .0) (p .1)) (marksOf (p .0))))
+    refuses-bind Positive (acceptPlot b ts) _ (plot-refuses b ts)
+    (λ p. judgeGraph-refuses (nodeRoom nodeWords countWords) (edgeRoom edgeWords) (graphOf (p .0) (p .1)))
 
 pub search-refuses : (b : RectangularBoard) (ts : Tiles) (room : ℕ) → Refuses Positive (readSearch b ts room)
 unfolding readSearch
@@ -132,7 +124,7 @@ unfolding tilingByNumber
 tiling-refuses r nodeWords counts edges m room =
     refuses-cond Positive (badGraph r nodeWords counts edges) _ _ (one 11 (lit< tt))
     (refuses-cond Positive (ltb m (countFromGraph (completeNode (r .complete)) counts)) _ _
-    (test (leb (length (nodeList r counts edges m)) room) (nodeList r counts edges m) 8 (lit< tt)) (one 12 (lit< tt)))
+    (test (leb (length (nodeListIn r counts edges m)) room) (nodeListIn r counts edges m) 8 (lit< tt)) (one 12 (lit< tt)))
 
 pub orbit-refuses : (t : Tile) → Refuses Positive (mapAnswer orbit (readTile t))
 orbit-refuses t = refuses-map Positive orbit (readTile t) (readTile-refuses t Positive (lit< tt))

@@ -1,6 +1,6 @@
 -- What the exported functions mean for a host: the theorem page. When 0 is returned; that the answer is then that of the call below; that nothing is left
 -- after a refusal; what the words and bytes that one call leaves are to the next call; and demand 3, over the words that the C calls leave. What each
--- function returns and leaves, for every input, is said by the records of `Calls` of `host_plots`, `host_counts` and `host_tilings`, and each statement here is of calls of which they hold. What stands in
+-- function returns and leaves, for every input, is said by `AnswersList` of host_words' `Layout` and the records of `Calls` of `host_plots`, `host_counts` and `host_tilings`, and each statement here is of calls of which they hold. What stands in
 -- quotation marks is demand 3's. Rests on `ReturnLaws`, `RefusedLaws`, `HandedOnLaws` and `CuttingLaws`. Assumes nothing.
 use mathlib.Core.Path.{_≡_, refl, ap, _∙_}
 use mathlib.Core.Logic.{_↔_}
@@ -8,32 +8,29 @@ use mathlib.Core.Bool.{Bool}
 use mathlib.Core.List.{List, []}
 use Prim.Native.Nat.{ℕ, _+_, _*_, _/_, _≤_, _<_}
 use lib.ListN.{length, getD, take, drop, replicate}
-use Rattle.cells.specs.Words.{Small, value}
-use Rattle.cells.specs.Lists.{wordsFor}
+use Rattle.cells.specs.WordLaws.{Small}
+use Rattle.cells.specs.Set.{value}
+use Rattle.cells.specs.Lists.{wordsFor, padded}
 use Rattle.refusal.specs.Refusal.{Answer, given, mapAnswer}
-use Rattle.tile.specs.Path.{Path}
-use Rattle.tiles.specs.Paths.{orbit}
-use Rattle.tiles.specs.Stored.{pathsIn, readTiles}
-use Rattle.tile.specs.Stored.{readTile}
+use Rattle.tile.specs.Path.{Path, readTile}
+use Rattle.tiles.specs.Paths.{orbit, pathsIn, readTiles}
 use Rattle.rectangle.specs.Board.{Board, freeCount}
 use Rattle.board.specs.Board.{boardOf, readBoard}
 use Rattle.children.specs.Children.{placeTile}
-use Rattle.covers.specs.Cuttings.{Exactly}
+use Rattle.covers.specs.Counts.{Exactly}
 use Rattle.path_count.specs.PathCounts.{countsFor}
-use Rattle.graph.specs.Graph.{numbersFor, edgesFor}
-use Rattle.graph.specs.Rooms.{layerRoom}
-use Rattle.graph.specs.Result.{completeNode, countFromGraph, markedPieces}
-use Rattle.numbered_tilings.specs.Tilings.{nodeList, tilingByNumber}
+use Rattle.graph.specs.Graph.{edgesFor, layerRoom, completeNode, countFromGraph, markedPiecesIn}
+use Rattle.numbered_tilings.specs.Tilings.{nodeListIn, tilingByNumber}
 use Rattle.tiler.specs.Graphs.{Graph, noGraph, generateGraph}
 use Rattle.layers.specs.LayerCounts.{countTilings}
-use Rattle.expansion.specs.Cuttings.{IsCutting, HasFreeCell, AllEdgeJoined}
+use Rattle.expansion.specs.Plots.{IsCutting, HasFreeCell, AllEdgeJoined}
 use Rattle.single_tiling.specs.SingleTiling.{readSearch, boardsFound}
 use Rattle.plot_file.specs.PlotFile.{Plot, noPlot, plotIn}
-use Rattle.host_words.specs.Layout.{boardIn, boardWords, resultIn, plotShape}
+use Rattle.host_words.specs.Layout.{boardIn, boardWords, resultIn, plotShape, AnswersList}
 use Rattle.host_tiles.specs.TileBytes.{tileIn, tilesIn, bytesFor}
-use Rattle.host_plots.specs.Calls.{orbitShape, fileShape, placed, AnswersChildren, orbitFor, AnswersTiles, readFile, AnswersPlot}
+use Rattle.host_plots.specs.Calls.{orbitShape, fileShape, placed, orbitFor, readFile, AnswersPlot}
 use Rattle.host_counts.specs.Calls.{counted, AnswersCount, generated, AnswersGraph}
-use Rattle.host_tilings.specs.Calls.{tilingShape, searched, AnswersSingle, numbered, AnswersList}
+use Rattle.host_tilings.specs.Calls.{tilingShape, searched, AnswersSingle, numbered}
 use Rattle.hosts.specs.ReturnLaws.{zero-given, unless-same, placed-refuses, counted-refuses, generated-refuses, searched-refuses, numbered-refuses, orbitFor-refuses, read-refuses}
 use Rattle.hosts.specs.RefusedLaws.{no-numbers, no-counts, no-sets, no-edges, no-tiles, no-board, nothing-put, was-refused, words-zero, none-left}
 use Rattle.hosts.specs.HandedOnLaws as HandedOn
@@ -44,14 +41,14 @@ use Rattle.hosts.specs.CuttingLaws as Cutting
 module _ (width height : ℕ) (marks tiles : List ℕ) where
   -- `cuttings_place_tile`: the children are given.
   pub place-tile-returns : (out answer out′ answer′ : List ℕ) (r : ℕ)
-      → AnswersChildren (placed width height marks tiles (length out) (length answer)) out answer out′ answer′ r
+      → AnswersList wordsFor (placed width height marks tiles (length out) (length answer)) out answer out′ answer′ r
       → (r ≡ 0) ↔ ((ns : List ℕ) × (placed width height marks tiles (length out) (length answer) ≡ given ns))
   place-tile-returns out answer out′ answer′ r told =
       zero-given _ (placed width height marks tiles (length out) (length answer)) answer answer′ r
       (placed-refuses width height marks tiles (length answer) (length out)) (told .answered)
 
   pub place-tile-below : (out answer out′ answer′ : List ℕ)
-      → AnswersChildren (placed width height marks tiles (length out) (length answer)) out answer out′ answer′ 0
+      → AnswersList wordsFor (placed width height marks tiles (length out) (length answer)) out answer out′ answer′ 0
       → placed width height marks tiles (length out) (length answer) ≡ placeTile (boardOf (boardIn width height marks)) (tilesIn tiles) (length out)
   unfolding placed
   place-tile-below out answer out′ answer′ told =
@@ -114,14 +111,14 @@ module _ (width height : ℕ) (marks tiles : List ℕ) where
 
 -- `cuttings_tiling`: the node list is given.
 pub tiling-returns : (nodeWords : ℕ) (counts edges graph m out answer out′ answer′ : List ℕ) (r : ℕ)
-    → AnswersList (numbered nodeWords counts edges graph m (length out) (length answer)) out answer out′ answer′ r
+    → AnswersList padded (numbered nodeWords counts edges graph m (length out) (length answer)) out answer out′ answer′ r
     → (r ≡ 0) ↔ ((ns : List ℕ) × (numbered nodeWords counts edges graph m (length out) (length answer) ≡ given ns))
 tiling-returns nodeWords counts edges graph m out answer out′ answer′ r told =
     zero-given _ (numbered nodeWords counts edges graph m (length out) (length answer)) answer answer′ r
     (numbered-refuses nodeWords counts edges graph m (length out) (length answer)) (told .answered)
 
 pub tiling-below : (nodeWords : ℕ) (counts edges graph m out answer out′ answer′ : List ℕ)
-    → AnswersList (numbered nodeWords counts edges graph m (length out) (length answer)) out answer out′ answer′ 0
+    → AnswersList padded (numbered nodeWords counts edges graph m (length out) (length answer)) out answer out′ answer′ 0
     → numbered nodeWords counts edges graph m (length out) (length answer) ≡ tilingByNumber (resultIn graph) nodeWords counts edges (value m) (length out)
 unfolding numbered
 tiling-below nodeWords counts edges graph m out answer out′ answer′ told =
@@ -130,13 +127,13 @@ tiling-below nodeWords counts edges graph m out answer out′ answer′ told =
 
 -- `cuttings_orbit`: the orbit is given.
 pub orbit-returns : (tile tiles answer tiles′ answer′ : List ℕ) (r : ℕ)
-    → AnswersTiles (orbitFor tile (length tiles) (length answer)) tiles answer tiles′ answer′ r
+    → AnswersList bytesFor (orbitFor tile (length tiles) (length answer)) tiles answer tiles′ answer′ r
     → (r ≡ 0) ↔ ((paths : List Path) × (orbitFor tile (length tiles) (length answer) ≡ given paths))
 orbit-returns tile tiles answer tiles′ answer′ r told =
     zero-given _ (orbitFor tile (length tiles) (length answer)) answer answer′ r (orbitFor-refuses tile (length tiles) (length answer)) (told .answered)
 
 pub orbit-below : (tile tiles answer tiles′ answer′ : List ℕ)
-    → AnswersTiles (orbitFor tile (length tiles) (length answer)) tiles answer tiles′ answer′ 0
+    → AnswersList bytesFor (orbitFor tile (length tiles) (length answer)) tiles answer tiles′ answer′ 0
     → orbitFor tile (length tiles) (length answer) ≡ mapAnswer orbit (readTile (tileIn tile))
 unfolding orbitFor
 orbit-below tile tiles answer tiles′ answer′ told =
@@ -159,7 +156,7 @@ read-plot-below file board tiles answer board′ tiles′ answer′ told =
 -- ---- 2. Where a refusal's number is returned, every lent word and byte is zero. (The layers of `cuttings_count_tilings` are zero on every return.)
 
 -- `cuttings_place_tile`
-pub place-tile-refused : (a : Answer (List ℕ)) (out answer out′ answer′ : List ℕ) (r : ℕ) → AnswersChildren a out answer out′ answer′ r → 0 < r
+pub place-tile-refused : (a : Answer (List ℕ)) (out answer out′ answer′ : List ℕ) (r : ℕ) → AnswersList wordsFor a out answer out′ answer′ r → 0 < r
     → (out′ ≡ replicate (length out) 0) × (answer′ ≡ replicate (length answer) 0)
 place-tile-refused a out answer out′ answer′ r told h = (
   none-left a (was-refused _ a answer answer′ r (told .answered) h) [] (λ ns. wordsFor ns (length out)) (told .outLeft) ∙ no-sets (length out),
@@ -195,18 +192,18 @@ single-tiling-refused a out answer out′ answer′ r told h = (
 )
 
 -- `cuttings_tiling`
-pub tiling-refused : (a : Answer (List ℕ)) (out answer out′ answer′ : List ℕ) (r : ℕ) → AnswersList a out answer out′ answer′ r → 0 < r
+pub tiling-refused : (a : Answer (List ℕ)) (out answer out′ answer′ : List ℕ) (r : ℕ) → AnswersList padded a out answer out′ answer′ r → 0 < r
     → (out′ ≡ replicate (length out) 0) × (answer′ ≡ replicate (length answer) 0)
 tiling-refused a out answer out′ answer′ r told h = (
-  none-left a (was-refused _ a answer answer′ r (told .answered) h) [] (λ ns. numbersFor ns (length out)) (told .outLeft) ∙ no-numbers (length out),
+  none-left a (was-refused _ a answer answer′ r (told .answered) h) [] (λ ns. padded ns (length out)) (told .outLeft) ∙ no-numbers (length out),
   words-zero _ a answer answer′ r (told .answered) h,
 )
 
 -- `cuttings_orbit`
-pub orbit-refused : (a : Answer (List Path)) (tiles answer tiles′ answer′ : List ℕ) (r : ℕ) → AnswersTiles a tiles answer tiles′ answer′ r → 0 < r
+pub orbit-refused : (a : Answer (List Path)) (tiles answer tiles′ answer′ : List ℕ) (r : ℕ) → AnswersList bytesFor a tiles answer tiles′ answer′ r → 0 < r
     → (tiles′ ≡ replicate (length tiles) 0) × (answer′ ≡ replicate (length answer) 0)
 orbit-refused a tiles answer tiles′ answer′ r told h = (
-  none-left a (was-refused _ a answer answer′ r (told .answered) h) [] (λ paths. bytesFor paths (length tiles)) (told .tilesLeft) ∙ no-tiles (length tiles),
+  none-left a (was-refused _ a answer answer′ r (told .answered) h) [] (λ paths. bytesFor paths (length tiles)) (told .outLeft) ∙ no-tiles (length tiles),
   words-zero _ a answer answer′ r (told .answered) h,
 )
 
@@ -215,7 +212,7 @@ pub read-plot-refused : (a : Answer Plot) (board tiles answer board′ tiles′ 
     → (board′ ≡ replicate (length board) 0) × (tiles′ ≡ replicate (length tiles) 0) × (answer′ ≡ replicate (length answer) 0)
 read-plot-refused a board tiles answer board′ tiles′ answer′ r told h =
     let refuses = was-refused _ a answer answer′ r (told .answered) h in (
-      none-left a refuses noPlot (λ p. numbersFor (boardWords (p .board)) (length board)) (told .boardLeft) ∙ no-board (length board),
+      none-left a refuses noPlot (λ p. padded (boardWords (p .board)) (length board)) (told .boardLeft) ∙ no-board (length board),
       none-left a refuses noPlot (λ p. bytesFor (p .tiles) (length tiles)) (told .tilesLeft) ∙ no-tiles (length tiles),
       words-zero _ a answer answer′ r (told .answered) h,
     )
@@ -238,7 +235,7 @@ pub read-plot-shapes : (file board tiles answer board′ tiles′ answer′ : Li
 read-plot-shapes = HandedOn.plot-shapes
 
 -- What `cuttings_orbit` leaves is the tile's orbit: a call that is handed as many tiles as the answer word tells reads the orbit.
-pub orbit-handed-on : (tile tiles answer tiles′ answer′ : List ℕ) → AnswersTiles (orbitFor tile (length tiles) (length answer)) tiles answer tiles′ answer′ 0
+pub orbit-handed-on : (tile tiles answer tiles′ answer′ : List ℕ) → AnswersList bytesFor (orbitFor tile (length tiles) (length answer)) tiles answer tiles′ answer′ 0
     → (p : Path) × (readTile (tileIn tile) ≡ given p) × (getD answer′ 0 0 ≡ length (orbit p))
     × (readTiles (tilesIn (take (33 * getD answer′ 0 0) tiles′)) ≡ given (orbit p))
 orbit-handed-on = HandedOn.orbit-read
@@ -260,20 +257,20 @@ countTold answer′ = value (take 2 answer′)
 
 -- what `cuttings_tiling` leaves: as many words of the output as its answer word tells are the node list, and its steps mark these pieces
 abbrev pub cuttingLeft : List ℕ → List ℕ → List ℕ → ℕ → Bool
-cuttingLeft nodes′ out′ answer′ = markedPieces nodes′ (take (getD answer′ 0 0) out′)
+cuttingLeft nodes′ out′ answer′ = markedPiecesIn nodes′ (take (getD answer′ 0 0) out′)
 
 -- the node list of 01's walk, of a graph's words and the four words of its result
-abbrev pub listFor : List ℕ → List ℕ → List ℕ → ℕ → List ℕ
-listFor counts edges result m = nodeList (resultIn result) counts edges m
+abbrev pub nodeListFor : List ℕ → List ℕ → List ℕ → ℕ → List ℕ
+nodeListFor counts edges result m = nodeListIn (resultIn result) counts edges m
 
 -- a call of `cuttings_tiling` with the words of a graph and its result, and a number of two words that is below a count; it is lent an output that is long
 -- enough, and an answer word
 pub record NumberedCall (count : ℕ) (nodes counts edges result m out list out′ list′ : List ℕ) (r : ℕ) : Type 0 where
   pub two : length m ≡ 2
   pub below : value m < count
-  pub room : length (listFor counts edges result (value m)) ≤ length out
+  pub room : length (nodeListFor counts edges result (value m)) ≤ length out
   pub word : 1 ≤ length list
-  pub call : AnswersList (numbered (length nodes) counts edges result m (length out) (length list)) out list out′ list′ r
+  pub call : AnswersList padded (numbered (length nodes) counts edges result m (length out) (length list)) out list out′ list′ r
 
 -- The count alone: where `cuttings_count_tilings` returns 0, the number that it tells is the number of cuttings.
 pub count-is-number-of-cuttings : (width height : ℕ) (marks tiles : List ℕ) → Small marks
@@ -316,8 +313,8 @@ module _ (width height : ℕ) (marks tiles : List ℕ) (small : Small marks) (fr
       NumberedCall (countTold answer′) nodes′ counts′ edges′ (take 4 result′) m out list out′ list′ r
 
   -- an output of more words than there are free cells always is.
-  pub long-enough : (m : ℕ) → m < countTold answer′ → length (listFor counts′ edges′ (take 4 result′) m) ≤ freeCount (boardOf (boardIn width height marks)) + 1
-  long-enough =
+  pub free-and-one-enough : (m : ℕ) → m < countTold answer′ → length (nodeListFor counts′ edges′ (take 4 result′) m) ≤ freeCount (boardOf (boardIn width height marks)) + 1
+  free-and-one-enough =
       Cutting.call-long width height marks tiles small free joined boardsA countsA boardsB countsB answer boardsA′ countsA′ boardsB′ countsB′ answer′ count-told
       nodes counts edges result nodes′ counts′ edges′ result′ graph-told
 
@@ -329,7 +326,7 @@ module _ (width height : ℕ) (marks tiles : List ℕ) (small : Small marks) (fr
         nodes counts edges result nodes′ counts′ edges′ result′ graph-told m (c .two) (c .below) out list out′ list′ r (c .room) (c .word) (c .call)
 
     -- "and gives, by document 01's walk,"
-    pub by-the-walk : take (getD list′ 0 0) out′ ≡ listFor counts′ edges′ (take 4 result′) (value m)
+    pub by-the-walk : take (getD list′ 0 0) out′ ≡ nodeListFor counts′ edges′ (take 4 result′) (value m)
     by-the-walk =
         Cutting.call-walk width height marks tiles small free joined boardsA countsA boardsB countsB answer boardsA′ countsA′ boardsB′ countsB′ answer′ count-told
         nodes counts edges result nodes′ counts′ edges′ result′ graph-told m (c .two) (c .below) out list out′ list′ r (c .room) (c .word) (c .call)

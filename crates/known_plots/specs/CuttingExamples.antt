@@ -9,38 +9,35 @@ use Prim.Native.Nat.{ℕ, zero, suc, _+_, _*_, _^_, _≤_, _<_}
 use native.Mathlib.Omega.{arith}
 use lib.Dec.{eqb, lit≤, lit<}
 use lib.ListN.{length, replicate, take}
-use Rattle.cells.specs.Words.{number, Sound}
-use Rattle.cells.specs.Firsts.{holds}
+use Rattle.cells.specs.Set.{number, Sound}
+use Rattle.cells.specs.Lists.{holds, wordsFor, padded}
 use Rattle.cells.specs.FirstsLaws.{mem-getD}
-use Rattle.cells.specs.Lists.{wordsFor}
 use Rattle.tiles.specs.declared.Tiles.{Tiles}
 use Rattle.refusal.specs.declared.Verdict.the-variants as Verdicts
 use Rattle.refusal.specs.Refusal.{Answer, given, mapAnswer, bindAnswer, valueOr, refusalOf}
 use Rattle.direction.specs.Direction.{step}
 use Rattle.tile.specs.Path.{Path, cellCount}
 use Rattle.tile.specs.EdgeTest.{edgeJoined, edgeJoined-iff}
-use Rattle.tiles.specs.Stored.{pathsIn, tilesOf}
+use Rattle.tiles.specs.Paths.{pathsIn, tilesOf}
 use Rattle.tiles.specs.EqualLaws.{readEqualTiles-given}
 use Rattle.board.specs.declared.RectangularBoard.{RectangularBoard}
 use Rattle.rectangle.specs.Board.{Board, boardAt, marks, isFree, isFull, valid}
 use Rattle.board.specs.Board.{boardOf, ofMarks, newBoard}
-use Rattle.covers.specs.Cuttings.{Exactly}
+use Rattle.covers.specs.Counts.{Exactly}
 use Rattle.covers.specs.Theorems.{number-unique, numbering-carried, full-has-one}
 use Rattle.graph.specs.declared.Complete.the-variants as N
 use Rattle.numbered_tilings.specs.declared.Tiling.{Tiling}
 use Rattle.numbered_tilings.specs.declared.Tiling.the-variants as T
-use Rattle.graph.specs.Rooms.{layerRoom, nodeRoom, edgeRoom, plotBoards, plotNodes, plotEdges}
+use Rattle.graph.specs.Graph.{layerRoom, nodeRoom, edgeRoom, plotBoards, plotNodes, plotEdges, edgesFor, markedPiecesIn}
 use Rattle.path_count.specs.declared.PathCount.{PathCount}
-use Rattle.path_count.specs.PathCounts.{countValue, countRoom, countSpan, countsFor}
-use Rattle.graph.specs.Graph.{numbersFor, edgesFor}
-use Rattle.numbered_tilings.specs.Tilings.{nodeList, tilingByNumber, tilingAnswer, GivesTiling}
-use Rattle.graph.specs.Result.{markedPieces}
+use Rattle.path_count.specs.PathCounts.{countValue, countRoom, countsFor}
+use Rattle.path_count.specs.Inner.{countSpan}
+use Rattle.numbered_tilings.specs.Tilings.{nodeListIn, tilingByNumber, tilingAnswer, GivesTiling}
 use Rattle.layers.specs.declared.Count.the-variants as C
 use Rattle.tiler.specs.declared.MadeGraph.{MadeGraph}
-use Rattle.expansion.specs.Plots.{readPlot}
-use Rattle.layers.specs.LayerCounts.{layersOf, countTilings, countAnswer, CountsTilings}
+use Rattle.expansion.specs.Plots.{acceptPlot, IsCutting, HasFreeCell, AllEdgeJoined}
+use Rattle.layers.specs.LayerCounts.{layerCountFor, countTilings, countAnswer, CountsTilings}
 use Rattle.tiler.specs.Graphs.{Graph, graphFor, generateGraph, Makes, GeneratesGraph, countOfGraph}
-use Rattle.expansion.specs.Cuttings.{IsCutting, HasFreeCell, AllEdgeJoined}
 use Rattle.expansion.specs.Boards.{setting}
 use Rattle.expansion.specs.SettingLaws.{setting-laws, start-ok}
 use Rattle.expansion.specs.CuttingLaws.{cutting-start}
@@ -117,29 +114,29 @@ Numbered m list = GivesTiling (made .graph) nodeWords countWords edgeWords m (le
 
 -- "tiling 0: 0 1 3"
 call-0 : Numbered 0 (0 ∷ 1 ∷ 3 ∷ [])
-unfolding tilingByNumber mapAnswer valueOr numbersFor
+unfolding tilingByNumber mapAnswer valueOr padded
 call-0 = record { answer = refl; words = refl }
 
 -- "tiling 1: 0 2 3"
 call-1 : Numbered 1 (0 ∷ 2 ∷ 3 ∷ [])
-unfolding tilingByNumber mapAnswer valueOr numbersFor
+unfolding tilingByNumber mapAnswer valueOr padded
 call-1 = record { answer = refl; words = refl }
 
 -- three words are enough
 abbrev Long : ℕ → Type 0
-Long m = length (nodeList (made .graph) countWords edgeWords m) ≤ 3
+Long m = length (nodeListIn (made .graph) countWords edgeWords m) ≤ 3
 
 long-0 : Long 0
-unfolding nodeList
+unfolding nodeListIn
 long-0 = lit≤ tt
 
 long-1 : Long 1
-unfolding nodeList
+unfolding nodeListIn
 long-1 = lit≤ tt
 
 -- "the set of pieces that its steps mark"
 abbrev marked : List ℕ → ℕ → Bool
-marked list = markedPieces nodeWords list
+marked list = markedPiecesIn nodeWords list
 
 -- two lying dominoes, and two standing
 abbrev lying : ℕ → Bool
@@ -149,11 +146,11 @@ abbrev standing : ℕ → Bool
 standing = holds eqb ((2 ^ 16 + 1) ∷ (2 ^ 17 + 2) ∷ [])
 
 marked-0 : marked (0 ∷ 1 ∷ 3 ∷ []) ≡ lying
-unfolding markedPieces number
+unfolding markedPiecesIn number
 marked-0 = refl
 
 marked-1 : marked (0 ∷ 2 ∷ 3 ∷ []) ≡ standing
-unfolding markedPieces number
+unfolding markedPiecesIn number
 marked-1 = refl
 
 -- ---- what `CuttingTheorems` says of these calls
@@ -199,7 +196,7 @@ lying-not-standing e =
 -- and there is no other: each has a number, and that number's call gives it
 abbrev GivenBy : (ℕ → Bool) → ℕ → Type 0
 GivenBy X m =
-    (out out′ : List ℕ) (t : Tiling) → length (nodeList (made .graph) countWords edgeWords m) ≤ length out
+    (out out′ : List ℕ) (t : Tiling) → length (nodeListIn (made .graph) countWords edgeWords m) ≤ length out
     → GivesTiling (made .graph) nodeWords countWords edgeWords m out out′ t → marked (take (valueOr 0 (tilingAnswer t)) out′) ≡ X
 
 lying-or-standing : (X : ℕ → Bool) → Cuts X → (X ≡ lying) ⊎ (X ≡ standing)
@@ -228,13 +225,13 @@ small-set : (n : ℕ) → n < 2 ^ 64 → Sound (set n)
 small-set n h = record { s0 = h; s1 = lit< tt; s2 = lit< tt; s3 = lit< tt }
 
 -- board and tiles are read, and neither count is refused: both are 0
-full-board-read : readPlot fullBoard (tilesOf dominoes) ≡ given (board 2 1 1 2, dominoes)
-unfolding readPlot bindAnswer mapAnswer number
+full-board-read : acceptPlot fullBoard (tilesOf dominoes) ≡ given (board 2 1 1 2, dominoes)
+unfolding acceptPlot bindAnswer mapAnswer number
 full-board-read = rw dominoes-read
 
 full-board-counted : countTilings fullBoard (tilesOf dominoes) 1 ≡ given 0
-unfolding countTilings layersOf bindAnswer
-full-board-counted = ap (λ (a : Answer (Board × List Path)). bindAnswer a (λ p. layersOf (p .0) (p .1) 1)) full-board-read ∙ full-start
+unfolding countTilings layerCountFor bindAnswer
+full-board-counted = ap (λ (a : Answer (Board × List Path)). bindAnswer a (λ p. layerCountFor (p .0) (p .1) 1)) full-board-read ∙ full-start
 
 full-board-graph : mapAnswer countOfGraph (generateGraph fullBoard (tilesOf dominoes) 4 1 0) ≡ given 0
 unfolding generateGraph graphFor bindAnswer mapAnswer countOfGraph

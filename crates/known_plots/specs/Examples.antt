@@ -8,22 +8,22 @@ use Prim.Native.Nat.{ℕ, zero, suc, _-_, _^_, _≤_}
 use lib.Dec.{lit≤, lit<}
 use lib.ListN.{length}
 use Rattle.cells.specs.declared.Cells.{Cells}
-use Rattle.cells.specs.Words.{number, Sound}
+use Rattle.cells.specs.Set.{number, Sound}
 use Rattle.refusal.specs.Refusal.{Answer, refused, given, mapAnswer, bindAnswer}
 use Rattle.direction.specs.Direction.{step}
 use Rattle.tile.specs.Path.{Path, codesOk}
-use Rattle.tiles.specs.Paths.{equalCounts}
-use Rattle.tiles.specs.Stored.{Storable, tilesOf, readEqualTiles}
+use Rattle.tiles.specs.Paths.{equalCounts, tilesOf, readEqualTiles}
+use Rattle.tiles.specs.Inner.{Storable}
 use Rattle.tiles.specs.StoredLaws.{readTiles-tilesOf, readTiles-orbit}
 use Rattle.tiles.specs.EqualLaws.{readEqualTiles-equal, readEqualTiles-unequal}
 use Rattle.board.specs.declared.RectangularBoard.{RectangularBoard}
 use Rattle.rectangle.specs.Board.{Board}
 use Rattle.board.specs.Board.{boardOf, ofMarks, readBoard}
-use Rattle.covers.specs.Cuttings.{Exactly}
-use Rattle.covers.specs.Counts.{Entry}
-use Rattle.graph.specs.Rooms.{layerRoom, nodeRoom, edgeRoom}
-use Rattle.expansion.specs.Plots.{readPlot, stepOf}
-use Rattle.layers.specs.LayerCounts.{judgeLayer, judgeLayers, layersOf, countTilings}
+use Rattle.covers.specs.Counts.{Exactly, Entry}
+use Rattle.graph.specs.Graph.{layerRoom, nodeRoom, edgeRoom}
+use Rattle.expansion.specs.Plots.{acceptPlot}
+use Rattle.expansion.specs.Parts.{stepOf, childWords}
+use Rattle.layers.specs.LayerCounts.{judgeLayer, judgeLayers, layerCountFor, countTilings}
 use Rattle.tiler.specs.Graphs.{Graph, countOfGraph, judgeGraph, graphFor, generateGraph}
 use Rattle.known_plots.specs.KnownPlots.{D as dominoes}
 use Rattle.tiler.specs.Theorems.{Reaches, path-count-is-number-of-sequences, counts-agree}
@@ -34,8 +34,8 @@ board w h fixed laid = record { width = w; height = h; fixed = fixed; laid = lai
 
 -- ---- 01's worked example, 2 by 2 dominoes: `layers 2` and `graph 2 nodes 4 edges 4`
 
-two-by-two : layersOf (board 2 2 0 0) dominoes 2 ≡ given 2
-unfolding layersOf dominoes step
+two-by-two : layerCountFor (board 2 2 0 0) dominoes 2 ≡ given 2
+unfolding layerCountFor dominoes step
 two-by-two = refl
 
 abbrev pub twoByTwo : Graph
@@ -46,13 +46,13 @@ twoByTwo = record {
   complete = some 3;
 }
 
-two-by-two-graph : graphFor (board 2 2 0 0) dominoes (nodeRoom 16 4) (edgeRoom 8) ≡ given twoByTwo
+pub two-by-two-graph : graphFor (board 2 2 0 0) dominoes (nodeRoom 16 4) (edgeRoom 8) ≡ given twoByTwo
 unfolding graphFor nodeRoom edgeRoom dominoes step
 two-by-two-graph = refl
 
 -- layer 1 has two boards; four nodes need 16 node words and 4 count words, four edges 8 words; 8 comes before 10
-one-board : layersOf (board 2 2 0 0) dominoes 1 ≡ refused 8
-unfolding layersOf dominoes step
+one-board : layerCountFor (board 2 2 0 0) dominoes 1 ≡ refused 8
+unfolding layerCountFor dominoes step
 one-board = refl
 
 few-node-words : graphFor (board 2 2 0 0) dominoes (nodeRoom 15 4) (edgeRoom 7) ≡ refused 8
@@ -72,20 +72,25 @@ piece-cells : (stepOf dominoes ≡ 2) × (stepOf [] ≡ 1)
 unfolding stepOf dominoes step
 piece-cells = (refl, refl)
 
+-- two children at most for each of four dominoes, four words each; none for no tiles and where a code is refused
+child-words : (childWords (tilesOf dominoes) ≡ 32) × (childWords (tilesOf []) ≡ 0) × (childWords (tilesOf ((8 ∷ []) ∷ [])) ≡ 0)
+unfolding childWords tilesOf dominoes step
+child-words = (refl, refl, refl)
+
 -- ---- the least plots
 
 -- room 0 is 8, also for 0 by 0, where room 1 counts 0
-no-room : layersOf (board 0 0 0 0) dominoes 0 ≡ refused 8
-unfolding layersOf dominoes step
+no-room : layerCountFor (board 0 0 0 0) dominoes 0 ≡ refused 8
+unfolding layerCountFor dominoes step
 no-room = refl
 
-no-cells : layersOf (board 0 0 0 0) dominoes 1 ≡ given 0
-unfolding layersOf dominoes step
+no-cells : layerCountFor (board 0 0 0 0) dominoes 1 ≡ given 0
+unfolding layerCountFor dominoes step
 no-cells = refl
 
 -- a full start counts 0, and its one node is not its full node
-pub full-start : layersOf (board 2 1 1 2) dominoes 1 ≡ given 0
-unfolding layersOf dominoes step
+pub full-start : layerCountFor (board 2 1 1 2) dominoes 1 ≡ given 0
+unfolding layerCountFor dominoes step
 full-start = refl
 
 pub full-start-graph : graphFor (board 2 1 1 2) dominoes (nodeRoom 4 1) (edgeRoom 0) ≡ given record { nodes = 3 ∷ []; counts = 1 ∷ []; edges = []; complete = none }
@@ -98,8 +103,8 @@ unfolding graphFor nodeRoom edgeRoom dominoes step
 fixed-mark = refl
 
 -- no tiles: no child
-no-tiles : layersOf (board 2 2 0 0) [] 1 ≡ given 0
-unfolding layersOf
+no-tiles : layerCountFor (board 2 2 0 0) [] 1 ≡ given 0
+unfolding layerCountFor
 no-tiles = refl
 
 -- ---- limits: 8 before 9 in a layer, the earliest layer decides, 10 before 9 over the graph
@@ -164,11 +169,11 @@ unfolding readBoard number
 two-by-two-read = refl
 
 unequal-tiles : countTilings (rectangle 2 2) (tilesOf unequal) 0 ≡ refused 7
-unfolding countTilings readPlot bindAnswer mapAnswer
+unfolding countTilings acceptPlot bindAnswer mapAnswer
 unequal-tiles = rw (two-by-two-read, readEqualTiles-unequal (tilesOf unequal) unequal (readTiles-tilesOf unequal (lit≤ tt) stored) unequal-counts)
 
 unequal-tiles-graph : generateGraph (rectangle 2 2) (tilesOf unequal) 0 0 0 ≡ refused 7
-unfolding generateGraph readPlot bindAnswer mapAnswer
+unfolding generateGraph acceptPlot bindAnswer mapAnswer
 unequal-tiles-graph = rw (two-by-two-read, readEqualTiles-unequal (tilesOf unequal) unequal (readTiles-tilesOf unequal (lit≤ tt) stored) unequal-counts)
 
 -- ---- rooms: "the least of both layers' words ÷ 4 and of both layers' count words", and at most 16,777,216
@@ -195,13 +200,13 @@ pub dominoes-read : readEqualTiles (tilesOf dominoes) ≡ given dominoes
 unfolding dominoes codesOk
 dominoes-read = readEqualTiles-equal (tilesOf dominoes) dominoes (readTiles-orbit (3 ∷ []) (lit≤ tt) refl) equal-dominoes
 
-two-by-two-plot : readPlot (rectangle 2 2) (tilesOf dominoes) ≡ given (board 2 2 0 0, dominoes)
-unfolding readPlot bindAnswer mapAnswer number
+pub two-by-two-plot : acceptPlot (rectangle 2 2) (tilesOf dominoes) ≡ given (board 2 2 0 0, dominoes)
+unfolding acceptPlot bindAnswer mapAnswer number
 two-by-two-plot = rw dominoes-read
 
 pub two-by-two-counted : countTilings (rectangle 2 2) (tilesOf dominoes) 2 ≡ given 2
-unfolding countTilings layersOf bindAnswer
-two-by-two-counted = ap (λ (a : Answer (Board × List Path)). bindAnswer a (λ p. layersOf (p .0) (p .1) 2)) two-by-two-plot ∙ two-by-two
+unfolding countTilings layerCountFor bindAnswer
+two-by-two-counted = ap (λ (a : Answer (Board × List Path)). bindAnswer a (λ p. layerCountFor (p .0) (p .1) 2)) two-by-two-plot ∙ two-by-two
 
 pub two-by-two-given : generateGraph (rectangle 2 2) (tilesOf dominoes) 16 4 8 ≡ given twoByTwo
 unfolding generateGraph graphFor bindAnswer

@@ -8,7 +8,7 @@ use mathlib.Core.List.{List, [], _∷_, map, tail, List·Memᴰ as Mem, List·Me
 use Prim.Native.Nat.{ℕ, _+_, _*_, _^_, _<_}
 use lib.Dec.{eqb, lit<}
 use lib.ListN.{getD}
-use Rattle.cells.specs.Firsts.{holds}
+use Rattle.cells.specs.Lists.{holds}
 use Rattle.cells.specs.FirstsLaws.{so-eq, holds-iff}
 use Rattle.cells.specs.MemberLaws.{eqb-tells}
 use Rattle.tiles.specs.declared.Tiles.{Tiles}
@@ -16,8 +16,7 @@ use Rattle.refusal.specs.Refusal.{Answer, given, mapAnswer, bindAnswer}
 use Rattle.refusal.specs.RefusalLaws.{given-inj}
 use Rattle.direction.specs.Direction.{step, rotate, reflect}
 use Rattle.tile.specs.Path.{Path, lPath, tPath}
-use Rattle.tiles.specs.Paths.{orbit}
-use Rattle.tiles.specs.Stored.{tilesOf, readEqualTiles}
+use Rattle.tiles.specs.Paths.{orbit, tilesOf, readEqualTiles}
 use Rattle.board.specs.declared.RectangularBoard.{RectangularBoard}
 use Rattle.rectangle.specs.Board.{Board, boardAt, marks, isFull, valid}
 use Rattle.board.specs.Board.{boardOf, readBoard, newBoard, lBoard, tBoard}
@@ -26,17 +25,17 @@ use Rattle.rectangle.specs.BoardLaws.{valid-width, valid-height}
 use Rattle.board.specs.BoardLaws.{readBoard-given}
 use Rattle.fit.specs.PieceLaws.{mem-pieces}
 use Rattle.fit.specs.LayLaws.{piece-free, piece-iff, piece-some}
-use Rattle.covers.specs.Cuttings.{Exactly, CuttingOf}
+use Rattle.covers.specs.Counts.{Exactly}
+use Rattle.covers.specs.Setting.{CuttingOf}
 use Rattle.covers.specs.NumberingLaws.{exactly-one, one-is, one-only}
 use Rattle.covers.specs.SequenceLaws.{cutting-add, sequence-cutting}
-use Rattle.path_count.specs.PathCounts.{countSpan}
+use Rattle.path_count.specs.Inner.{countSpan}
 use Rattle.graph.specs.RoomLaws.{node-room-plot}
-use Rattle.graph.specs.Rooms.{nodeRoom, edgeRoom, plotBoards, plotNodes, plotEdges}
+use Rattle.graph.specs.Graph.{nodeRoom, edgeRoom, plotBoards, plotNodes, plotEdges}
 use Rattle.expansion.specs.Boards.{From, setting}
-use Rattle.expansion.specs.Plots.{readPlot}
-use Rattle.layers.specs.LayerCounts.{layersOf, countTilings}
+use Rattle.expansion.specs.Plots.{acceptPlot, IsCutting}
+use Rattle.layers.specs.LayerCounts.{layerCountFor, countTilings}
 use Rattle.tiler.specs.Graphs.{graphFor, generateGraph, countOfGraph}
-use Rattle.expansion.specs.Cuttings.{IsCutting}
 use Rattle.expansion.specs.SettingLaws.{fits-piece, lay-adds, lay-from, setting-laws, start-ok}
 use Rattle.expansion.specs.CuttingLaws.{cutting-start}
 
@@ -91,9 +90,9 @@ rows =
 
 -- the layer count and the graph count of a row
 unfoldable pub countsOf : Row → Answer ℕ × Answer ℕ
-unfolding bindAnswer mapAnswer countOfGraph layersOf graphFor
+unfolding bindAnswer mapAnswer countOfGraph layerCountFor graphFor
 countsOf r = (
-  bindAnswer (r .board) (λ b. layersOf b (r .tiles) plotBoards),
+  bindAnswer (r .board) (λ b. layerCountFor b (r .tiles) plotBoards),
   bindAnswer (r .board) (λ b. mapAnswer countOfGraph (graphFor b (r .tiles) plotNodes plotEdges)),
 )
 
@@ -130,12 +129,12 @@ known-tiles-read r m = map-at (λ (q : Row). readEqualTiles (tilesOf (q .tiles))
 -- what the calls answer with those rooms, for a board and tiles that are read
 module _ (b : RectangularBoard) (ts : Tiles) (board : Board) (paths : List Path)
     (boardIs : readBoard b ≡ given board) (tilesAre : readEqualTiles ts ≡ given paths) where
-  plot-read : readPlot b ts ≡ given (board, paths)
-  unfolding readPlot bindAnswer mapAnswer
+  plot-read : acceptPlot b ts ≡ given (board, paths)
+  unfolding acceptPlot bindAnswer mapAnswer
   plot-read = rw (boardIs, tilesAre)
 
-  layers-called : countTilings b ts plotBoards ≡ layersOf board paths plotBoards
-  unfolding countTilings layersOf bindAnswer
+  layers-called : countTilings b ts plotBoards ≡ layerCountFor board paths plotBoards
+  unfolding countTilings layerCountFor bindAnswer
   layers-called = rw plot-read
 
   graph-called : generateGraph b ts (4 * plotNodes) (countSpan plotNodes) (2 * plotEdges) ≡ graphFor board paths plotNodes plotEdges
@@ -154,7 +153,7 @@ known-plots-counted r m b ts made read =
     let same = readBoard-given b (known-board-accepted r m (boardOf b) made) in
     let both = map-at countsOf (λ q. (given (q .count), given (q .count))) rows known-plots r m in (
       layers-called b ts (boardOf b) (r .tiles) same read
-          ∙ ap (λ (a : Answer Board). bindAnswer a (λ c. layersOf c (r .tiles) plotBoards)) made
+          ∙ ap (λ (a : Answer Board). bindAnswer a (λ c. layerCountFor c (r .tiles) plotBoards)) made
           ∙ ap (λ (c : Answer ℕ × Answer ℕ). c .0) both,
       ap (mapAnswer countOfGraph) (graph-called b ts (boardOf b) (r .tiles) same read)
           ∙ ap (λ (a : Answer Board). bindAnswer a (λ c. mapAnswer countOfGraph (graphFor c (r .tiles) plotNodes plotEdges))) made

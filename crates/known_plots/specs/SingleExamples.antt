@@ -8,15 +8,16 @@ use mathlib.Core.Option.{none, some}
 use Prim.Native.Nat.{ℕ, _≤_}
 use lib.Dec.{lit≤, lit<}
 use lib.ListN.{length}
-use Rattle.cells.specs.Lists.{setsIn, wordsFor}
-use Rattle.cells.specs.Words.{number}
+use Rattle.cells.specs.ListLaws.{setsIn}
+use Rattle.cells.specs.Lists.{wordsFor}
+use Rattle.cells.specs.Set.{number}
 use Rattle.refusal.specs.Refusal.{Answer, refused, given, mapAnswer, bindAnswer, valueOr}
 use Rattle.refusal.specs.RefusalLaws.{given-inj}
 use Rattle.direction.specs.Direction.{step}
 use Rattle.tiles.specs.declared.Tiles.{Tiles}
 use Rattle.tile.specs.Path.{Path, codesOk, cellCount}
-use Rattle.tiles.specs.Paths.{equalCounts}
-use Rattle.tiles.specs.Stored.{Storable, tilesOf, pathsIn, readTiles}
+use Rattle.tiles.specs.Paths.{equalCounts, tilesOf, pathsIn, readTiles}
+use Rattle.tiles.specs.Inner.{Storable}
 use Rattle.tiles.specs.StoredLaws.{readTiles-tilesOf}
 use Rattle.tiles.specs.ReadLaws.{readTiles-sound}
 use Rattle.tiles.specs.EqualLaws.{readEqualTiles-equal}
@@ -24,13 +25,12 @@ use Rattle.tile.specs.EdgeTest.{edgeJoined, edgeJoined-iff}
 use Rattle.rectangle.specs.Board.{Board, marks, isFree, freeCount, isFull}
 use Rattle.board.specs.Board.{boardOf, readBoard}
 use Rattle.children.specs.Children.{children}
-use Rattle.expansion.specs.Plots.{readPlot}
-use Rattle.layers.specs.LayerCounts.{layersOf, countTilings}
-use Rattle.expansion.specs.Cuttings.{IsCutting, AllEdgeJoined}
+use Rattle.expansion.specs.Plots.{acceptPlot, IsCutting, AllEdgeJoined}
+use Rattle.layers.specs.LayerCounts.{layerCountFor, countTilings}
 use Rattle.known_plots.specs.Examples.{board, rectangle, no-marks}
 use Rattle.single_tiling.specs.declared.SingleTiling.{SingleTiling}
 use Rattle.single_tiling.specs.declared.SingleTiling.the-variants as S
-use Rattle.single_tiling.specs.SingleTiling.{Tiling, readSearch, boardsFound, numberFound, singleAnswer, GetsSingleTiling}
+use Rattle.single_tiling.specs.SingleTiling.{IsTiling, readSearch, boardsFound, numberFound, singleAnswer, GetsSingleTiling}
 use Rattle.single_tiling.specs.Inner.{singleOf}
 use Rattle.single_tiling.specs.Theorems.{found-is-tiling, no-cells-answer-none, none-exactly-where-the-count-is-0, none-means-no-cutting}
 
@@ -106,7 +106,7 @@ two-read = rw right-read
 abbrev lent : List ℕ
 lent = 0 ∷ 0 ∷ 0 ∷ 0 ∷ 0 ∷ 0 ∷ 0 ∷ 0 ∷ 0 ∷ 0 ∷ 0 ∷ 0 ∷ []
 
-two-tiling : Tiling (board 2 1 0 0) right (0 ∷ 3 ∷ [])
+two-tiling : IsTiling (board 2 1 0 0) right (0 ∷ 3 ∷ [])
 unfolding children isFull marks step
 two-tiling = record { last = 3; sequence = (refl, (here refl, refl)); full = refl; pieces = lit< tt }
 
@@ -114,12 +114,12 @@ two-call : GetsSingleTiling (rectangle 2 1) (tilesOf right) lent (wordsFor (0 �
 unfolding mapAnswer valueOr boardsFound numberFound
 two-call = record {
   found = some (0 ∷ 3 ∷ []);
-  tiling = λ p e. subst (λ (q : Board × List Path). Tiling (q .0) (q .1) (0 ∷ 3 ∷ [])) (given-inj (board 2 1 0 0, right) p (sym two-read ∙ e)) two-tiling;
+  tiling = λ p e. subst (λ (q : Board × List Path). IsTiling (q .0) (q .1) (0 ∷ 3 ∷ [])) (given-inj (board 2 1 0 0, right) p (sym two-read ∙ e)) two-tiling;
   answer = ap (mapAnswer (λ (p : Board × List Path). some 2)) (sym two-read);
   words = ap (λ (a : Answer (Board × List Path)). wordsFor (valueOr [] (mapAnswer (λ p. 0 ∷ 3 ∷ []) a)) 12) (sym two-read);
 }
 
-two-found : (xs : List ℕ) × Tiling (board 2 1 0 0) right xs × (length xs ≡ 2) × (setsIn (wordsFor (0 ∷ 3 ∷ []) 12) 2 ≡ xs) × (wordsFor (0 ∷ 3 ∷ []) 12 ≡ wordsFor xs 12)
+two-found : (xs : List ℕ) × IsTiling (board 2 1 0 0) right xs × (length xs ≡ 2) × (setsIn (wordsFor (0 ∷ 3 ∷ []) 12) 2 ≡ xs) × (wordsFor (0 ∷ 3 ∷ []) 12 ≡ wordsFor xs 12)
 two-found =
     found-is-tiling (rectangle 2 1) no-marks no-marks (tilesOf right) lent (wordsFor (0 ∷ 3 ∷ []) 12) (S.Boards 2) two-call (board 2 1 0 0, right) two-read 2 refl
 
@@ -128,17 +128,17 @@ equal-counts : equalCounts right ≡ true
 unfolding equalCounts step
 equal-counts = refl
 
-two-plot : readPlot (rectangle 2 1) (tilesOf right) ≡ given (board 2 1 0 0, right)
-unfolding readPlot bindAnswer mapAnswer number
+two-plot : acceptPlot (rectangle 2 1) (tilesOf right) ≡ given (board 2 1 0 0, right)
+unfolding acceptPlot bindAnswer mapAnswer number
 two-plot = rw (readEqualTiles-equal (tilesOf right) right right-read equal-counts)
 
-two-layers : layersOf (board 2 1 0 0) right 1 ≡ given 1
-unfolding layersOf step
+two-layers : layerCountFor (board 2 1 0 0) right 1 ≡ given 1
+unfolding layerCountFor step
 two-layers = refl
 
 two-counted : countTilings (rectangle 2 1) (tilesOf right) 1 ≡ given 1
-unfolding countTilings layersOf bindAnswer
-two-counted = ap (λ (a : Answer (Board × List Path)). bindAnswer a (λ p. layersOf (p .0) (p .1) 1)) two-plot ∙ two-layers
+unfolding countTilings layerCountFor bindAnswer
+two-counted = ap (λ (a : Answer (Board × List Path)). bindAnswer a (λ p. layerCountFor (p .0) (p .1) 1)) two-plot ∙ two-layers
 
 two-not-none : (singleAnswer (S.Boards 2) ≡ given none) ↔ _≡_ {A = ℕ} 1 0
 two-not-none =

@@ -9,23 +9,23 @@ use native.Mathlib.Omega.{arith}
 use borrow.Author.Tests.{le-leb, lt-leb, leb-true, leb-false, eq-eqb, ne-eqb}
 use lib.Dec.{eqb, leb}
 use lib.ListN.{length, getD, set, length-append, length-map, List·getD-map}
-use Rattle.cells.specs.Firsts.{holds}
+use Rattle.cells.specs.Lists.{holds, listOf, setAt}
+use Rattle.cells.specs.Parts.{withSet, findSet, foundAnswer}
 use Rattle.cells.specs.FirstsLaws.{addNew-old, holds-iff}
 use Rattle.cells.specs.MemberLaws.{eqb-tells}
-use Rattle.cells.specs.Arrays.{listOf}
 use Rattle.cells.specs.ArrayLaws.{getD-listOf, listOf-ext, listOf-eta, listOf-snoc}
 use Rattle.cells.specs.ListLaws.{setAt-same, setAt-other}
-use Rattle.cells.specs.Lists.{setAt, withSet, findSet, foundAnswer}
 use Rattle.refusal.specs.Refusal.{refused, given}
 use Rattle.tile.specs.Path.{Path}
 use Rattle.rectangle.specs.Board.{Board}
-use Rattle.covers.specs.Cuttings.{childBoards}
+use Rattle.covers.specs.Setting.{childBoards}
 use Rattle.covers.specs.Counts.{Entry, boards, counts, numberIn}
 use Rattle.covers.specs.GatherLaws.{addPaths, boards-addPaths}
 use Rattle.covers.specs.NodeLaws.{number-lt}
 use Rattle.cells.specs.declared.list.Found.{Found}
 use Rattle.cells.specs.declared.list.Found.the-variants as F
-use Rattle.path_count.specs.PathCounts.{countLimit, countRoom, countIn, withCount, AddsCount}
+use Rattle.path_count.specs.PathCounts.{countLimit, countRoom, countIn}
+use Rattle.path_count.specs.Parts.{withCount, AddsCount}
 use Rattle.path_count.specs.PathCountLaws.{counts-snoc, counts-set, adds-done}
 use Rattle.graph.specs.GraphLaws.{found-held}
 use Rattle.layers.specs.declared.layer.Layer.{Layer}

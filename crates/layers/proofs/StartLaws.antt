@@ -9,32 +9,34 @@ use borrow.Author.Tests.{le-ltb, ne-eqb}
 use lib.Dec.{eqb, ltb, lit<}
 use lib.ListN.{length, getD, replicate}
 use mathlib.Core.Bool.{Bool, So, false, cond}
-use Rattle.cells.specs.Words.{number}
-use Rattle.cells.specs.Arrays.{listFrom, listOf}
+use Rattle.cells.specs.Set.{number}
+use Rattle.cells.specs.Lists.{listFrom, listOf, setAt}
+use Rattle.cells.specs.Parts.{withSet, clearedFrom}
 use Rattle.cells.specs.ArrayLaws.{listOf-ext, replicate-listOf}
-use Rattle.cells.specs.Lists.{setAt, withSet, clearedFrom}
 use Rattle.cells.specs.ListLaws.{setAt-same}
 use Rattle.tiles.specs.declared.Tiles.{Tiles}
 use Rattle.refusal.specs.declared.Refusal.{Refusal}
 use Rattle.refusal.specs.Refusal.{Answer, refused, given, mapAnswer, bindAnswer, refusalNumber}
 use Rattle.refusal.specs.RefusalLaws.{refused-given, given-inj}
 use Rattle.tile.specs.Path.{Path}
-use Rattle.tiles.specs.Stored.{pathsIn}
+use Rattle.tiles.specs.Paths.{pathsIn}
 use Rattle.board.specs.declared.RectangularBoard.{RectangularBoard}
 use Rattle.board.specs.declared.FreeCells.{FreeCells}
 use Rattle.board.specs.declared.FreeCells.the-variants as F
-use Rattle.rectangle.specs.Board.{Board, marks, valid, freeCount}
+use Rattle.rectangle.specs.Board.{Board, valid, freeCount}
 use Rattle.board.specs.Board.{boardOf, readBoard, freeCellsAnswer}
 use Rattle.rectangle.specs.BoardLaws.{marks-lt}
 use Rattle.board.specs.BoardLaws.{readBoard-given}
-use Rattle.covers.specs.Cuttings.{Setting}
+use Rattle.covers.specs.Setting.{Setting}
 use Rattle.covers.specs.Counts.{Entry}
-use Rattle.path_count.specs.PathCounts.{countRoom, countIn, withCount}
+use Rattle.path_count.specs.PathCounts.{countRoom, countIn}
+use Rattle.path_count.specs.Parts.{withCount}
 use Rattle.path_count.specs.PathCountLaws.{countIn-same}
-use Rattle.expansion.specs.Boards.{setting, settingOf, startOf}
-use Rattle.layers.specs.LayerCounts.{layersAnswer, countTilings}
-use Rattle.expansion.specs.Plots.{readPlot, Accepted}
-use Rattle.layers.specs.Inner.{entriesIn, countFrom, Ready}
+use Rattle.expansion.specs.Boards.{setting, settingOf, startOf, Accepted}
+use Rattle.layers.specs.Inner.{layersAnswer, entriesIn, countFrom, Ready}
+use Rattle.layers.specs.LayerCounts.{countTilings, layerCountFor}
+use Rattle.layers.specs.CountLaws.{layers-setting}
+use Rattle.expansion.specs.Plots.{acceptPlot}
 use Rattle.layers.specs.RunLaws.{ready-start, layers-from, layers-full, layers-no-room}
 use Rattle.expansion.specs.AcceptedLaws.{setting-full, accepted-laws, accepted-start, accepted-free}
 
@@ -103,15 +105,15 @@ module _ (b : RectangularBoard) (ts : Tiles) (A : Accepted b ts) (fixedLt : numb
 -- ---- the ways out of `counted`
 
 module _ (b : RectangularBoard) (ts : Tiles) (room : ℕ) where
-  pub count-given : (x : Answer ℕ) → readPlot b ts ≡ given (boardOf b, pathsIn ts) → x ≡ layersAnswer (settingOf b ts) (startOf b) room
+  pub count-given : (x : Answer ℕ) → acceptPlot b ts ≡ given (boardOf b, pathsIn ts) → x ≡ layersAnswer (settingOf b ts) (startOf b) room
       → x ≡ countTilings b ts room
   unfolding countTilings bindAnswer
   count-given x r e =
-      e ∙ ap (λ (a : Answer (Board × List Path)). bindAnswer a (λ p. layersAnswer (setting (p .0) (p .1)) (marks (p .0)) room)) (sym r)
+      e ∙ sym (layers-setting (boardOf b) (pathsIn ts) room) ∙ ap (λ (a : Answer (Board × List Path)). bindAnswer a (λ p. layerCountFor (p .0) (p .1) room)) (sym r)
 
-  pub count-refused : (n : ℕ) → readPlot b ts ≡ refused n → refused n ≡ countTilings b ts room
+  pub count-refused : (n : ℕ) → acceptPlot b ts ≡ refused n → refused n ≡ countTilings b ts room
   unfolding countTilings bindAnswer
-  count-refused n r = ap (λ (a : Answer (Board × List Path)). bindAnswer a (λ p. layersAnswer (setting (p .0) (p .1)) (marks (p .0)) room)) (sym r)
+  count-refused n r = ap (λ (a : Answer (Board × List Path)). bindAnswer a (λ p. layerCountFor (p .0) (p .1) room)) (sym r)
 
 -- ---- words that are cleared
 

@@ -8,14 +8,12 @@ use native.Mathlib.Omega.{arith}
 use borrow.Author.Tests.{le-leb, lt-leb, leb-true}
 use lib.Dec.{eqb, leb}
 use lib.ListN.{length, getD, set, length-append, length-map, length-set}
-use Rattle.cells.specs.Firsts.{any, holds}
-use Rattle.cells.specs.Arrays.{listOf}
+use Rattle.cells.specs.Lists.{any, holds, listOf, setAt}
 use Rattle.cells.specs.ArrayLaws.{listOf-snoc}
-use Rattle.cells.specs.Lists.{setAt}
 use Rattle.cells.specs.MemberLaws.{eqb-tells, flatMap-snoc}
 use Rattle.tile.specs.Path.{Path}
 use Rattle.rectangle.specs.Board.{Board}
-use Rattle.covers.specs.Cuttings.{childBoards}
+use Rattle.covers.specs.Setting.{childBoards}
 use Rattle.covers.specs.Counts.{Entry, boards, counts, shares, gather, numberIn}
 use Rattle.covers.specs.GatherLaws.{addPaths, gather-snoc}
 use Rattle.path_count.specs.PathCounts.{countLimit, countIn}

@@ -1,44 +1,56 @@
 -- What a layer count that is given says: board and tiles are not refused, it is the count of the definition, it is below the limit, and under demand 3's
 -- conditions it is the number of cuttings. Rests on expansion's laws and covers' `Theorems`. Assumes nothing.
-use mathlib.Core.Path.{_≡_, refl, sym, _∙_, subst}
+use mathlib.Core.Path.{_≡_, refl, sym, ap, _∙_, subst}
 use mathlib.Core.Logic.{⊎-elim}
 use mathlib.Core.Bool.{Bool, true, false, cond, false≢true}
 use mathlib.Core.List.{List, List·Memᴰ as Mem, List·Memᴰ·append-cases as append-cases, Memᴰ·map as mem-map, Memᴰ·of-map as of-map}
 use mathlib.Core.Option.{Option, none, some}
 use Prim.Native.Nat.{ℕ, zero, suc, _<_}
 use borrow.Author.Tests.{leb-false}
-use lib.Dec.{leb, lit<}
+use lib.Dec.{eqb, leb, lit<}
 use lib.ListN.{length, getD}
-use Rattle.cells.specs.Words.{Sound}
+use Rattle.cells.specs.Set.{Sound}
 use Rattle.cells.specs.FirstsLaws.{any-true}
 use Rattle.refusal.specs.Refusal.{Answer, refused, given, mapAnswer}
 use Rattle.refusal.specs.RefusalLaws.{refused-given, given-inj, map-given, bind-given}
 use Rattle.tiles.specs.declared.Tiles.{Tiles}
-use Rattle.tiles.specs.Stored.{pathsIn}
+use Rattle.tile.specs.Path.{Path}
+use Rattle.tiles.specs.Paths.{pathsIn}
 use Rattle.board.specs.declared.RectangularBoard.{RectangularBoard}
+use Rattle.rectangle.specs.Board.{Board, marks}
 use Rattle.board.specs.Board.{boardOf}
-use Rattle.covers.specs.Cuttings.{Setting, Exactly, childBoards}
-use Rattle.covers.specs.Counts.{Entry, counts, layers, layerOf, layerCount, entriesOf, nodesOf, pathCountOf, fullNode, atNode, graphCount, cuttingAt}
+use Rattle.children.specs.Children.{fullAt, freeCountAt}
+use Rattle.covers.specs.Setting.{Setting, childBoards, layerOf, layerCountOf, entriesOf, nodesOf, pathCountOf, graphCount, cuttingAt}
+use Rattle.covers.specs.Counts.{Exactly, Entry, counts, layer, layers, layerCount, fullNode, atNode}
 use Rattle.covers.specs.Theorems.{counts-are-equal}
 use Rattle.path_count.specs.PathCounts.{countLimit}
-use Rattle.graph.specs.Rooms.{layerRoom}
-use Rattle.expansion.specs.Boards.{settingOf, startOf}
-use Rattle.expansion.specs.Plots.{Accepted, stepOf}
-use Rattle.expansion.specs.Cuttings.{IsCutting, HasFreeCell, AllEdgeJoined}
+use Rattle.graph.specs.Graph.{layerRoom}
+use Rattle.expansion.specs.Boards.{setting, settingOf, startOf, Accepted}
+use Rattle.expansion.specs.Parts.{stepOf}
+use Rattle.expansion.specs.Plots.{IsCutting, HasFreeCell, AllEdgeJoined}
+use Rattle.expansion.specs.SettingLaws.{same-children}
 use Rattle.expansion.specs.CuttingLaws.{cuttings-numbered}
 use Rattle.expansion.specs.AcceptedLaws.{from-read, accepted-laws, accepted-steps, start-accepted}
 use Rattle.expansion.specs.ExpansionLaws.{below-at}
 use Rattle.layers.specs.declared.Count.{Count}
-use Rattle.layers.specs.LayerCounts.{tooLarge, judgeLayer, judgeLayers, layersAnswer, countTilings, CountsTilings, CountsCuttings}
+use Rattle.layers.specs.LayerCounts.{tooLarge, judgeLayer, judgeLayers, layerCountFor, countTilings, CountsTilings, CountsCuttings}
+use Rattle.layers.specs.Inner.{layersAnswer}
 
 -- ---- it is the count of the definition
 
+-- the layer count of a board and tiles is that of their setting
+pub layers-setting : (b : Board) (paths : List Path) (room : ℕ) → layerCountFor b paths room ≡ layersAnswer (setting b paths) (marks b) room
+unfolding layerCountFor layersAnswer setting
+layers-setting b paths room =
+    ap (λ (ch : ℕ → List ℕ). mapAnswer (λ es. layerCount eqb ch (fullAt b) (marks b) (freeCountAt b (marks b))) (judgeLayers (layer eqb ch (marks b)) room (freeCountAt b (marks b))))
+    (sym (same-children b paths))
+
 -- the layer count that is given is the definition's
-pub counted-layers : (b : RectangularBoard) (ts : Tiles) (room n : ℕ) → layersAnswer (settingOf b ts) (startOf b) room ≡ given n → layerCount (settingOf b ts) (startOf b) ≡ n
+pub counted-layers : (b : RectangularBoard) (ts : Tiles) (room n : ℕ) → layersAnswer (settingOf b ts) (startOf b) room ≡ given n → layerCountOf (settingOf b ts) (startOf b) ≡ n
 unfolding layersAnswer mapAnswer
 counted-layers b ts room n e = go (judgeLayers (layerOf (settingOf b ts) (startOf b)) room (settingOf b ts .freeCount (startOf b))) e
   where
-    go : {A : Type 0} (a : Answer A) → mapAnswer (λ es. layerCount (settingOf b ts) (startOf b)) a ≡ given n → layerCount (settingOf b ts) (startOf b) ≡ n
+    go : {A : Type 0} (a : Answer A) → mapAnswer (λ es. layerCountOf (settingOf b ts) (startOf b)) a ≡ given n → layerCountOf (settingOf b ts) (startOf b) ≡ n
     go (refused k) h = absurd (refused-given k n h)
     go (given es) h = given-inj _ n h
 
@@ -49,7 +61,7 @@ module _ (b : RectangularBoard) (fixed : Sound (b .fixed)) (laid : Sound (b .lai
   layers-count room n told =
       let r = from-read b ts _ n told in (
         r .0,
-        sym (counted-layers b ts room n (r .1))
+        sym (counted-layers b ts room n (sym (layers-setting (boardOf b) (pathsIn ts) room) ∙ r .1))
             ∙ counts-are-equal (settingOf b ts) (accepted-laws b ts (r .0)) (stepOf (pathsIn ts)) (accepted-steps b ts (r .0)) (startOf b) (start-accepted b fixed laid ts (r .0)),
       )
 
@@ -109,7 +121,7 @@ unfolding layersAnswer graphCount atNode
 given-small S s room n e = go (fullNode (S .full) (nodesOf S s))
   where
     judged : (es : List (Entry ℕ)) × (judgeLayers (layerOf S s) room (S .freeCount s) ≡ given es)
-    judged = let r = map-given (λ es. layerCount S s) (judgeLayers (layerOf S s) room (S .freeCount s)) n e in (r .0, r .1)
+    judged = let r = map-given (λ es. layerCountOf S s) (judgeLayers (layerOf S s) room (S .freeCount s)) n e in (r .0, r .1)
 
     go : (o : Option ℕ) → atNode (pathCountOf S s) o < countLimit
     go none = lit< tt
@@ -118,4 +130,4 @@ given-small S s room n e = go (fullNode (S .full) (nodesOf S s))
 pub layers-small : (b : RectangularBoard) → Sound (b .fixed) → Sound (b .laid) → (ts : Tiles) (room n : ℕ) → countTilings b ts room ≡ given n → n < countLimit
 unfolding countTilings
 layers-small b fixed laid ts room n told =
-    subst (λ (k : ℕ). k < countLimit) (sym (layers-count b fixed laid ts room n told .1)) (given-small (settingOf b ts) (startOf b) room n (from-read b ts _ n told .1))
+    subst (λ (k : ℕ). k < countLimit) (sym (layers-count b fixed laid ts room n told .1)) (given-small (settingOf b ts) (startOf b) room n (sym (layers-setting (boardOf b) (pathsIn ts) room) ∙ from-read b ts _ n told .1))

@@ -3,20 +3,25 @@
 use mathlib.Core.Path.{_≡_}
 use mathlib.Core.Bool.{false, cond}
 use mathlib.Core.List.{List, [], _∷_, List·Memᴰ as Mem}
-use Prim.Native.Nat.{ℕ, zero, suc, _+_, _*_, _≤_}
+use Prim.Native.Nat.{ℕ, zero, suc, _+_, _-_, _*_, _≤_}
 use lib.Dec.{eqb, leb}
 use lib.ListN.{length}
-use Rattle.cells.specs.Firsts.{Once}
-use Rattle.cells.specs.Arrays.{listOf}
-use Rattle.cells.specs.Lists.{setAt}
-use Rattle.refusal.specs.Refusal.{Answer, given, mapAnswer, bindAnswer}
-use Rattle.covers.specs.Cuttings.{Setting, childBoards}
-use Rattle.covers.specs.Counts.{Entry, boards, counts, fullCount, shares, gather}
+use Rattle.cells.specs.FirstsLaws.{Once}
+use Rattle.cells.specs.Lists.{listOf, setAt}
+use Rattle.refusal.specs.Refusal.{Answer, refused, given, mapAnswer, bindAnswer, refusalNumber}
+use Rattle.covers.specs.Setting.{Setting, childBoards, layerOf, layerCountOf}
+use Rattle.covers.specs.Counts.{Entry, boards, counts, fullCount, shares, gather, layer, layerCount}
 use Rattle.covers.specs.GatherLaws.{addPaths}
 use Rattle.path_count.specs.PathCounts.{countRoom, countIn}
+use Rattle.tiles.specs.Paths.{pathsIn}
+use Rattle.expansion.specs.Boards.{settingOf, Accepted}
+use Rattle.expansion.specs.Parts.{stepOf}
 use Rattle.layers.specs.declared.layer.Layer.{Layer}
 use Rattle.layers.specs.declared.layer.Layer.the-variants as L
-use Rattle.layers.specs.LayerCounts.{tooLarge, judgeLayer}
+use Rattle.layers.specs.declared.from_layer.Setup.{Setup}
+use Rattle.layers.specs.declared.from_layer.Grown.{Grown}
+use Rattle.layers.specs.declared.from_layer.Grown.the-variants as G
+use Rattle.layers.specs.LayerCounts.{tooLarge, judgeLayer, judgeLayers}
 
 -- ---- a layer in lent words
 
@@ -50,11 +55,23 @@ AddsToLayer room bs cs layer bs′ cs′ r add =
 abbrev pub LayerLent : ℕ → List ℕ → List ℕ → Type 0
 LayerLent room bs cs = (4 * room ≤ length bs) × (room ≤ countRoom (length cs))
 
+-- a start and tiles that are not refused, with the cells that each piece covers, and their setting
+abbrev pub Tested : Setup → Type 0
+Tested p = Accepted (p .board) (p .tiles) × (p .size ≡ stepOf (pathsIn (p .tiles)))
+
+abbrev pub settingIn : Setup → Setting ℕ ℕ
+settingIn p = settingOf (p .board) (p .tiles)
+
 -- k paths more for each board of a list, in order
 unfoldable pub addEach : List ℕ → ℕ → List (Entry ℕ) → List (Entry ℕ)
 unfolding addPaths
 addEach [] k es = es
 addEach (c ∷ cs) k es = addEach cs k (addPaths eqb c k es)
+
+-- what is answered of the layers of a start
+unfoldable pub layersAnswer : {P : Type 0} → Setting ℕ P → ℕ → ℕ → Answer ℕ
+unfolding judgeLayers layer layerCount mapAnswer
+layersAnswer S s room = mapAnswer (λ es. layerCountOf S s) (judgeLayers (layerOf S s) room (S .freeCount s))
 
 -- the layer behind a layer
 unfoldable pub nextOf : Setting ℕ ℕ → List (Entry ℕ) → List (Entry ℕ)
@@ -67,8 +84,20 @@ unfolding fullCount judgeLayer nextOf mapAnswer bindAnswer
 countFrom S room zero es = given (fullCount (S .full) es)
 countFrom S room (suc k) es = mapAnswer (λ n. fullCount (S .full) es + n) (bindAnswer (judgeLayer room (nextOf S es)) (countFrom S room k))
 
+-- an answer is right from a layer on whose boards have so many free cells, whatever number of layers is enough
+abbrev pub Right : Setting ℕ ℕ → ℕ → ℕ → List (Entry ℕ) → Answer ℕ → Type 0
+Right S room left es x = (k : ℕ) → left ≤ k → x ≡ countFrom S room k es
+
 -- a layer each of whose boards is accepted and has so many free cells
 pub record Ready (S : Setting ℕ ℕ) (left : ℕ) (es : List (Entry ℕ)) : Type 0 where
   pub once : Once (boards es)
   pub ok : (n : ℕ) → Mem n (boards es) → S .Ok n
   pub free : (n : ℕ) → Mem n (boards es) → S .freeCount n ≡ left
+
+-- a layer es has grown, by pieces of so many cells in all: the layer in the words is ready, and what is right from it on is right from es on; or the
+-- refusal is
+unfoldable pub Grows : Setting ℕ ℕ → ℕ → ℕ → ℕ → List (Entry ℕ) → List ℕ → List ℕ → Grown → Type 0
+unfolding entriesIn countFrom
+Grows S room left laid es bs cs (G.Boards m rest) =
+    (rest ≡ left - laid) × Ready S rest (entriesIn bs cs m) × ((x : Answer ℕ) → Right S room rest (entriesIn bs cs m) x → Right S room left es x)
+Grows S room left laid es bs cs (G.Refused q) = Right S room left es (refused (refusalNumber q))

@@ -1,26 +1,24 @@
 -- Definitions: what `count_tilings` answers and leaves in the lent words, for every input, and what demand 3 says of it. Layers and path counts are those
--- of `covers`, for the boards of the start and the tiles. What stands in quotation marks is 01's, from its section on the layer count. Assumes nothing.
+-- of `covers`, by the children of a board. What stands in quotation marks is 01's, from its section on the layer count. Assumes nothing.
 use mathlib.Core.Path.{_≡_}
 use mathlib.Core.Bool.{Bool, cond}
 use mathlib.Core.List.{List}
 use Prim.Native.Nat.{ℕ, zero, suc}
-use lib.Dec.{leb}
+use lib.Dec.{eqb, leb}
 use lib.ListN.{length, replicate}
-use Rattle.cells.specs.Firsts.{any}
+use Rattle.cells.specs.Lists.{any}
 use Rattle.tiles.specs.declared.Tiles.{Tiles}
 use Rattle.refusal.specs.Refusal.{Answer, refused, given, mapAnswer, bindAnswer, refusalNumber}
 use Rattle.tile.specs.Path.{Path}
-use Rattle.tiles.specs.Stored.{pathsIn}
+use Rattle.tiles.specs.Paths.{pathsIn}
 use Rattle.board.specs.declared.RectangularBoard.{RectangularBoard}
-use Rattle.rectangle.specs.Board.{Board, marks}
+use Rattle.rectangle.specs.Board.{Board, marks, isFull, freeCount}
 use Rattle.board.specs.Board.{boardOf}
-use Rattle.covers.specs.Cuttings.{Setting, Exactly}
-use Rattle.covers.specs.Counts.{Entry, counts, layer, layerOf, layerCount}
+use Rattle.children.specs.Children.{children, childrenAt, fullAt, freeCountAt}
+use Rattle.covers.specs.Counts.{Exactly, Entry, counts, layer, layerCount}
 use Rattle.path_count.specs.PathCounts.{countLimit, countValue}
-use Rattle.graph.specs.Rooms.{layerRoom}
-use Rattle.expansion.specs.Boards.{setting}
-use Rattle.expansion.specs.Plots.{readPlot}
-use Rattle.expansion.specs.Cuttings.{IsCutting, HasFreeCell, AllEdgeJoined}
+use Rattle.graph.specs.Graph.{layerRoom}
+use Rattle.expansion.specs.Plots.{acceptPlot, IsCutting, HasFreeCell, AllEdgeJoined}
 use Rattle.layers.specs.declared.Count.{Count}
 use Rattle.layers.specs.declared.Count.the-variants as C
 
@@ -42,21 +40,20 @@ unfolding judgeLayer bindAnswer
 judgeLayers at room zero = judgeLayer room (at zero)
 judgeLayers at room (suc n) = bindAnswer (judgeLayers at room n) (λ es. judgeLayer room (at (suc n)))
 
--- the layers of a start: no piece is left to lay behind the layer of as many pieces as cells are free
-unfoldable pub layersAnswer : {P : Type 0} → Setting ℕ P → ℕ → ℕ → Answer ℕ
-unfolding judgeLayers layer layerCount mapAnswer
-layersAnswer G s room = mapAnswer (λ es. layerCount G s) (judgeLayers (layerOf G s) room (G .freeCount s))
-
--- the layer count of a board and tiles that are not refused, for a room of so many boards,
-unfoldable pub layersOf : Board → List Path → ℕ → Answer ℕ
-unfolding layersAnswer setting marks
-layersOf b paths room = layersAnswer (setting b paths) (marks b) room
+-- the layer count of a board and tiles that are not refused, for a room of so many boards: of the layers up to that of as many pieces as cells are free, behind
+-- which no piece is left to lay,
+unfoldable pub layerCountFor : Board → List Path → ℕ → Answer ℕ
+unfolding judgeLayers layer layerCount children isFull freeCount marks mapAnswer
+layerCountFor b paths room =
+    mapAnswer (λ es. layerCount eqb (childrenAt b paths) (fullAt b) (marks b) (freeCountAt b (marks b)))
+    (judgeLayers (layer eqb (childrenAt b paths) (marks b)) room (freeCountAt b (marks b)))
 
 -- and of any
 unfoldable pub countTilings : RectangularBoard → Tiles → ℕ → Answer ℕ
-unfolding readPlot bindAnswer layersOf
-countTilings b ts room = bindAnswer (readPlot b ts) (λ p. layersOf (p .0) (p .1) room)
+unfolding acceptPlot bindAnswer layerCountFor
+countTilings b ts room = bindAnswer (acceptPlot b ts) (λ p. layerCountFor (p .0) (p .1) room)
 
+-- what `count_tilings` answers: a number, or a refusal
 abbrev pub countAnswer : Count → Answer ℕ
 countAnswer (C.Number n) = given (countValue n)
 countAnswer (C.Refused r) = refused (refusalNumber r)

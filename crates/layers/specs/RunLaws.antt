@@ -9,18 +9,19 @@ use native.Mathlib.Omega.{arith}
 use borrow.Author.Tests.{le-leb, ne-eqb, eq-eqb}
 use lib.Dec.{eqb, leb}
 use lib.ListN.{length, getD}
-use Rattle.cells.specs.Firsts.{Once, any, addFirsts, firsts}
+use Rattle.cells.specs.FirstsLaws.{Once}
+use Rattle.cells.specs.Lists.{any, addFirsts, firsts}
 use Rattle.cells.specs.MemberLaws.{no-member, mem-flatMap}
 use Rattle.refusal.specs.Refusal.{Answer, refused, given, mapAnswer, bindAnswer}
 use Rattle.refusal.specs.RefusalLaws.{refused-given}
-use Rattle.covers.specs.Cuttings.{Setting, childBoards, Laws, EqualSteps}
-use Rattle.covers.specs.Counts.{Entry, boards, counts, sumOf, shares, gather, layer, fullCount, layerOf, layerCountTo, layerCount}
+use Rattle.covers.specs.Setting.{Setting, childBoards, Laws, EqualSteps, layerOf, layerCountTo, layerCountOf}
+use Rattle.covers.specs.Counts.{Entry, boards, counts, sumOf, shares, gather, layer, fullCount, layerCount}
 use Rattle.covers.specs.SumLaws.{sum-zero}
 use Rattle.covers.specs.GatherLaws.{mem-boards, once-gather, mem-gather}
 use Rattle.covers.specs.LayerLaws.{boards-shares}
 use Rattle.covers.specs.ChildLaws.{child-ok, child-equal}
-use Rattle.layers.specs.LayerCounts.{tooLarge, judgeLayer, judgeLayers, layersAnswer}
-use Rattle.layers.specs.Inner.{nextOf, countFrom, Ready}
+use Rattle.layers.specs.LayerCounts.{tooLarge, judgeLayer, judgeLayers}
+use Rattle.layers.specs.Inner.{layersAnswer, nextOf, countFrom, Ready}
 
 -- ---- answers
 
@@ -178,7 +179,7 @@ module _ (S : Setting ℕ ℕ) (s room : ℕ) where
   -- the layers 0 to j and then what is answered from layer j on; b is the count of the layers before j
   from-layer : (k j b : ℕ) → layerCountTo S s j ≡ b + fullCount (S .full) (layerOf S s j)
       → mapAnswer (λ es. layerCountTo S s (j + k)) (W (j + k)) ≡ bindAnswer (W j) (λ es. mapAnswer (λ n. b + n) (countFrom S room k (layerOf S s j)))
-  unfolding countFrom mapAnswer bindAnswer layerCountTo judgeLayers nextOf layer
+  unfolding countFrom mapAnswer bindAnswer layerCount judgeLayers nextOf layer
   from-layer zero j b e =
       ap (λ (i : ℕ). mapAnswer (λ es. layerCountTo S s i) (W i)) (add-zero j) ∙ go (W j)
     where
@@ -204,7 +205,7 @@ module _ (S : Setting ℕ ℕ) (s room : ℕ) where
 
   -- of a start that is not full, and room for it
   pub layers-from : S .full s ≡ false → 0 < room → layersAnswer S s room ≡ countFrom S room (S .freeCount s) ((s, 1) ∷ [])
-  unfolding layersAnswer layerCount layerCountTo judgeLayers layer fullCount sumOf bindAnswer
+  unfolding layersAnswer layerCount judgeLayers layer fullCount sumOf bindAnswer
   layers-from f h =
       let none : 0 ≡ 0 + fullCount (S .full) ((s, 1) ∷ []) = omega (arith, ap {B = ℕ} (λ (b : Bool). cond b 1 0) f) in
       ap (λ (i : ℕ). mapAnswer (λ es. layerCountTo S s i) (W i)) (sym (zero-add (S .freeCount s)))
@@ -215,7 +216,7 @@ module _ (S : Setting ℕ ℕ) (s room : ℕ) where
 
   -- of a full start, and room for it
   pub layers-full : S .freeCount s ≡ 0 → 0 < room → layersAnswer S s room ≡ given 0
-  unfolding layersAnswer layerCount layerCountTo judgeLayers layer mapAnswer
+  unfolding layersAnswer layerCount judgeLayers layer mapAnswer
   layers-full z h =
       ap (λ (i : ℕ). mapAnswer (λ es. layerCountTo S s i) (W i)) z ∙ ap (mapAnswer (λ (es : List (Entry ℕ)). 0)) (judgeLayer-start room s h)
 
@@ -227,4 +228,4 @@ no-room S s (suc n) = ap (λ (x : Answer (List (Entry ℕ))). bindAnswer x (λ e
 
 pub layers-no-room : (S : Setting ℕ ℕ) (s : ℕ) → layersAnswer S s 0 ≡ refused 8
 unfolding layersAnswer mapAnswer
-layers-no-room S s = ap (mapAnswer (λ (es : List (Entry ℕ)). layerCount S s)) (no-room S s (S .freeCount s))
+layers-no-room S s = ap (mapAnswer (λ (es : List (Entry ℕ)). layerCountOf S s)) (no-room S s (S .freeCount s))

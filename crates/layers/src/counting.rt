@@ -2,6 +2,7 @@
 // helpers; all but `counted` ask that board and tiles have been tested.
 use crate::Count;
 use crate::from_layer;
+use crate::from_layer::Setup;
 use board::FreeCells;
 use board::RectangularBoard;
 use cells::list;
@@ -15,15 +16,15 @@ ghost use mathlib.Core.Bool.{So};
 ghost use mathlib.Core.List.{[], _∷_};
 ghost use Prim.Native.Nat.{_≤_, _<_};
 ghost use lib.ListN.{length};
-ghost use Rattle.tiles.specs.Stored.{pathsIn};
+ghost use Rattle.tiles.specs.Paths.{pathsIn};
 ghost use Rattle.board.specs.Board.{boardOf};
 ghost use Rattle.rectangle.specs.Board.{freeCount, valid};
 ghost use Rattle.path_count.specs.PathCounts.{countRoom};
-ghost use Rattle.graph.specs.Rooms.{layerRoom};
-ghost use Rattle.expansion.specs.Boards.{settingOf, startOf};
-ghost use Rattle.expansion.specs.Plots.{Accepted, stepOf};
-ghost use Rattle.layers.specs.LayerCounts.{layersAnswer, countTilings, countAnswer};
-ghost use Rattle.layers.specs.Inner.{entriesIn};
+ghost use Rattle.graph.specs.Graph.{layerRoom};
+ghost use Rattle.expansion.specs.Boards.{settingOf, startOf, Accepted};
+ghost use Rattle.expansion.specs.Parts.{stepOf};
+ghost use Rattle.layers.specs.Inner.{layersAnswer, entriesIn};
+ghost use Rattle.layers.specs.LayerCounts.{countTilings, countAnswer};
 
 // The number of free cells of a board that is not refused.
 fn free_cells(board: RectangularBoard) -> usize
@@ -73,18 +74,13 @@ fn count_accepted(
         return Count::Number(PathCount::of_words(0, 0));
     }
     start(board, boards_a, counts_a);
-    from_layer::run(
+    let plot = Setup {
         board,
         tiles,
-        boards_a,
-        counts_a,
-        boards_b,
-        counts_b,
-        1,
-        room,
-        free,
         size,
-    )
+        room,
+    };
+    from_layer::run(plot, boards_a, counts_a, boards_b, counts_b, 1, free)
 }
 
 // The count, the layers not cleared.

@@ -1,5 +1,6 @@
-// The count from a layer on, over two lent layers, which change places from layer to layer. Private
-// helpers; they ask that board and tiles have been tested, and that the rooms are lent.
+// The count from a layer on, over two lent layers, which change places from layer to layer: a round
+// grows the second from the first and the first from the second. Private helpers; they ask that board
+// and tiles have been tested, and that the rooms are lent.
 use crate::Count;
 use crate::layer;
 use crate::layer::Layer;
@@ -9,17 +10,30 @@ use refusal::Refusal;
 use tiles::Tiles;
 ghost use mathlib.Core.Path.{_≡_};
 ghost use mathlib.Core.Bool.{cond};
-ghost use Prim.Native.Nat.{ℕ, _≤_};
+ghost use Prim.Native.Nat.{_+_, _≤_, _<_};
 ghost use lib.Dec.{eqb};
 ghost use lib.ListN.{getD};
-ghost use Rattle.cells.specs.Arrays.{listOf};
+ghost use Rattle.cells.specs.Lists.{listOf};
 ghost use Rattle.refusal.specs.Refusal.{given};
 ghost use Rattle.path_count.specs.PathCounts.{countIn};
-ghost use Rattle.tiles.specs.Stored.{pathsIn};
-ghost use Rattle.expansion.specs.Boards.{settingOf};
-ghost use Rattle.expansion.specs.Plots.{Accepted, stepOf};
 ghost use Rattle.layers.specs.LayerCounts.{countAnswer};
-ghost use Rattle.layers.specs.Inner.{entriesIn, LayerLent, countFrom, Ready};
+ghost use Rattle.layers.specs.Inner.{entriesIn, LayerLent, Tested, settingIn, Right, Ready, Grows};
+
+// A start and tiles that have been tested, the number of cells that each piece covers, and the room of
+// a layer.
+pub struct Setup {
+    pub board: RectangularBoard,
+    pub tiles: Tiles,
+    pub size: usize,
+    pub room: usize,
+}
+
+// How many boards a layer has that has grown, and how many free cells each of them has; or the
+// refusal of a layer.
+enum Grown {
+    Boards(usize, usize),
+    Refused(Refusal),
+}
 
 // The count of a layer of n boards on which no piece can be laid: that of its one board if no cell
 // is left free, 0 if some are or if there is no board.
@@ -35,51 +49,109 @@ fn last_count(counts: &[u64], n: usize, left: usize) -> Count
     Count::Number(path_count::get(counts, 0))
 }
 
-// The count from a layer of n boards on, each of which has left free cells.
-pub fn run(
-    board: RectangularBoard,
-    tiles: Tiles,
-    boards: &mut [u64],
-    counts: &mut [u64],
+// The layer behind a layer of n boards, each of which has left free cells.
+fn grow_once(
+    plot: Setup,
+    boards: &[u64],
+    counts: &[u64],
     next_boards: &mut [u64],
     next_counts: &mut [u64],
     n: usize,
-    room: usize,
     left: usize,
-    size: usize,
-) -> Count
-    requires { ⌜ Accepted board tiles × (size ≡ stepOf (pathsIn tiles)) × LayerLent room (now boards) (now counts) × LayerLent room (now «next_boards») (now «next_counts») × (n ≤ room) × Ready (settingOf board tiles) left (entriesIn (now boards) (now counts) n) ⌝ }
-    ensures { λ r. ⌜ ((k : ℕ) → left ≤ k → countAnswer r ≡ countFrom (settingOf board tiles) room k (entriesIn (now (boards .entry)) (now (counts .entry)) n)) ⌝ }
+) -> Grown
+    requires { ⌜ Tested plot × LayerLent (plot .room) (now «next_boards») (now «next_counts») × Ready (settingIn plot) left (entriesIn (now boards) (now counts) n) × (plot .size ≤ left) ⌝ }
+    ensures { λ r. ⌜ Grows (settingIn plot) (plot .room) left (plot .size) (entriesIn (now (boards .entry)) (now (counts .entry)) n) (now («next_boards» .exit)) (now («next_counts» .exit)) r ⌝ }
 {
-    if left < size {
-        return last_count(counts, n, left);
-    }
-    let grown = layer::grow(
-        board,
-        tiles,
+    let layer = layer::grow(
+        plot.board,
+        plot.tiles,
         boards,
         counts,
         n,
         next_boards,
         next_counts,
-        room,
+        plot.room,
     );
-    let Layer::Boards(m, over) = grown else {
-        return Count::Refused(Refusal::NoRoom);
+    let Layer::Boards(m, over) = layer else {
+        return Grown::Refused(Refusal::NoRoom);
     };
     if over {
-        return Count::Refused(Refusal::CountTooLarge);
+        return Grown::Refused(Refusal::CountTooLarge);
     }
-    run(
-        board,
-        tiles,
-        next_boards,
-        next_counts,
-        boards,
-        counts,
-        m,
-        room,
-        left - size,
-        size,
-    )
+    Grown::Boards(m, left - plot.size)
+}
+
+// The second layer behind a layer of n boards, in its place; the one between stands in the next
+// words.
+fn grow_twice(
+    plot: Setup,
+    boards: &mut [u64],
+    counts: &mut [u64],
+    next_boards: &mut [u64],
+    next_counts: &mut [u64],
+    n: usize,
+    left: usize,
+) -> Grown
+    requires { ⌜ Tested plot × LayerLent (plot .room) (now boards) (now counts) × LayerLent (plot .room) (now «next_boards») (now «next_counts») × Ready (settingIn plot) left (entriesIn (now boards) (now counts) n) × (plot .size + plot .size ≤ left) ⌝ }
+    ensures { λ r. ⌜ Grows (settingIn plot) (plot .room) left (plot .size + plot .size) (entriesIn (now (boards .entry)) (now (counts .entry)) n) (now (boards .exit)) (now (counts .exit)) r ⌝ }
+{
+    let first = grow_once(plot, boards, counts, next_boards, next_counts, n, left);
+    match first {
+        Grown::Boards(m, rest) => {
+            grow_once(plot, next_boards, next_counts, boards, counts, m, rest)
+        }
+        Grown::Refused(refusal) => Grown::Refused(refusal),
+    }
+}
+
+// The count from a layer of n boards on, behind which there is at most one more.
+fn finish(
+    plot: Setup,
+    boards: &[u64],
+    counts: &[u64],
+    next_boards: &mut [u64],
+    next_counts: &mut [u64],
+    n: usize,
+    left: usize,
+) -> Count
+    requires { ⌜ Tested plot × LayerLent (plot .room) (now «next_boards») (now «next_counts») × Ready (settingIn plot) left (entriesIn (now boards) (now counts) n) × (left < plot .size + plot .size) ⌝ }
+    ensures { λ r. ⌜ Right (settingIn plot) (plot .room) left (entriesIn (now (boards .entry)) (now (counts .entry)) n) (countAnswer r) ⌝ }
+{
+    if left < plot.size {
+        return last_count(counts, n, left);
+    }
+    let grown = grow_once(plot, boards, counts, next_boards, next_counts, n, left);
+    match grown {
+        Grown::Boards(m, rest) => last_count(next_counts, m, rest),
+        Grown::Refused(refusal) => Count::Refused(refusal),
+    }
+}
+
+// The count from a layer of n boards on, each of which has left free cells.
+pub fn run(
+    plot: Setup,
+    boards: &mut [u64],
+    counts: &mut [u64],
+    next_boards: &mut [u64],
+    next_counts: &mut [u64],
+    n: usize,
+    left: usize,
+) -> Count
+    requires { ⌜ Tested plot × LayerLent (plot .room) (now boards) (now counts) × LayerLent (plot .room) (now «next_boards») (now «next_counts») × Ready (settingIn plot) left (entriesIn (now boards) (now counts) n) ⌝ }
+    ensures { λ r. ⌜ Right (settingIn plot) (plot .room) left (entriesIn (now (boards .entry)) (now (counts .entry)) n) (countAnswer r) ⌝ }
+{
+    let mut here = n;
+    let mut free = left;
+    // while two more layers can be laid
+    while plot.size <= free / 2 {
+        let grown = grow_twice(plot, boards, counts, next_boards, next_counts, here, free);
+        match grown {
+            Grown::Boards(m, rest) => {
+                here = m;
+                free = rest;
+            }
+            Grown::Refused(refusal) => return Count::Refused(refusal),
+        }
+    }
+    finish(plot, boards, counts, next_boards, next_counts, here, free)
 }

@@ -6,18 +6,18 @@ use cells::list;
 use cells::list::Found;
 use path_count::PathCount;
 use tiles::Tiles;
-ghost use Prim.Native.Nat.{ℕ, _≤_, _<_};
+ghost use Prim.Native.Nat.{ℕ, _*_, _≤_, _<_};
 ghost use lib.Dec.{eqb};
 ghost use lib.ListN.{length};
-ghost use Rattle.cells.specs.Words.{number};
-ghost use Rattle.cells.specs.Arrays.{listOf};
-ghost use Rattle.cells.specs.Lists.{setAt};
+ghost use Rattle.cells.specs.Set.{number};
+ghost use Rattle.cells.specs.Lists.{listOf, setAt};
+ghost use Rattle.tiles.specs.Paths.{pathsIn};
+ghost use Rattle.fit.specs.Parts.{mostChildren};
 ghost use Rattle.board.specs.Board.{boardOf};
 ghost use Rattle.path_count.specs.PathCounts.{countValue, countIn};
-ghost use Rattle.covers.specs.Cuttings.{childBoards};
+ghost use Rattle.covers.specs.Setting.{childBoards};
 ghost use Rattle.covers.specs.GatherLaws.{addPaths};
-ghost use Rattle.expansion.specs.Boards.{From, settingOf};
-ghost use Rattle.expansion.specs.Plots.{Accepted};
+ghost use Rattle.expansion.specs.Boards.{From, settingOf, Accepted};
 ghost use Rattle.layers.specs.Inner.{entriesIn, boardsIn, HoldsLayer, AddsToLayer, LayerLent, addEach, nextOf};
 
 // How many boards a layer has, and whether a path count is too large; no room where there was one
@@ -93,7 +93,7 @@ fn grow_by(
     layer: Layer,
     room: usize,
 ) -> Layer
-    requires { ⌜ Accepted board tiles × From (boardOf board) (setAt (now boards) i) × (8448 ≤ length (now children)) × (boardsIn layer ≤ room) × LayerLent room (now «next_boards») (now «next_counts») ⌝ }
+    requires { ⌜ Accepted board tiles × From (boardOf board) (setAt (now boards) i) × (4 * mostChildren (pathsIn tiles) ≤ length (now children)) × (boardsIn layer ≤ room) × LayerLent room (now «next_boards») (now «next_counts») ⌝ }
     ensures { λ r. ⌜ AddsToLayer room (now («next_boards» .entry)) (now («next_counts» .entry)) layer (now («next_boards» .exit)) (now («next_counts» .exit)) r (addEach (childBoards (settingOf board tiles) (setAt (now (boards .entry)) i)) (countIn (now (counts .entry)) i)) ⌝ }
 {
     let n = expansion::expand(board, tiles, list::get(boards, i), children);
@@ -106,6 +106,41 @@ fn grow_by(
         n,
         path_count::get(counts, i),
     )
+}
+
+// The layer behind a layer of n boards, with words for the children of one board.
+fn grow_all(
+    board: RectangularBoard,
+    tiles: Tiles,
+    boards: &[u64],
+    counts: &[u64],
+    n: usize,
+    next_boards: &mut [u64],
+    next_counts: &mut [u64],
+    children: &mut [u64],
+    room: usize,
+) -> Layer
+    requires { ⌜ Accepted board tiles × ((i : ℕ) → i < n → From (boardOf board) (setAt (now boards) i)) × (4 * mostChildren (pathsIn tiles) ≤ length (now children)) × LayerLent room (now «next_boards») (now «next_counts») ⌝ }
+    ensures { λ r. ⌜ (boardsIn r ≤ room) × HoldsLayer room (now («next_boards» .exit)) (now («next_counts» .exit)) r (nextOf (settingOf board tiles) (entriesIn (now (boards .entry)) (now (counts .entry)) n)) ⌝ }
+{
+    let mut state = Layer::Boards(0, false);
+    let mut i = 0;
+    while i < n {
+        state = grow_by(
+            board,
+            tiles,
+            boards,
+            counts,
+            i,
+            next_boards,
+            next_counts,
+            children,
+            state,
+            room,
+        );
+        i += 1;
+    }
+    state
 }
 
 // The layer behind a layer of n boards.
@@ -123,22 +158,16 @@ pub fn grow(
     ensures { λ r. ⌜ (boardsIn r ≤ room) × HoldsLayer room (now («next_boards» .exit)) (now («next_counts» .exit)) r (nextOf (settingOf board tiles) (entriesIn (now (boards .entry)) (now (counts .entry)) n)) ⌝ }
 {
     let mut children = [0u64; 8448];
-    let mut state = Layer::Boards(0, false);
-    let mut i = 0;
-    while i < n {
-        state = grow_by(
-            board,
-            tiles,
-            boards,
-            counts,
-            i,
-            next_boards,
-            next_counts,
-            &mut children,
-            state,
-            room,
-        );
-        i += 1;
-    }
-    state
+    let end = expansion::child_words(tiles);
+    grow_all(
+        board,
+        tiles,
+        boards,
+        counts,
+        n,
+        next_boards,
+        next_counts,
+        &mut children[..end],
+        room,
+    )
 }

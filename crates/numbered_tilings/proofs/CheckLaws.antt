@@ -9,19 +9,16 @@ use native.Mathlib.Omega.{arith}
 use borrow.Author.Tests.{lt-ltb, le-ltb, le-leb, lt-leb, eq-eqb, ne-eqb}
 use lib.Dec.{eqb, leb}
 use lib.ListN.{length}
-use Rattle.cells.specs.Firsts.{any}
-use Rattle.cells.specs.Arrays.{listFrom, listOf}
+use Rattle.cells.specs.Lists.{any, listFrom, listOf}
 use Rattle.cells.specs.ArrayLaws.{listOf-snoc}
 use Rattle.covers.specs.Counts.{sumOf}
 use Rattle.covers.specs.SumLaws.{sum-append}
 use Rattle.covers.specs.WalkLaws.{share, share-same, share-other, sum-parentsOf}
 use Rattle.path_count.specs.PathCounts.{countLimit, countIn}
 use Rattle.graph.specs.declared.GraphResult.{GraphResult}
-use Rattle.graph.specs.Rooms.{nodeRoom, edgeRoom}
+use Rattle.graph.specs.Graph.{nodeRoom, edgeRoom, edgeAt, completeNode}
 use Rattle.graph.specs.RoomLaws.{edge-room}
-use Rattle.graph.specs.Graph.{edgeAt}
 use Rattle.graph.specs.GraphLaws.{edgesIn-lent}
-use Rattle.graph.specs.Result.{completeNode}
 use Rattle.numbered_tilings.specs.Tilings.{isPast, badEdge, soundCount, badCount, badGraph}
 use Rattle.numbered_tilings.specs.TilingLaws.{sound-later}
 

@@ -13,24 +13,24 @@ use borrow.Author.Tests.{lt-ltb, le-ltb, lt-leb}
 use lib.Dec.{eqb}
 use lib.ListN.{length, getD, set, length-append, length-set}
 use lib.Seq.{getD-append-seam, getD-set-same, getD-set-other}
-use Rattle.cells.specs.Arrays.{listFrom, listOf}
+use Rattle.cells.specs.Lists.{listFrom, listOf, padded}
+use Rattle.cells.specs.Parts.{clearedFrom}
 use Rattle.cells.specs.ArrayLaws.{getD-snoc}
-use Rattle.cells.specs.Lists.{clearedFrom}
 use Rattle.refusal.specs.Refusal.{Answer, refused, given, mapAnswer, valueOr}
 use Rattle.refusal.specs.RefusalLaws.{refused-value}
 use Rattle.refusal.specs.declared.Refusal.{Refusal}
-use Rattle.covers.specs.Counts.{parentsOf, turn, tiling, SumRule, atNode}
+use Rattle.covers.specs.Counts.{parentsOf, turn, nodeListTo, atNode}
+use Rattle.covers.specs.Setting.{SumRule}
 use Rattle.covers.specs.WalkLaws.{share, turn-pass, turn-hit, walk-first, tiling-next, back-in}
 use Rattle.path_count.specs.PathCounts.{countIn}
 use Rattle.graph.specs.declared.GraphResult.{GraphResult}
 use Rattle.numbered_tilings.specs.declared.Tiling.{Tiling}
 use Rattle.numbered_tilings.specs.declared.Tiling.the-variants as T
 use Rattle.graph.specs.RoomLaws.{edge-room}
-use Rattle.graph.specs.Graph.{edgeAt, edgesIn, numbersFor}
+use Rattle.graph.specs.Graph.{edgeAt, edgesIn, completeNode, countFromGraph}
 use Rattle.graph.specs.GraphLaws.{edgesIn-lent, cleared-numbers}
-use Rattle.graph.specs.Result.{completeNode, countFromGraph}
 use Rattle.numbered_tilings.specs.Inner.{walked, Walkable}
-use Rattle.numbered_tilings.specs.Tilings.{badGraph, nodeList, tilingByNumber, tilingAnswer, GivesTiling, GivesChain}
+use Rattle.numbered_tilings.specs.Tilings.{badGraph, nodeListIn, tilingByNumber, tilingAnswer, GivesTiling, GivesChain}
 use Rattle.numbered_tilings.specs.TilingLaws.{SoundGraph, not-bad-sound, tiling-given, told-tiling, given-chain}
 
 -- ---- the turn among the edges from i on, of n
@@ -86,7 +86,7 @@ module _ (es : List (ℕ × ℕ)) (count : ℕ → ℕ) where
   pub record Back (v m p left : ℕ) : Type 0 where
     pub lower : p < v
     pub below : left < count p
-    pub list : tiling es count v m ≡ tiling es count p left ++ v ∷ []
+    pub list : nodeListTo es count v m ≡ nodeListTo es count p left ++ v ∷ []
 
   module _ (n : ℕ) where
     -- at node v with the number `left` so many nodes are counted, v among them
@@ -94,21 +94,21 @@ module _ (es : List (ℕ × ℕ)) (count : ℕ → ℕ) where
       pub node : v < n
       pub below : left < count v
       pub few : size + v ≤ last + 1
-      pub long : length (tiling es count last m) + 1 ≡ size + length (tiling es count v left)
+      pub long : length (nodeListTo es count last m) + 1 ≡ size + length (nodeListTo es count v left)
 
     -- there the nodes behind v, which is to stand at the place `at`, are written
     pub record Backfilled (last m size : ℕ) (old : List ℕ) (v left at : ℕ) (out : List ℕ) : Type 0 where
       pub node : v < n
       pub below : left < count v
-      pub place : at + 1 ≡ length (tiling es count v left)
+      pub place : at + 1 ≡ length (nodeListTo es count v left)
       pub within : at < size
-      pub front : (k : ℕ) → k ≤ at → getD (tiling es count last m) k 0 ≡ getD (tiling es count v left) k 0
-      pub behind : (k : ℕ) → at < k → k < size → getD out k 0 ≡ getD (tiling es count last m) k 0
+      pub front : (k : ℕ) → k ≤ at → getD (nodeListTo es count last m) k 0 ≡ getD (nodeListTo es count v left) k 0
+      pub behind : (k : ℕ) → at < k → k < size → getD out k 0 ≡ getD (nodeListTo es count last m) k 0
       pub long : length out ≡ length old
 
 module _ (n : ℕ) (es : List (ℕ × ℕ)) (count : ℕ → ℕ) (S : SumRule n es count) where
-  tiling-first : (v m : ℕ) → v ≤ 0 → tiling es count v m ≡ 0 ∷ []
-  unfolding tiling
+  tiling-first : (v m : ℕ) → v ≤ 0 → nodeListTo es count v m ≡ 0 ∷ []
+  unfolding nodeListTo
   tiling-first v m h = let e : v ≡ 0 = omega arith in rw e (walk-first es count 0 m)
 
   pub steps-back : (v m p left : ℕ) → 0 < v → v < n → m < count v → (p, left) ≡ turn count (parentsOf es v) m → Back es count v m p left
@@ -117,11 +117,11 @@ module _ (n : ℕ) (es : List (ℕ × ℕ)) (count : ℕ → ℕ) (S : SumRule n
       subst (λ (t : ℕ × ℕ). Back es count (suc v) m (t .0) (t .1)) (sym e)
       (let r = back-in n es count S v m l h in record { lower = r .0; below = r .1; list = tiling-next n es count S v m l h })
 
-  back-long : (v m p left : ℕ) → Back es count v m p left → length (tiling es count v m) ≡ length (tiling es count p left) + 1
-  back-long v m p left b = ap length (b .list) ∙ length-append (tiling es count p left) (v ∷ [])
+  back-long : (v m p left : ℕ) → Back es count v m p left → length (nodeListTo es count v m) ≡ length (nodeListTo es count p left) + 1
+  back-long v m p left b = ap length (b .list) ∙ length-append (nodeListTo es count p left) (v ∷ [])
 
   -- a list has a node
-  pub tiling-some : (v m : ℕ) → v < n → m < count v → 0 < length (tiling es count v m)
+  pub tiling-some : (v m : ℕ) → v < n → m < count v → 0 < length (nodeListTo es count v m)
   tiling-some zero m l h = omega (arith, ap length (tiling-first 0 m (omega arith)))
   tiling-some (suc v) m l h = omega (arith, back-long (suc v) m _ _ (steps-back (suc v) m _ _ (omega arith) l h refl))
 
@@ -139,11 +139,11 @@ module _ (n : ℕ) (es : List (ℕ × ℕ)) (count : ℕ → ℕ) (S : SumRule n
             long = omega (arith, h .long, back-long v left p rest b);
           }
 
-      pub measured-end : v ≤ 0 → size ≡ length (tiling es count last m)
+      pub measured-end : v ≤ 0 → size ≡ length (nodeListTo es count last m)
       measured-end z = omega (arith, h .long, ap length (tiling-first v left z))
 
     module _ (size : ℕ) (old : List ℕ) (room : size ≤ length old) where
-      pub backfilled-start : last < n → m < count last → size ≡ length (tiling es count last m)
+      pub backfilled-start : last < n → m < count last → size ≡ length (nodeListTo es count last m)
           → Backfilled es count n last m size old last m (size - 1) old
       backfilled-start l h e =
           let o = tiling-some last m l h in
@@ -163,7 +163,7 @@ module _ (n : ℕ) (es : List (ℕ × ℕ)) (count : ℕ → ℕ) (S : SumRule n
         place-lent = omega (arith, h .within, h .long)
 
         module _ (p rest : ℕ) (b : Back es count v left p rest) where
-          end : at ≡ length (tiling es count p rest)
+          end : at ≡ length (nodeListTo es count p rest)
           end = omega (arith, h .place, back-long v left p rest b)
 
           -- and is not the first
@@ -178,32 +178,32 @@ module _ (n : ℕ) (es : List (ℕ × ℕ)) (count : ℕ → ℕ) (S : SumRule n
                 place = omega (arith, end, place-later);
                 within = omega (arith, h .within);
                 front = λ k i. h .front k (omega arith) ∙ ap (λ (ns : List ℕ). getD ns k 0) (b .list)
-                    ∙ getD-snoc (tiling es count p rest) v 0 k (λ q. omega (arith, end, place-later));
+                    ∙ getD-snoc (nodeListTo es count p rest) v 0 k (λ q. omega (arith, end, place-later));
                 behind = λ k i j. behind k i j (ℕ-discrete k at);
                 long = length-set out at v ∙ h .long;
               }
             where
-              behind : (k : ℕ) → at - 1 < k → k < size → Dec (k ≡ at) → getD (set out at v) k 0 ≡ getD (tiling es count last m) k 0
+              behind : (k : ℕ) → at - 1 < k → k < size → Dec (k ≡ at) → getD (set out at v) k 0 ≡ getD (nodeListTo es count last m) k 0
               behind k i j (yes q) =
                   ap (λ (x : ℕ). getD (set out at v) x 0) q
                   ∙ getD-set-same out at v 0 place-lent
                   ∙ sym
                   (h .front k (omega arith)
                   ∙ ap (λ (ns : List ℕ). getD ns k 0) (b .list)
-                  ∙ ap (λ (x : ℕ). getD (tiling es count p rest ++ v ∷ []) x 0) (q ∙ end)
-                  ∙ getD-append-seam (tiling es count p rest) v [] 0)
+                  ∙ ap (λ (x : ℕ). getD (nodeListTo es count p rest ++ v ∷ []) x 0) (q ∙ end)
+                  ∙ getD-append-seam (nodeListTo es count p rest) v [] 0)
               behind k i j (no q) = getD-set-other out at k v 0 q ∙ h .behind k (omega arith) j
 
-        pub backfilled-end : v ≤ 0 → (k : ℕ) → k < size → getD (set out at 0) k 0 ≡ getD (tiling es count last m) k 0
+        pub backfilled-end : v ≤ 0 → (k : ℕ) → k < size → getD (set out at 0) k 0 ≡ getD (nodeListTo es count last m) k 0
         backfilled-end z k l = go (ℕ-discrete k at)
           where
-            first : tiling es count v left ≡ 0 ∷ []
+            first : nodeListTo es count v left ≡ 0 ∷ []
             first = tiling-first v left z
 
             none : k ≡ at → k ≡ 0
             none q = omega (arith, h .place, ap length first)
 
-            go : Dec (k ≡ at) → getD (set out at 0) k 0 ≡ getD (tiling es count last m) k 0
+            go : Dec (k ≡ at) → getD (set out at 0) k 0 ≡ getD (nodeListTo es count last m) k 0
             go (yes q) =
                 ap (λ (x : ℕ). getD (set out at 0) x 0) q
                 ∙ getD-set-same out at 0 0 place-lent
@@ -252,12 +252,12 @@ module _ (r : GraphResult) (nodeWords : ℕ) (counts edges : List ℕ) (m : ℕ)
             let f = at-full full refl (subst (λ (k : ℕ). m < k) t h) in
             (edges-lent, subst (λ (es : List (ℕ × ℕ)). SumRule (r .nodes) es (countIn counts)) edges-all (sound-graph .sums), rw e (f .0), rw e (f .1))
 
-        list-walked : nodeList r counts edges m ≡ walked counts edges (r .edges) last m
-        unfolding nodeList
+        list-walked : nodeListIn r counts edges m ≡ walked counts edges (r .edges) last m
+        unfolding nodeListIn
         list-walked = rw (edges-all, e)
 
         module _ (room size : ℕ) (s : size ≡ length (walked counts edges (r .edges) last m)) where
-          long : size ≡ length (nodeList r counts edges m)
+          long : size ≡ length (nodeListIn r counts edges m)
           long = s ∙ sym (ap length list-walked)
 
           pub answers-short : room < size → refused 8 ≡ answer room
@@ -266,28 +266,33 @@ module _ (r : GraphResult) (nodeWords : ℕ) (counts edges : List ℕ) (m : ℕ)
               rw (
                 sound,
                 lt-ltb m (countFromGraph full counts) (omega (arith, t)),
-                lt-leb (length (nodeList r counts edges m)) room (omega (arith, long)),
+                lt-leb (length (nodeListIn r counts edges m)) room (omega (arith, long)),
               )
 
           pub answers-given : size ≤ room → given size ≡ answer room
           unfolding mapAnswer
           answers-given q = ap given long ∙ sym (ap (mapAnswer length) (tiling-given r nodeWords counts edges m room sound (omega (arith, t)) (omega (arith, long))))
 
+-- what the list is follows from the answer and the words
+with-chain : (r : GraphResult) (nodes counts edges : List ℕ) (m : ℕ) (out out′ : List ℕ) (t : Tiling) → GivesTiling r nodes counts edges m out out′ t
+    → GivesTiling r nodes counts edges m out out′ t × GivesChain r edges out′ t
+with-chain r nodes counts edges m out out′ t g = (g, given-chain r nodes counts edges m out out′ t g)
+
 -- ---- `tiling_by_number`: so many nodes are told, or a refusal
 
 module _ (r : GraphResult) (nodes counts edges : List ℕ) (m : ℕ) (old : List ℕ) (t : Tiling)
     (told : tilingAnswer t ≡ answer r (length nodes) counts edges m (length old)) where
-  pub gives-none : (q : Refusal) → t ≡ T.Refused q → (new : List ℕ) → new ≡ clearedFrom 0 old → GivesTiling r nodes counts edges m old new t
+  pub gives-none : (q : Refusal) → t ≡ T.Refused q → (new : List ℕ) → new ≡ clearedFrom 0 old → GivesTiling r nodes counts edges m old new t × GivesChain r edges new t
   gives-none q e new f =
       let none = refused-value length (tilingByNumber r (length nodes) counts edges m (length old)) _ [] (sym (ap tilingAnswer e) ∙ told) in
-      record { answer = told; words = rw none (f ∙ cleared-numbers old [] (omega arith) (λ k a. absurd (omega arith))) }
+      with-chain r nodes counts edges m old new t record { answer = told; words = rw none (f ∙ cleared-numbers old [] (omega arith) (λ k a. absurd (omega arith))) }
 
   module _ (size : ℕ) (e : t ≡ T.Length size) where
     tests : (badGraph r (length nodes) counts edges ≡ false) × (m < countFromGraph (completeNode (r .complete)) counts)
-        × (length (nodeList r counts edges m) ≤ length old) × (length (nodeList r counts edges m) ≡ size)
+        × (length (nodeListIn r counts edges m) ≤ length old) × (length (nodeListIn r counts edges m) ≡ size)
     tests = told-tiling r (length nodes) counts edges m (length old) size (sym told ∙ ap tilingAnswer e)
 
-    value : valueOr [] (tilingByNumber r (length nodes) counts edges m (length old)) ≡ nodeList r counts edges m
+    value : valueOr [] (tilingByNumber r (length nodes) counts edges m (length old)) ≡ nodeListIn r counts edges m
     unfolding valueOr
     value = ap (valueOr []) (tiling-given r (length nodes) counts edges m (length old) (tests .0) (tests .1) (tests .2))
 
@@ -295,7 +300,7 @@ module _ (r : GraphResult) (nodes counts edges : List ℕ) (m : ℕ) (old : List
       abbrev list : List ℕ
       list = walked counts edges (r .edges) last m
 
-      told-list : nodeList r counts edges m ≡ list
+      told-list : nodeListIn r counts edges m ≡ list
       told-list = list-walked r (length nodes) counts edges m (tests .0) _ refl (tests .1) last f
 
       told-long : size ≡ length list
@@ -309,19 +314,14 @@ module _ (r : GraphResult) (nodes counts edges : List ℕ) (m : ℕ) (old : List
       told-writable = (walkable r (length nodes) counts edges m (tests .0) _ refl (tests .1) last f, told-long, told-room)
 
       pub gives-list : (mid new : List ℕ) → length mid ≡ length old → ((k : ℕ) → k < size → getD mid k 0 ≡ getD list k 0)
-          → new ≡ clearedFrom size mid → GivesTiling r nodes counts edges m old new (T.Length size)
+          → new ≡ clearedFrom size mid → GivesTiling r nodes counts edges m old new (T.Length size) × GivesChain r edges new (T.Length size)
       gives-list mid new l h g =
-          record {
+          with-chain r nodes counts edges m old new (T.Length size) record {
             answer = sym (ap tilingAnswer e) ∙ told;
             words =
                 g
                 ∙ ap (λ (k : ℕ). clearedFrom k mid) told-long
                 ∙ cleared-numbers mid list (omega (arith, told-long, told-room, l)) (λ k a. h k (omega (arith, told-long)))
-                ∙ ap (numbersFor list) l
-                ∙ ap (λ (ns : List ℕ). numbersFor ns (length old)) (sym (value ∙ told-list));
+                ∙ ap (padded list) l
+                ∙ ap (λ (ns : List ℕ). padded ns (length old)) (sym (value ∙ told-list));
           }
-
--- and what the list is follows
-pub with-chain : (r : GraphResult) (nodes counts edges : List ℕ) (m : ℕ) (out out′ : List ℕ) (t : Tiling) → GivesTiling r nodes counts edges m out out′ t
-    → GivesTiling r nodes counts edges m out out′ t × GivesChain r edges out′ t
-with-chain r nodes counts edges m out out′ t g = (g, given-chain r nodes counts edges m out out′ t g)

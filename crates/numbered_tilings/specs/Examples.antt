@@ -1,14 +1,20 @@
 -- Examples of the tiling by number, by computation.
-use mathlib.Core.Path.{_≡_, refl}
-use mathlib.Core.List.{List, [], _∷_, _++_, flatMap}
+use mathlib.Core.Path.{_≡_, refl, subst}
+use mathlib.Core.List.{List, [], _∷_, _++_, flatMap, List·Memᴰ as Mem, List·Memᴰ·head as here, List·Memᴰ·tail as there}
+use mathlib.Core.Option.{some}
 use Prim.Native.Nat.{ℕ, suc, _-_, _^_}
-use lib.ListN.{replicate}
-use Rattle.cells.specs.Arrays.{listOf}
-use Rattle.refusal.specs.Refusal.{Answer, refused, given}
+use lib.ListN.{replicate, take}
+use Rattle.cells.specs.Lists.{listOf, padded}
+use Rattle.refusal.specs.Refusal.{Answer, refused, given, mapAnswer, valueOr}
+use Rattle.refusal.specs.RefusalLaws.{given-inj}
+use Rattle.refusal.specs.declared.Refusal.the-variants as R
+use Rattle.covers.specs.Counts.{Chain}
+use Rattle.graph.specs.Graph.{edgesIn}
 use Rattle.graph.specs.declared.Complete.{Complete}
 use Rattle.graph.specs.declared.Complete.the-variants as N
 use Rattle.graph.specs.declared.GraphResult.{GraphResult}
-use Rattle.numbered_tilings.specs.Tilings.{tilingByNumber}
+use Rattle.numbered_tilings.specs.Tilings.{tilingByNumber, GivesTiling, GivesChain}
+use Rattle.numbered_tilings.specs.declared.Tiling.the-variants as T
 
 -- ---- 01's worked example, 2 by 2 dominoes, `graph 2 nodes 4 edges 4`
 
@@ -41,6 +47,22 @@ no-such-tiling = (refl, refl, refl)
 no-full-node : tilingByNumber (record { nodes = 4; edges = 4; complete = N.Nothing }) 16 resultCounts resultEdges 0 3 ≡ refused 12
 unfolding tilingByNumber
 no-full-node = refl
+
+-- what `tiling_by_number` leaves in words that held 7: the list, zeros behind; after refusal 8 zeros. The node words are 16, whatever they hold
+left : GivesTiling result (replicate 16 9) resultCounts resultEdges 1 (7 ∷ 7 ∷ 7 ∷ 7 ∷ []) (0 ∷ 2 ∷ 3 ∷ 0 ∷ []) (T.Length 3)
+unfolding tilingByNumber mapAnswer valueOr padded
+left = record { answer = refl; words = refl }
+
+left-refused : GivesTiling result (replicate 16 9) resultCounts resultEdges 1 (7 ∷ 7 ∷ []) (0 ∷ 0 ∷ []) (T.Refused R.NoRoom)
+unfolding tilingByNumber mapAnswer valueOr padded
+left-refused = record { answer = refl; words = refl }
+
+-- where a list is given, it is a chain of stored edges from node 0 to the full node: here by the last of four edges
+left-chain : GivesChain (record { nodes = 3; edges = 4; complete = N.Node 2 }) (0 ∷ 1 ∷ 0 ∷ 1 ∷ 0 ∷ 1 ∷ 0 ∷ 2 ∷ []) (0 ∷ 2 ∷ 0 ∷ []) (T.Length 2)
+unfolding edgesIn
+left-chain k e =
+    subst (λ (n : ℕ). (v : ℕ) × (some 2 ≡ some v) × Chain (λ p c. Mem (p, c) (edgesIn (0 ∷ 1 ∷ 0 ∷ 1 ∷ 0 ∷ 1 ∷ 0 ∷ 2 ∷ []) 4)) 0 v (take n (0 ∷ 2 ∷ 0 ∷ []))) (given-inj 2 k e)
+    (2, refl, (refl, (there (there (there (here refl))), refl)))
 
 -- the causes of 11, each alone. 11 comes before 12 and 8: m is 9, and the output has no words
 unfoldable badGiven : ℕ → ℕ → Complete → ℕ → List ℕ → List ℕ → Answer (List ℕ)
@@ -75,6 +97,11 @@ largest-sum : tilingByNumber (record { nodes = 64; edges = 126; complete = N.Nod
     ≡ given (listOf (λ k. k) 64)
 unfolding tilingByNumber doubled
 largest-sum = refl
+
+-- words behind the edges and the nodes that the result tells are not looked at: here an edge that is none, and a count
+words-left-over : tilingByNumber (record { nodes = 2; edges = 1; complete = N.Node 1 }) 12 (1 ∷ 1 ∷ 9 ∷ []) (0 ∷ 1 ∷ 5 ∷ 5 ∷ []) 0 2 ≡ given (0 ∷ 1 ∷ [])
+unfolding tilingByNumber
+words-left-over = refl
 
 -- a full node 0: its list is node 0 alone
 full-node-0 : tilingByNumber (record { nodes = 1; edges = 0; complete = N.Node 0 }) 4 (1 ∷ []) [] 0 1 ≡ given (0 ∷ [])

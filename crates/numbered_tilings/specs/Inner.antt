@@ -2,14 +2,15 @@
 use mathlib.Core.List.{List}
 use Prim.Native.Nat.{ℕ, _*_, _≤_, _<_}
 use lib.ListN.{length}
-use Rattle.cells.specs.Arrays.{listOf}
-use Rattle.covers.specs.Counts.{tiling, SumRule}
+use Rattle.cells.specs.Lists.{listOf}
+use Rattle.covers.specs.Counts.{nodeListTo}
+use Rattle.covers.specs.Setting.{SumRule}
 use Rattle.path_count.specs.PathCounts.{countIn}
 use Rattle.graph.specs.Graph.{edgeAt}
 
 -- the list that is walked from the node `last` with the number m, over so many edges of the words
 abbrev pub walked : List ℕ → List ℕ → ℕ → ℕ → ℕ → List ℕ
-walked counts edges count last m = tiling (listOf (edgeAt edges) count) (countIn counts) last m
+walked counts edges count last m = nodeListTo (listOf (edgeAt edges) count) (countIn counts) last m
 
 -- what is asked for a walk, of count words and edge words, so many edges and nodes, a node and a number
 abbrev pub Walkable : List ℕ → List ℕ → ℕ → ℕ → ℕ → ℕ → Type 0

@@ -12,24 +12,22 @@ use borrow.Author.Tests.{leb-true, leb-false, lt-leb, le-leb, ltb-true, ltb-fals
 use lib.Dec.{eqb, ltb, leb}
 use lib.Pow.{pow-pos}
 use lib.ListN.{length, take}
-use Rattle.cells.specs.Words.{Small}
-use Rattle.cells.specs.Firsts.{any}
+use Rattle.cells.specs.WordLaws.{Small}
+use Rattle.cells.specs.Lists.{any, listOf, padded}
 use Rattle.cells.specs.FirstsLaws.{any-true, any-some}
-use Rattle.cells.specs.Arrays.{listOf}
 use Rattle.cells.specs.MemberLaws.{mem-listOf}
 use Rattle.refusal.specs.Refusal.{Answer, refused, given, mapAnswer, valueOr}
 use Rattle.refusal.specs.RefusalLaws.{refused-given, given-inj}
-use Rattle.covers.specs.Counts.{SumRule, Chain, sumOf, parentsOf, tiling, atNode}
+use Rattle.covers.specs.Setting.{SumRule}
+use Rattle.covers.specs.Counts.{Chain, sumOf, parentsOf, nodeListTo, atNode}
 use Rattle.covers.specs.WalkLaws.{tiling-chain}
 use Rattle.path_count.specs.PathCounts.{countLimit, countIn}
 use Rattle.path_count.specs.PathCountLaws.{countIn-small}
 use Rattle.graph.specs.declared.GraphResult.{GraphResult}
-use Rattle.graph.specs.Rooms.{nodeRoom, edgeRoom}
-use Rattle.graph.specs.Graph.{edgesIn, numbersFor}
-use Rattle.graph.specs.GraphLaws.{take-numbersFor}
-use Rattle.graph.specs.Result.{completeNode, countFromGraph}
+use Rattle.graph.specs.Graph.{nodeRoom, edgeRoom, edgesIn, completeNode, countFromGraph}
+use Rattle.graph.specs.GraphLaws.{take-padded}
 use Rattle.numbered_tilings.specs.declared.Tiling.{Tiling}
-use Rattle.numbered_tilings.specs.Tilings.{isPast, badEdge, soundCount, badCount, badGraph, nodeList, tilingByNumber, tilingAnswer, GivesTiling, GivesChain}
+use Rattle.numbered_tilings.specs.Tilings.{isPast, badEdge, soundCount, badCount, badGraph, nodeListIn, tilingByNumber, tilingAnswer, GivesTiling, GivesChain}
 
 -- none of the causes of refusal 11 stands
 pub record SoundGraph (r : GraphResult) (nodeWords : ℕ) (counts edges : List ℕ) : Type 0 where
@@ -166,10 +164,10 @@ module _ (r : GraphResult) (nodeWords : ℕ) (counts edges : List ℕ) where
 module _ (r : GraphResult) (nodeWords : ℕ) (counts edges : List ℕ) (m room : ℕ) where
   -- where no cause of refusal stands, the node list is given
   pub tiling-given : badGraph r nodeWords counts edges ≡ false → m < countFromGraph (completeNode (r .complete)) counts
-      → length (nodeList r counts edges m) ≤ room → tilingByNumber r nodeWords counts edges m room ≡ given (nodeList r counts edges m)
+      → length (nodeListIn r counts edges m) ≤ room → tilingByNumber r nodeWords counts edges m room ≡ given (nodeListIn r counts edges m)
   unfolding tilingByNumber
   tiling-given sound below long =
-      rw (sound, lt-ltb m (countFromGraph (completeNode (r .complete)) counts) below, le-leb (length (nodeList r counts edges m)) room long)
+      rw (sound, lt-ltb m (countFromGraph (completeNode (r .complete)) counts) below, le-leb (length (nodeListIn r counts edges m)) room long)
 
   -- m is not below the graph count: it is refused, by 11 or 12
   pub tiling-none : countFromGraph (completeNode (r .complete)) counts ≤ m
@@ -180,21 +178,21 @@ module _ (r : GraphResult) (nodeWords : ℕ) (counts edges : List ℕ) (m room :
   -- and only there is a length told
   pub told-tiling : (size : ℕ) → mapAnswer length (tilingByNumber r nodeWords counts edges m room) ≡ given size
       → (badGraph r nodeWords counts edges ≡ false) × (m < countFromGraph (completeNode (r .complete)) counts)
-      × (length (nodeList r counts edges m) ≤ room) × (length (nodeList r counts edges m) ≡ size)
+      × (length (nodeListIn r counts edges m) ≤ room) × (length (nodeListIn r counts edges m) ≡ size)
   unfolding tilingByNumber mapAnswer
   told-tiling size e =
-      go (badGraph r nodeWords counts edges) refl (ltb m (countFromGraph (completeNode (r .complete)) counts)) refl (leb (length (nodeList r counts edges m)) room) refl e
+      go (badGraph r nodeWords counts edges) refl (ltb m (countFromGraph (completeNode (r .complete)) counts)) refl (leb (length (nodeListIn r counts edges m)) room) refl e
     where
       go : (s : Bool) → badGraph r nodeWords counts edges ≡ s → (t : Bool) → ltb m (countFromGraph (completeNode (r .complete)) counts) ≡ t
-          → (u : Bool) → leb (length (nodeList r counts edges m)) room ≡ u
-          → mapAnswer length (cond s (refused 11) (cond t (cond u (given (nodeList r counts edges m)) (refused 8)) (refused 12))) ≡ given size
+          → (u : Bool) → leb (length (nodeListIn r counts edges m)) room ≡ u
+          → mapAnswer length (cond s (refused 11) (cond t (cond u (given (nodeListIn r counts edges m)) (refused 8)) (refused 12))) ≡ given size
           → (badGraph r nodeWords counts edges ≡ false) × (m < countFromGraph (completeNode (r .complete)) counts)
-          × (length (nodeList r counts edges m) ≤ room) × (length (nodeList r counts edges m) ≡ size)
+          × (length (nodeListIn r counts edges m) ≤ room) × (length (nodeListIn r counts edges m) ≡ size)
       go true p t q u w h = absurd (refused-given 11 size h)
       go false p false q u w h = absurd (refused-given 12 size h)
       go false p true q false w h = absurd (refused-given 8 size h)
       go false p true q true w h =
-          (p, ltb-true m (countFromGraph (completeNode (r .complete)) counts) q, leb-true (length (nodeList r counts edges m)) room w, given-inj (length (nodeList r counts edges m)) size h)
+          (p, ltb-true m (countFromGraph (completeNode (r .complete)) counts) q, leb-true (length (nodeListIn r counts edges m)) room w, given-inj (length (nodeListIn r counts edges m)) size h)
 
 -- a graph count is below the limit
 pub graph-count-fits : (complete : Option ℕ) (counts : List ℕ) → Small counts → countFromGraph complete counts < countLimit
@@ -216,20 +214,20 @@ number-capped r nodeWords counts edges m room small = go (decLt m countLimit)
 -- the list is read from the output
 pub list-read : (r : GraphResult) (nodes counts edges : List ℕ) (m : ℕ) (out out′ : List ℕ) (t : Tiling) → GivesTiling r nodes counts edges m out out′ t
     → badGraph r (length nodes) counts edges ≡ false → m < countFromGraph (completeNode (r .complete)) counts
-    → length (nodeList r counts edges m) ≤ length out
-    → (tilingAnswer t ≡ given (length (nodeList r counts edges m))) × (take (length (nodeList r counts edges m)) out′ ≡ nodeList r counts edges m)
+    → length (nodeListIn r counts edges m) ≤ length out
+    → (tilingAnswer t ≡ given (length (nodeListIn r counts edges m))) × (take (length (nodeListIn r counts edges m)) out′ ≡ nodeListIn r counts edges m)
 unfolding mapAnswer valueOr
 list-read r nodes counts edges m out out′ t g sound below long =
     let e = tiling-given r (length nodes) counts edges m (length out) sound below long in (
       g .answer ∙ ap (mapAnswer length) e,
-      ap (take (length (nodeList r counts edges m))) (g .words ∙ ap (λ (a : Answer (List ℕ)). numbersFor (valueOr [] a) (length out)) e)
-          ∙ take-numbersFor (nodeList r counts edges m) (length out) long,
+      ap (take (length (nodeListIn r counts edges m))) (g .words ∙ ap (λ (a : Answer (List ℕ)). padded (valueOr [] a) (length out)) e)
+          ∙ take-padded (nodeListIn r counts edges m) (length out) long,
     )
 
 -- where a list is given, it is a chain of stored edges from node 0 to the full node
 pub given-chain : (r : GraphResult) (nodes counts edges : List ℕ) (m : ℕ) (out out′ : List ℕ) (t : Tiling) → GivesTiling r nodes counts edges m out out′ t
     → GivesChain r edges out′ t
-unfolding mapAnswer countFromGraph atNode nodeList
+unfolding mapAnswer countFromGraph atNode nodeListIn
 given-chain r nodes counts edges m out out′ t g k e =
     let w = told-tiling r (length nodes) counts edges m (length out) k (sym (g .answer) ∙ e) in
     let list = list-read r nodes counts edges m out out′ t g (w .0) (w .1) (w .2) in
@@ -237,11 +235,11 @@ given-chain r nodes counts edges m out out′ t g k e =
     (c .0, c .1, subst (Chain (λ p c. Mem (p, c) (edgesIn edges (r .edges))) 0 (c .0)) (sym (ap (λ (n : ℕ). take n out′) (sym (w .3)) ∙ list .1)) (c .2))
   where
     chain : (o : Option ℕ) → completeNode (r .complete) ≡ o → SoundGraph r (length nodes) counts edges → m < atNode (countIn counts) o
-        → (v : ℕ) × (completeNode (r .complete) ≡ some v) × Chain (λ p c. Mem (p, c) (edgesIn edges (r .edges))) 0 v (nodeList r counts edges m)
+        → (v : ℕ) × (completeNode (r .complete) ≡ some v) × Chain (λ p c. Mem (p, c) (edgesIn edges (r .edges))) 0 v (nodeListIn r counts edges m)
     chain none q S l = absurd (omega arith)
     chain (some v) q S l = (
       v,
       q,
-      subst (λ (o : Option ℕ). Chain (λ p c. Mem (p, c) (edgesIn edges (r .edges))) 0 v (tiling (edgesIn edges (r .edges)) (countIn counts) (atNode (λ v. v) o) m)) (sym q)
+      subst (λ (o : Option ℕ). Chain (λ p c. Mem (p, c) (edgesIn edges (r .edges))) 0 v (nodeListTo (edgesIn edges (r .edges)) (countIn counts) (atNode (λ v. v) o) m)) (sym q)
           (tiling-chain (r .nodes) (edgesIn edges (r .edges)) (countIn counts) (S .sums) v m (S .fullBelow v q) l),
     )

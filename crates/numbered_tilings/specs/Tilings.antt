@@ -1,21 +1,18 @@
 -- Definitions: the tiling by number of any graph words and any result. What stands in quotation marks is 01's, from its section Tiling by number; the
--- walk itself is `tiling` of covers' `Counts`. Assumes nothing.
+-- walk itself is `nodeListTo` of covers' `Counts`. Assumes nothing.
 use mathlib.Core.Path.{_≡_}
 use mathlib.Core.Bool.{Bool, false, not, cond, _||_}
-use mathlib.Core.List.{List, [], List·Memᴰ as Mem}
+use mathlib.Core.List.{List, List·Memᴰ as Mem}
 use mathlib.Core.Option.{Option, none, some}
 use Prim.Native.Nat.{ℕ, zero, suc}
 use lib.Dec.{eqb, ltb, leb}
 use lib.ListN.{length, take}
-use Rattle.cells.specs.Firsts.{any}
-use Rattle.cells.specs.Arrays.{listOf}
-use Rattle.refusal.specs.Refusal.{Answer, refused, given, mapAnswer, refusalNumber, valueOr}
-use Rattle.covers.specs.Counts.{Chain, sumOf, parentsOf, tiling, atNode, nodeListTo}
+use Rattle.cells.specs.Lists.{any, listOf, padded}
+use Rattle.refusal.specs.Refusal.{Answer, refused, given, refusalNumber, Leaves}
+use Rattle.covers.specs.Counts.{Chain, sumOf, parentsOf, nodeListTo, atNode, nodeList}
 use Rattle.path_count.specs.PathCounts.{countIn}
 use Rattle.graph.specs.declared.GraphResult.{GraphResult}
-use Rattle.graph.specs.Rooms.{nodeRoom, edgeRoom}
-use Rattle.graph.specs.Graph.{edgesIn, numbersFor}
-use Rattle.graph.specs.Result.{completeNode, countFromGraph}
+use Rattle.graph.specs.Graph.{nodeRoom, edgeRoom, edgesIn, completeNode, countFromGraph}
 use Rattle.numbered_tilings.specs.declared.Tiling.{Tiling}
 use Rattle.numbered_tilings.specs.declared.Tiling.the-variants as T
 
@@ -56,28 +53,28 @@ badGraph r nodeWords counts edges =
 -- ---- the tiling
 
 -- "the node list from 0 on" with the number m, of the edges and the counts in lent words and the full node of a result
-unfoldable pub nodeList : GraphResult → List ℕ → List ℕ → ℕ → List ℕ
-unfolding tiling edgesIn atNode countIn
-nodeList r counts edges m = nodeListTo (edgesIn edges (r .edges)) (countIn counts) (completeNode (r .complete)) m
+unfoldable pub nodeListIn : GraphResult → List ℕ → List ℕ → ℕ → List ℕ
+unfolding nodeListTo edgesIn atNode countIn
+nodeListIn r counts edges m = nodeList (edgesIn edges (r .edges)) (countIn counts) (completeNode (r .complete)) m
 
 -- the node list with the number m, for an output of so many words: refusal 11; "12, no full node" (the graph count is then 0) "or m not below its
 -- count; 8, output shorter than the list"
 unfoldable pub tilingByNumber : GraphResult → ℕ → List ℕ → List ℕ → ℕ → ℕ → Answer (List ℕ)
-unfolding badGraph countFromGraph nodeList
+unfolding badGraph countFromGraph nodeListIn
 tilingByNumber r nodeWords counts edges m room =
     cond (badGraph r nodeWords counts edges) (refused 11)
     (cond (ltb m (countFromGraph (completeNode (r .complete)) counts))
-    (cond (leb (length (nodeList r counts edges m)) room) (given (nodeList r counts edges m)) (refused 8))
+    (cond (leb (length (nodeListIn r counts edges m)) room) (given (nodeListIn r counts edges m)) (refused 8))
     (refused 12))
 
+-- what `tiling_by_number` answers: the length of the list, or a refusal
 abbrev pub tilingAnswer : Tiling → Answer ℕ
 tilingAnswer (T.Length n) = given n
 tilingAnswer (T.Refused r) = refused (refusalNumber r)
 
 -- `tiling_by_number`: the list's length comes back; the output holds the list, "one word a node", zeros behind, or zeros after a refusal
-pub record GivesTiling (r : GraphResult) (nodes counts edges : List ℕ) (m : ℕ) (out out′ : List ℕ) (t : Tiling) : Type 0 where
-  pub answer : tilingAnswer t ≡ mapAnswer length (tilingByNumber r (length nodes) counts edges m (length out))
-  pub words : out′ ≡ numbersFor (valueOr [] (tilingByNumber r (length nodes) counts edges m (length out))) (length out)
+abbrev pub GivesTiling : GraphResult → List ℕ → List ℕ → List ℕ → ℕ → List ℕ → List ℕ → Tiling → Type 0
+GivesTiling r nodes counts edges m out out′ t = Leaves padded (tilingByNumber r (length nodes) counts edges m (length out)) (tilingAnswer t) out out′
 
 -- what the list is, where one is given: each node a child of the one before over a stored edge, from node 0 to the full node
 abbrev pub GivesChain : GraphResult → List ℕ → List ℕ → Tiling → Type 0

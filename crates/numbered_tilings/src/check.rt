@@ -9,12 +9,10 @@ use path_count::Sum;
 ghost use mathlib.Core.Path.{_≡_};
 ghost use Prim.Native.Nat.{_+_, _*_, _≤_};
 ghost use lib.ListN.{length};
-ghost use Rattle.cells.specs.Firsts.{any};
-ghost use Rattle.cells.specs.Arrays.{listOf};
+ghost use Rattle.cells.specs.Lists.{any, listOf};
 ghost use Rattle.covers.specs.WalkLaws.{share};
 ghost use Rattle.path_count.specs.PathCounts.{countValue, countIn};
-ghost use Rattle.graph.specs.Graph.{edgeAt};
-ghost use Rattle.graph.specs.Result.{completeNode};
+ghost use Rattle.graph.specs.Graph.{edgeAt, completeNode};
 ghost use Rattle.numbered_tilings.specs.Tilings.{isPast, badEdge, badCount, badGraph};
 
 // The parent of edge i.

@@ -11,13 +11,13 @@ ghost use lib.ListN.{length};
 ghost use Rattle.refusal.specs.Refusal.{mapAnswer};
 ghost use Rattle.covers.specs.Counts.{atNode};
 ghost use Rattle.path_count.specs.PathCounts.{countValue};
-ghost use Rattle.graph.specs.Result.{completeNode};
+ghost use Rattle.graph.specs.Graph.{completeNode};
 ghost use Rattle.numbered_tilings.specs.Tilings.{tilingByNumber, tilingAnswer, GivesTiling, GivesChain};
 
 mod check;
 mod walk;
 
-// How many nodes the list of a tiling has.
+// How many nodes the list of a tiling has, or a refusal.
 pub enum Tiling {
     Length(usize),
     Refused(Refusal),

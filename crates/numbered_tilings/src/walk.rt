@@ -5,7 +5,7 @@ use path_count::PathCount;
 ghost use mathlib.Core.Path.{_≡_};
 ghost use Prim.Native.Nat.{ℕ, _*_, _≤_, _<_};
 ghost use lib.ListN.{length, getD};
-ghost use Rattle.cells.specs.Arrays.{listOf};
+ghost use Rattle.cells.specs.Lists.{listOf};
 ghost use Rattle.covers.specs.Counts.{parentsOf, turn};
 ghost use Rattle.path_count.specs.PathCounts.{countValue, countIn};
 ghost use Rattle.graph.specs.Graph.{edgeAt};

@@ -10,7 +10,8 @@ use lib.Dec.{leb}
 use Rattle.path_count.specs.declared.PathCount.{PathCount}
 use Rattle.path_count.specs.declared.Sum.{Sum}
 use Rattle.path_count.specs.declared.Sum.the-variants as S
-use Rattle.path_count.specs.PathCounts.{countLimit, countValue, sumAnswer, countIn, withCount, AddsCount}
+use Rattle.path_count.specs.PathCounts.{countLimit, countValue, countIn}
+use Rattle.path_count.specs.Parts.{sumAnswer, withCount, AddsCount}
 use Rattle.path_count.specs.PathCountLaws.{sum-is, sum-large}
 
 -- a sum that wraps is smaller than what was added to

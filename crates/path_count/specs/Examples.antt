@@ -4,7 +4,9 @@ use mathlib.Core.List.{[], _∷_}
 use mathlib.Core.Option.{none, some}
 use Prim.Native.Nat.{_^_}
 use Rattle.path_count.specs.declared.Sum.the-variants as S
-use Rattle.path_count.specs.PathCounts.{countLimit, countValue, sumAnswer, countRoom, countIn, withCount, countWords, countsFor}
+use Rattle.path_count.specs.PathCounts.{countLimit, countValue, countRoom, countIn, countsFor}
+use Rattle.path_count.specs.Parts.{sumAnswer, withCount}
+use Rattle.path_count.specs.Inner.{countWords}
 
 limit : countLimit ≡ 18446744073709551616
 limit = refl

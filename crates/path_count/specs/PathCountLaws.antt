@@ -11,14 +11,16 @@ use borrow.Author.Tests.{leb-true, leb-false, eq-eqb, ne-eqb, le-ltb}
 use lib.Dec.{eqb, ltb, leb}
 use lib.ListN.{length, getD, set, length-set, List·getD-eq-default}
 use lib.Seq.{set-out, getD-set-same, getD-set-other}
-use Rattle.cells.specs.Words.{Small}
-use Rattle.cells.specs.Arrays.{listOf}
+use Rattle.cells.specs.WordLaws.{Small}
+use Rattle.cells.specs.Lists.{listOf}
+use Rattle.cells.specs.Parts.{clearedFrom}
 use Rattle.cells.specs.ArrayLaws.{length-listOf, getD-listOf, listOf-ext, listOf-eta, listOf-snoc}
-use Rattle.cells.specs.Lists.{clearedFrom}
 use Rattle.path_count.specs.declared.PathCount.{PathCount}
 use Rattle.path_count.specs.declared.Sum.{Sum}
 use Rattle.path_count.specs.declared.Sum.the-variants as S
-use Rattle.path_count.specs.PathCounts.{countLimit, countValue, sumAnswer, countRoom, countSpan, countIn, withCount, countWords, countsFor, AddsCount}
+use Rattle.path_count.specs.PathCounts.{countLimit, countValue, countRoom, countIn, countsFor}
+use Rattle.path_count.specs.Parts.{sumAnswer, withCount, AddsCount}
+use Rattle.path_count.specs.Inner.{countSpan, countWords}
 
 -- ---- one count
 
@@ -164,11 +166,11 @@ cleared-countWords ws = listOf-ext (λ i. cond (ltb i 0) (getD ws i 0) 0) (λ i.
 -- ---- words that hold a list of counts
 
 pub length-countsFor : (ns : List ℕ) (words : ℕ) → length (countsFor ns words) ≡ words
-unfolding countsFor
+unfolding countsFor countWords
 length-countsFor ns words = length-countWords (λ i. getD ns i 0) words
 
 pub countWords-countsFor : (f : ℕ → ℕ) (ns : List ℕ) (words : ℕ) → ((i : ℕ) → i < countRoom words → f i ≡ getD ns i 0) → countWords f words ≡ countsFor ns words
-unfolding countsFor
+unfolding countsFor countWords
 countWords-countsFor f ns words h = countWords-ext f (λ i. getD ns i 0) words h
 
 pub cleared-countsFor : (ws : List ℕ) → clearedFrom 0 ws ≡ countsFor [] (length ws)

@@ -7,9 +7,10 @@ ghost use mathlib.Core.Bool.{cond};
 ghost use mathlib.Core.Option.{none, some};
 ghost use Prim.Native.Nat.{_+_, _-_, _*_, _/_, _%_, _^_, min};
 ghost use lib.Dec.{eqb, ltb, leb};
-ghost use Rattle.path_count.specs.PathCounts.{countLimit, countValue, sumAnswer, countRoom, countIn, withCount, AddsCount};
+ghost use Rattle.path_count.specs.PathCounts.{countLimit, countValue, countRoom, countIn};
+ghost use Rattle.path_count.specs.Parts.{sumAnswer, withCount, AddsCount};
 
-// A number below the limit.
+// A path count: a number below the limit, 2^64.
 pub struct PathCount {
     pub word: u64,
 }

@@ -1,9 +1,9 @@
--- Laws of what the code hands on: a verdict and what was made, read as an answer; a mark, a tile's body and a record that were read; and the plot
--- at the end. Rests on `Inner`, `ReadLaws`, `TilesLaws` and the laws of stored tiles. Assumes nothing.
+-- Laws of what the code hands on: a verdict and what was made, read as an answer; a mark, a tile's body and a record that were read; the
+-- way through the file; and the plot at the end. Rests on `Inner`, `ReadLaws`, `TilesLaws` and the laws of stored tiles. Assumes nothing.
 use mathlib.Core.Path.{_≡_, refl, sym, ap, _∙_, subst}
 use mathlib.Core.Bool.{Bool, true, false, So, cond}
 use mathlib.Core.List.{List, [], _++_}
-use Prim.Native.Nat.{ℕ, _+_, _*_, _≤_, _<_}
+use Prim.Native.Nat.{ℕ, zero, suc, _+_, _*_, _≤_, _<_}
 use native.Mathlib.Omega.{arith}
 use lib.ListN.{length, getD, drop}
 use Rattle.cells.specs.Set.{fromBits, setOf}
@@ -15,16 +15,14 @@ use Rattle.refusal.specs.declared.Verdict.{Verdict}
 use Rattle.refusal.specs.declared.Verdict.the-variants as Verdicts
 use Rattle.refusal.specs.Refusal.{Answer, refused, given, mapAnswer, refusalNumber, refusalOf, valueOr, verdictNumber}
 use Rattle.refusal.specs.RefusalLaws.{refusalNumber-pos, map-map}
-use Rattle.tile.specs.Path.{Path, codesOk}
-use Rattle.tile.specs.Stored.{pathIn, readPath, tileOf, MakesTile}
-use Rattle.tiles.specs.Stored.{pathsIn, tilesOf}
+use Rattle.tile.specs.Path.{Path, codesOk, pathIn, readPath, tileOf, MakesTile}
+use Rattle.tiles.specs.Paths.{pathsIn, tilesOf}
 use Rattle.tile.specs.StoredLaws.{pathIn-tileOf, clean-tileOf, readPath-is, readPath-refused}
 use Rattle.tile.specs.Inner.{CleanTile}
 use Rattle.board.specs.declared.RectangularBoard.{RectangularBoard}
 use Rattle.board.specs.declared.MadeBoard.{MadeBoard}
-use Rattle.rectangle.specs.Board.{Board, noBoard, sizeOk, inside}
+use Rattle.rectangle.specs.Board.{Board, noBoard, sizeOk, inside, below}
 use Rattle.board.specs.Board.{boardOf, shapeMark, shaped, newBoard, lBoard, tBoard, MakesBoard}
-use Rattle.rectangle.specs.Board.{below}
 use Rattle.plot_file.specs.declared.marks.Mark.{Mark}
 use Rattle.plot_file.specs.declared.marks.Mark.the-variants.{RB, LB, TB, TI, OR, EN}
 use Rattle.plot_file.specs.declared.MadePlot.{MadePlot}
@@ -35,10 +33,10 @@ use Rattle.plot_file.specs.declared.records.Plot.{Plot as PlotSoFar}
 use Rattle.plot_file.specs.declared.records.Next.{Next}
 use Rattle.plot_file.specs.declared.records.Next.the-variants as N
 use Rattle.plot_file.specs.declared.records.Step.{Step as StepTaken}
-use Rattle.plot_file.specs.PlotFile.{Plot, noPlot, readMark, readBody, boardBody, addTiles, tileBody, laterRecord, Step, more, ended, ReadsPlot}
+use Rattle.plot_file.specs.PlotFile.{Plot, noPlot, readMark, readBody, boardBody, addTiles, tileBody, Step, more, ended, onward, records, plotIn, ReadsPlot}
 use Rattle.plot_file.specs.Inner.{answerOf, markedAnswer, isBoard, boardFor, tilesFor, ReadsBody, plotOf, Kept, nextAnswer, Ahead, Reads, boardOnly, startAt, StepsTo, recordAt}
 use Rattle.plot_file.specs.RecordLaws.{readBody-is}
-use Rattle.plot_file.specs.ReadLaws.{readMark-behind, boardBody-at, recordAt-later, tileBody-read, addTiles-given, addTiles-many}
+use Rattle.plot_file.specs.ReadLaws.{readMark-behind, boardBody-at, tileBody-read, addTiles-given, addTiles-many, records-on}
 use Rattle.plot_file.proofs.TilesLaws.{count-is, none-clean, none-paths, for-paths}
 
 -- ---- answers
@@ -250,20 +248,50 @@ reads-tiles file at whole plot r ts s b e q t =
     (tileBody-read (drop at file) plot (tilesFor whole) (pathIn (r .tile)) (drop (r .end) file) (body-given file at r b e)
     ∙ ap (λ (ps : List Path). mapAnswer (λ p. more p (drop (r .end) file)) (addTiles plot ps)) (sym (for-paths whole (pathIn (r .tile)) (body-path file at r b e .0) ts q)))
 
--- a record that was read behind the first place
-pub reads-later : (file : List ℕ) (at : ℕ) (plot : Plot) (s : StepTaken) → 0 < at → Reads file (at + 1) (recordAt at plot (drop at file)) s → Reads file (at + 1) (laterRecord plot (drop at file)) s
-reads-later file at plot s h r = subst (λ (a : Answer Step). Reads file (at + 1) a s) (recordAt-later plot file at h) r
+-- ---- through the file
 
--- a record that was read, by where it goes on
-module _ (file : List ℕ) (at : ℕ) (a : Answer Step) (s : StepTaken) (r : Reads file at a s) where
-  pub goes-on : (i : ℕ) → s .next ≡ N.At i → (a ≡ given (more (plotOf (s .plot)) (drop i file))) × (at ≤ i) × (i ≤ length file)
-  goes-on i e = let h = subst (Ahead at (length file)) e (r .ahead) in (sym (r .answer) ∙ ap (nextAnswer file (plotOf (s .plot))) e, h .0, h .1)
+-- what is left of a file at a place: all of it at the beginning, the records behind the board's elsewhere
+abbrev leftAt : List ℕ → ℕ → Plot → Answer Plot
+leftAt file zero plot = plotIn file
+leftAt file (suc at) plot = records (length file) plot (drop (suc at) file)
 
-  pub goes-end : s .next ≡ N.End → a ≡ given (ended (plotOf (s .plot)))
-  goes-end e = sym (r .answer) ∙ ap (nextAnswer file (plotOf (s .plot))) e
+leftAt-later : (file : List ℕ) (at : ℕ) (plot : Plot) → 0 < at → leftAt file at plot ≡ records (length file) plot (drop at file)
+leftAt-later file zero plot h = absurd (omega arith)
+leftAt-later file (suc at) plot h = refl
 
-  pub goes-refused : (q : Refusal) → s .next ≡ N.Refused q → a ≡ refused (refusalNumber q)
-  goes-refused q e = sym (r .answer) ∙ ap (nextAnswer file (plotOf (s .plot))) e
+leftAt-on : (file : List ℕ) (at : ℕ) (plot : Plot) → leftAt file at plot ≡ onward (records (length file)) (recordAt at plot (drop at file))
+unfolding plotIn
+leftAt-on file zero plot = refl
+leftAt-on file (suc at) plot = records-on plot file (suc at)
+
+-- a place of a file and the plot so far, from which on the file comes to what it holds
+pub record Going (file : List ℕ) (at : ℕ) (p : PlotSoFar) : Type 0 where
+  pub inside : at ≤ length file
+  pub kept : Kept p
+  pub left : plotIn file ≡ leftAt file at (plotOf p)
+
+pub going-first : (file : List ℕ) (p : PlotSoFar) → p .tiles ≡ tilesOf [] → Going file 0 p
+going-first file p e = record { inside = omega arith; kept = none-clean (p .tiles) e; left = refl }
+
+-- the record there was read: by where it goes on
+module _ (file : List ℕ) (at : ℕ) (p : PlotSoFar) (s : StepTaken) (g : Going file at p) (r : Reads file (at + 1) (recordAt at (plotOf p) (drop at file)) s) where
+  comes-to : plotIn file ≡ onward (records (length file)) (nextAnswer file (plotOf (s .plot)) (s .next))
+  comes-to = g .left ∙ leftAt-on file at (plotOf p) ∙ ap (onward (records (length file))) (sym (r .answer))
+
+  pub going-on : (i : ℕ) → s .next ≡ N.At i → Going file i (s .plot) × (at < i)
+  unfolding onward
+  going-on i e =
+      let h = subst (Ahead (at + 1) (length file)) e (r .ahead) in
+      let left = comes-to ∙ ap (λ (n : Next). onward (records (length file)) (nextAnswer file (plotOf (s .plot)) n)) e in
+      (record { inside = h .1; kept = r .kept; left = left ∙ sym (leftAt-later file i (plotOf (s .plot)) (omega (arith, h .0))) }, omega (arith, h .0))
+
+  pub going-end : s .next ≡ N.End → plotIn file ≡ given (plotOf (s .plot))
+  unfolding onward
+  going-end e = comes-to ∙ ap (λ (n : Next). onward (records (length file)) (nextAnswer file (plotOf (s .plot)) n)) e
+
+  pub going-refused : (q : Refusal) → s .next ≡ N.Refused q → plotIn file ≡ refused (refusalNumber q)
+  unfolding onward
+  going-refused q e = comes-to ∙ ap (λ (n : Next). onward (records (length file)) (nextAnswer file (plotOf (s .plot)) n)) e
 
 -- ---- the plot at the end
 

@@ -14,10 +14,8 @@ use Rattle.tile.specs.declared.Tile.{Tile}
 use Rattle.tiles.specs.declared.Tiles.{Tiles}
 use Rattle.tiles.specs.declared.MadeTiles.{MadeTiles}
 use Rattle.refusal.specs.Refusal.{mapAnswer, valueOr}
-use Rattle.tile.specs.Path.{Path, codesOk}
-use Rattle.tiles.specs.Paths.{orbit}
-use Rattle.tile.specs.Stored.{pathIn, readTile, tileOf}
-use Rattle.tiles.specs.Stored.{pathAt, pathsIn, tilesOf, tileAt, MakesTiles, AddsTile}
+use Rattle.tile.specs.Path.{Path, codesOk, pathIn, readTile, tileOf}
+use Rattle.tiles.specs.Paths.{orbit, pathAt, pathsIn, tilesOf, tileAt, MakesTiles, AddsTile}
 use Rattle.tile.specs.Inner.{CleanTile}
 use Rattle.tiles.specs.Inner.{Clean, Short}
 use Rattle.tiles.specs.OrbitLaws.{orbit-length-le, orbit-length-path}

@@ -1,13 +1,17 @@
 -- The definitions compute: 01's example file, and small files for each refusal at each kind of place. Assumes nothing.
 use mathlib.Core.Path.{_≡_, refl}
 use mathlib.Core.List.{List, [], _∷_, _++_, map, flatMap}
-use Prim.Native.Nat.{ℕ}
+use Prim.Native.Nat.{ℕ, _+_, _*_, _^_}
 use lib.ListN.{replicate}
-use Rattle.refusal.specs.Refusal.{refused, given}
+use Rattle.refusal.specs.Refusal.{refused, given, refusalOf, valueOr}
+use Rattle.refusal.specs.declared.Refusal.the-variants as R
+use Rattle.refusal.specs.declared.Verdict.the-variants as Verdicts
+use Rattle.cells.specs.declared.Cells.{Cells}
+use Rattle.cells.specs.Set.{number}
+use Rattle.board.specs.Board.{ofMarks}
 use Rattle.direction.specs.Direction.{rotate, reflect}
-use Rattle.tiles.specs.Paths.{orbit}
-use Rattle.plot_file.specs.Ascii.{ascii}
-use Rattle.plot_file.specs.PlotFile.{plotIn}
+use Rattle.tiles.specs.Paths.{orbit, tilesOf}
+use Rattle.plot_file.specs.PlotFile.{ascii, plotIn, ReadsPlot}
 
 -- 01's example, "hexadecimal 52 42 02 02 4F 52 01 03 45 4E": the 2 by 2 board and the four tiles of the orbit of Right
 worked : plotIn (0x52 ∷ 0x42 ∷ 0x02 ∷ 0x02 ∷ 0x4F ∷ 0x52 ∷ 0x01 ∷ 0x03 ∷ 0x45 ∷ 0x4E ∷ [])
@@ -23,6 +27,15 @@ four-tiles = refl
 abbrev behind : List ℕ → List ℕ
 behind rest = ascii "RB" ++ 1 ∷ 1 ∷ rest
 
+-- "RB: width byte, height byte. LB and TB: n byte, scale byte": RB 3,2; LB 3,1; TB 1,2
+board-records : map plotIn ((ascii "RB" ++ 3 ∷ 2 ∷ ascii "EN") ∷ (ascii "LB" ++ 3 ∷ 1 ∷ ascii "EN") ∷ (ascii "TB" ++ 1 ∷ 2 ∷ ascii "EN") ∷ [])
+    ≡ given (record { board = record { width = 3; height = 2; fixed = 0; laid = 0 }; tiles = [] })
+    ∷ given (record { board = record { width = 3; height = 2; fixed = 6; laid = 0 }; tiles = [] })
+    ∷ given (record { board = record { width = 6; height = 4; fixed = 51 * (2 ^ 16 + 1); laid = 0 }; tiles = [] })
+    ∷ []
+unfolding plotIn
+board-records = refl
+
 -- no tiles; a tile that stands twice, and the single tile
 no-tiles : plotIn (behind (ascii "EN")) ≡ given (record { board = record { width = 1; height = 1; fixed = 0; laid = 0 }; tiles = [] })
 unfolding plotIn
@@ -33,13 +46,19 @@ some-tiles : plotIn (behind (ascii "TI" ++ 1 ∷ 7 ∷ ascii "TI" ++ 1 ∷ 7 ∷
 unfolding plotIn
 some-tiles = refl
 
+-- a path of 32 codes is read
+longest-path : plotIn (behind (ascii "TI" ++ 32 ∷ replicate 32 7 ++ ascii "EN"))
+    ≡ given (record { board = record { width = 1; height = 1; fixed = 0; laid = 0 }; tiles = replicate 32 7 ∷ [] })
+unfolding plotIn
+longest-path = refl
+
 -- "1, the mark is cut or missing": no file; a cut mark, first and later; no mark behind the board
 cut-mark : map plotIn ([] ∷ ascii "R" ∷ behind (ascii "E") ∷ behind [] ∷ []) ≡ refused 1 ∷ refused 1 ∷ refused 1 ∷ refused 1 ∷ []
 unfolding plotIn
 cut-mark = refl
 
 -- "2, unknown mark", first and later
-unknown-mark : map plotIn (ascii "XX" ∷ ascii "rb" ∷ behind (ascii "ET") ∷ []) ≡ refused 2 ∷ refused 2 ∷ refused 2 ∷ []
+unknown-mark : map plotIn (ascii "XX" ∷ ascii "rb" ∷ ascii "AB" ∷ ascii "RA" ∷ behind (ascii "ET") ∷ []) ≡ refused 2 ∷ refused 2 ∷ refused 2 ∷ refused 2 ∷ refused 2 ∷ []
 unfolding plotIn
 unknown-mark = refl
 
@@ -89,3 +108,16 @@ too-many = refl
 byte-after-end : plotIn (behind (ascii "EN" ++ 0 ∷ [])) ≡ refused 3
 unfolding plotIn
 byte-after-end = refl
+
+-- ---- the answer of the code: board and tiles; "A refusal hands back a 0 by 0 board and no tiles"
+
+abbrev none : Cells
+none = record { w0 = 0; w1 = 0; w2 = 0; w3 = 0 }
+
+read : ReadsPlot (plotIn (behind (ascii "TI" ++ 0 ∷ ascii "EN"))) (record { verdict = Verdicts.Accepted; board = ofMarks 1 1 none none; tiles = tilesOf ([] ∷ []) })
+unfolding plotIn refusalOf valueOr number
+read = record { verdict = refl; board = refl; tiles = refl }
+
+read-refused : ReadsPlot (plotIn (behind (ascii "EN" ++ 0 ∷ []))) (record { verdict = Verdicts.Refused R.Misplaced; board = ofMarks 0 0 none none; tiles = tilesOf [] })
+unfolding plotIn refusalOf valueOr number
+read-refused = record { verdict = refl; board = refl; tiles = refl }

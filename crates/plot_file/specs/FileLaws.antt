@@ -16,7 +16,7 @@ use Rattle.refusal.specs.Refusal.{Answer, refused, given, mapAnswer, bindAnswer
 use Rattle.refusal.specs.RefusalLaws.{refused-given, given-inj, map-given, bind-given}
 use Rattle.tile.specs.Path.{Path, codesOk}
 use Rattle.tiles.specs.OrbitLaws.{orbit-length-path, orbit-codesOk}
-use Rattle.tiles.specs.Stored.{Storable}
+use Rattle.tiles.specs.Inner.{Storable}
 use Rattle.rectangle.specs.Board.{Board, sizeOk, valid}
 use Rattle.board.specs.Board.{shapeMark, shaped, newBoard, lBoard, tBoard}
 use Rattle.board.specs.BoardLaws.{shaped-valid}

@@ -7,10 +7,8 @@ use lib.ListN.{length, drop}
 use Rattle.refusal.specs.declared.Verdict.{Verdict}
 use Rattle.refusal.specs.declared.Verdict.the-variants as Verdicts
 use Rattle.refusal.specs.Refusal.{Answer, refused, given, mapAnswer, refusalNumber}
-use Rattle.tile.specs.Path.{Path}
-use Rattle.tiles.specs.Paths.{orbit}
-use Rattle.tile.specs.Stored.{pathIn}
-use Rattle.tiles.specs.Stored.{pathsIn}
+use Rattle.tile.specs.Path.{Path, pathIn}
+use Rattle.tiles.specs.Paths.{orbit, pathsIn}
 use Rattle.tile.specs.Inner.{CleanTile}
 use Rattle.tiles.specs.Inner.{Clean}
 use Rattle.rectangle.specs.Board.{Board}

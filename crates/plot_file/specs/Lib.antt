@@ -1,6 +1,5 @@
--- The plot file. `PlotFile` (with `Ascii`) is what a reader must believe; `Records` says what a file is as records, and `Theorems` which files are accepted, what
+-- The plot file. `PlotFile` is what a reader must believe; `Records` says what a file is as records, and `Theorems` which files are accepted, what
 -- is read from them and how far a file is looked at; `Inner` serves private contracts only; the rest are laws, and examples that compute.
-pub mod Ascii
 pub mod PlotFile
 pub mod Records
 pub mod Inner

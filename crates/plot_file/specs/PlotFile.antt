@@ -1,22 +1,26 @@
 -- Definitions: the plot file, record by record, and what its reader answers. What stands in quotation marks is 01's, from its section The plot file. The
 -- refusals of a record are tried in the order written there: mark, place, body, board or tile. Assumes nothing.
-use mathlib.Core.Path.{_≡_}
-use mathlib.Core.Bool.{Bool, cond, _&&_}
 use mathlib.Core.List.{List, [], _∷_, _++_}
 use Prim.Native.Nat.{ℕ, zero, suc}
+use Prim.Native.Char.{code}
+use Prim.Native.String.{String, [] as []ˢ, _∷_ as _∷ˢ_}
+use mathlib.Core.Path.{_≡_}
+use mathlib.Core.Bool.{Bool, cond, _&&_}
 use lib.Dec.{eqb, leb}
 use lib.ListN.{length, getD, take, drop}
 use Rattle.refusal.specs.Refusal.{Answer, refused, given, mapAnswer, bindAnswer, refusalOf, valueOr, verdictNumber}
-use Rattle.tile.specs.Path.{Path}
-use Rattle.tiles.specs.Paths.{orbit}
-use Rattle.tile.specs.Stored.{readPath}
-use Rattle.tiles.specs.Stored.{tilesOf}
+use Rattle.tile.specs.Path.{Path, readPath}
+use Rattle.tiles.specs.Paths.{orbit, tilesOf}
 use Rattle.rectangle.specs.Board.{Board, noBoard}
 use Rattle.board.specs.Board.{boardOf, newBoard, lBoard, tBoard}
 use Rattle.plot_file.specs.declared.marks.Mark.{Mark}
 use Rattle.plot_file.specs.declared.marks.Mark.the-variants.{RB, LB, TB, TI, OR, EN}
 use Rattle.plot_file.specs.declared.MadePlot.{MadePlot}
-use Rattle.plot_file.specs.Ascii.{ascii}
+
+-- the bytes of a text of ASCII characters
+unfoldable pub ascii : String → List ℕ
+ascii []ˢ = []
+ascii (c ∷ˢ text) = code c ∷ ascii text
 
 -- what a file holds: "board and tiles"
 pub record Plot : Type 0 where
@@ -29,6 +33,7 @@ noPlot = record { board = noBoard; tiles = [] }
 
 -- ---- marks: "each after a two-byte ASCII mark"
 
+-- the two bytes of a mark
 unfoldable pub letters : Mark → List ℕ
 unfolding ascii
 letters RB = ascii "RB"
@@ -38,6 +43,7 @@ letters TI = ascii "TI"
 letters OR = ascii "OR"
 letters EN = ascii "EN"
 
+-- all marks
 abbrev pub allMarks : List Mark
 allMarks = RB ∷ LB ∷ TB ∷ TI ∷ OR ∷ EN ∷ []
 
@@ -126,6 +132,7 @@ laterBody TI plot bytes = tileBody (λ path. path ∷ []) plot bytes
 laterBody OR plot bytes = tileBody orbit plot bytes
 laterBody EN plot bytes = endBody plot bytes
 
+-- a record behind the first: its mark, then its body
 unfoldable pub laterRecord : Plot → List ℕ → Answer Step
 unfolding readMark laterBody bindAnswer
 laterRecord plot bytes = bindAnswer (readMark bytes) (λ m. laterBody (m .0) plot (m .1))

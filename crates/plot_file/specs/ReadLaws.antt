@@ -10,12 +10,11 @@ use lib.Dec.{eqb}
 use lib.ListN.{length, getD, take, drop, length-append, length-drop, drop-of-length-le}
 use lib.Seq.{drop-cons, drop-drop}
 use Rattle.refusal.specs.Refusal.{Answer, refused, given, mapAnswer, bindAnswer}
-use Rattle.tile.specs.Path.{Path}
-use Rattle.tile.specs.Stored.{readPath}
+use Rattle.tile.specs.Path.{Path, readPath}
 use Rattle.rectangle.specs.Board.{Board}
 use Rattle.plot_file.specs.declared.marks.Mark.{Mark}
 use Rattle.plot_file.specs.declared.marks.Mark.the-variants.{RB, LB, TB, TI, OR, EN}
-use Rattle.plot_file.specs.PlotFile.{allMarks, Plot, letters, spells, markAmong, readMark, readPair, readBody, more, ended, boardBody, firstRecord, addTiles, tileBody, endBody, laterBody, laterRecord, onward, records, plotIn}
+use Rattle.plot_file.specs.PlotFile.{allMarks, Plot, letters, spells, markAmong, readMark, readPair, readBody, more, ended, boardBody, firstRecord, addTiles, tileBody, endBody, laterBody, laterRecord, onward, records}
 use Rattle.plot_file.specs.Inner.{isBoard, boardFor, tilesFor, startAt, recordAt}
 use Rattle.plot_file.specs.RecordLaws.{readMark-is, length-letters, records-step}
 
@@ -227,31 +226,5 @@ addTiles-many plot paths h =
 
 -- ---- the records go on
 
-module _ (plot : Plot) (file : List ℕ) (at : ℕ) where
-  next-record : records (length file) plot (drop at file) ≡ onward (records (length file)) (laterRecord plot (drop at file))
-  next-record = records-step (length file) plot (drop at file) (omega (arith, length-drop at file))
-
-  pub records-more : (next : Plot) (rest : List ℕ) → laterRecord plot (drop at file) ≡ given (more next rest) → records (length file) plot (drop at file) ≡ records (length file) next rest
-  unfolding onward
-  records-more next rest e = next-record ∙ ap (onward (records (length file))) e
-
-  pub records-ended : (last : Plot) → laterRecord plot (drop at file) ≡ given (ended last) → records (length file) plot (drop at file) ≡ given last
-  unfolding onward
-  records-ended last e = next-record ∙ ap (onward (records (length file))) e
-
-  pub records-refused : (n : ℕ) → laterRecord plot (drop at file) ≡ refused n → records (length file) plot (drop at file) ≡ refused n
-  unfolding onward
-  records-refused n e = next-record ∙ ap (onward (records (length file))) e
-
-module _ (file : List ℕ) where
-  pub plotIn-more : (next : Plot) (rest : List ℕ) → firstRecord file ≡ given (more next rest) → plotIn file ≡ records (length file) next rest
-  unfolding plotIn onward
-  plotIn-more next rest e = ap (onward (records (length file))) e
-
-  pub plotIn-ended : (last : Plot) → firstRecord file ≡ given (ended last) → plotIn file ≡ given last
-  unfolding plotIn onward
-  plotIn-ended last e = ap (onward (records (length file))) e
-
-  pub plotIn-refused : (k : ℕ) → firstRecord file ≡ refused k → plotIn file ≡ refused k
-  unfolding plotIn onward
-  plotIn-refused k e = ap (onward (records (length file))) e
+pub records-on : (plot : Plot) (file : List ℕ) (at : ℕ) → records (length file) plot (drop at file) ≡ onward (records (length file)) (laterRecord plot (drop at file))
+records-on plot file at = records-step (length file) plot (drop at file) (omega (arith, length-drop at file))

@@ -12,9 +12,8 @@ use lib.ListN.{length, getD, take, drop, take-append-drop, length-append}
 use lib.Seq.{length-take-le, take-append-seam, drop-append-seam}
 use Rattle.refusal.specs.Refusal.{Answer, refused, given, mapAnswer, bindAnswer}
 use Rattle.refusal.specs.RefusalLaws.{refused-given, refused-inj, given-inj, map-given, bind-given, Refuses, refuses-one, refuses-none, refuses-cond, refuses-bind, refuses-map}
-use Rattle.tile.specs.Path.{Path, codesOk}
+use Rattle.tile.specs.Path.{Path, codesOk, readPath}
 use Rattle.tiles.specs.Paths.{orbit}
-use Rattle.tile.specs.Stored.{readPath}
 use Rattle.tile.specs.StoredLaws.{readPath-is, readPath-given}
 use Rattle.rectangle.specs.Board.{Board, sizeOk}
 use Rattle.board.specs.Board.{shaped, newBoard, lBoard, tBoard}

@@ -11,8 +11,7 @@ use Rattle.tile.specs.Path.{Path, codesOk}
 use Rattle.tiles.specs.Paths.{orbit}
 use Rattle.rectangle.specs.Board.{Board}
 use Rattle.board.specs.Board.{newBoard, lBoard, tBoard}
-use Rattle.plot_file.specs.Ascii.{ascii}
-use Rattle.plot_file.specs.PlotFile.{Plot}
+use Rattle.plot_file.specs.PlotFile.{ascii, Plot}
 
 -- "One board record (RB, LB, TB) stands first", of two bytes
 pub data BoardRecord : Type 0 where

@@ -12,9 +12,8 @@ use lib.ListN.{length, take, drop, length-append, length-take}
 use lib.Seq.{take-take, take-nil, length-take-le, take-append-add}
 use Rattle.refusal.specs.Refusal.{Answer, refused, given, mapAnswer, bindAnswer}
 use Rattle.refusal.specs.RefusalLaws.{refused-inj, map-map}
-use Rattle.tile.specs.Path.{Path}
+use Rattle.tile.specs.Path.{Path, readPath}
 use Rattle.tiles.specs.Paths.{orbit}
-use Rattle.tile.specs.Stored.{readPath}
 use Rattle.tile.specs.StoredLaws.{readPath-is}
 use Rattle.rectangle.specs.Board.{Board}
 use Rattle.board.specs.Board.{newBoard, lBoard, tBoard}

@@ -9,7 +9,8 @@ use Prim.Native.Nat.{ℕ, _^_, _≤_, _<_}
 use native.Mathlib.Omega.{arith}
 use lib.ListN.{length, take}
 use Rattle.refusal.specs.Refusal.{refused, given, refusalOf, valueOr, verdictNumber}
-use Rattle.tiles.specs.Stored.{Storable, tilesOf, readTiles}
+use Rattle.tiles.specs.Inner.{Storable}
+use Rattle.tiles.specs.Paths.{tilesOf, readTiles}
 use Rattle.tiles.specs.StoredLaws.{readTiles-tilesOf}
 use Rattle.board.specs.Board.{boardOf, readBoard}
 use Rattle.rectangle.specs.Board.{noBoard, valid}

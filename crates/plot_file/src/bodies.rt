@@ -10,7 +10,7 @@ ghost use mathlib.Core.Path.{_≡_};
 ghost use Prim.Native.Nat.{_≤_};
 ghost use lib.ListN.{length, drop};
 ghost use mathlib.Core.List.{[]};
-ghost use Rattle.tile.specs.Stored.{tileOf};
+ghost use Rattle.tile.specs.Path.{tileOf};
 ghost use Rattle.board.specs.Board.{MakesBoard};
 ghost use Rattle.plot_file.specs.PlotFile.{readBody};
 ghost use Rattle.plot_file.specs.Inner.{isBoard, boardFor, ReadsBody};

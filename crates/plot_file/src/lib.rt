@@ -3,18 +3,18 @@
 //
 // The core reads a slice from a place on, a record at a time: marks.rt the mark, bodies.rt the body
 // behind it, records.rt a whole record. A place is a number that goes in and comes back by value.
-// Over the core stands a struct that holds the slice and the place, by which every record is read
-// (reader.rt).
+// Over the core stands the plot reader (reader.rt), a struct that holds the slice and a position in
+// it. `read_plot` makes one and goes through the file with it: it reads the record at the position,
+// and moves the position to where the next one begins.
 use board::RectangularBoard;
+use reader::PlotReader;
 use records::Next;
 use records::Plot;
 use refusal::Refusal;
 use refusal::Verdict;
 use tiles::Tiles;
-ghost use Prim.Native.Nat.{_≤_, _<_};
-ghost use lib.ListN.{length, drop};
 ghost use Rattle.refusal.specs.Refusal.{refused, given, refusalNumber};
-ghost use Rattle.plot_file.specs.PlotFile.{records, plotIn, ReadsPlot};
+ghost use Rattle.plot_file.specs.PlotFile.{plotIn, ReadsPlot};
 ghost use Rattle.plot_file.specs.Inner.{plotOf, Kept};
 
 mod bodies;
@@ -36,29 +36,14 @@ pub struct MadePlot {
 pub fn read_plot(file: &[u8]) -> MadePlot
     ensures { λ r. ⌜ ReadsPlot (plotIn (now (file .entry))) r ⌝ }
 {
-    let first = reader::record_at(file, 0, records::no_plot());
-    let next = first.next;
-    match next {
-        Next::At(at) => read_records(file, at, first.plot),
-        Next::End => made(first.plot),
-        Next::Refused(refusal) => unread(refusal),
-    }
-}
-
-// The records from a place behind the board's on, to the end of the file.
-fn read_records(file: &[u8], at: usize, plot: Plot) -> MadePlot
-    requires { ⌜ (0 < at) × (at ≤ length (now file)) × Kept plot ⌝ }
-    ensures { λ r. ⌜ ReadsPlot (records (length (now (file .entry))) (plotOf plot) (drop at (now (file .entry)))) r ⌝ }
-{
-    let mut from = at;
-    let mut so_far = plot;
+    let mut reader = PlotReader::new(file);
+    let mut plot = records::no_plot();
     loop {
-        let step = reader::record_at(file, from, so_far);
-        let next = step.next;
-        match next {
+        let step = reader.next_record(plot);
+        match step.next {
             Next::At(place) => {
-                from = place;
-                so_far = step.plot;
+                reader.at = place;
+                plot = step.plot;
             }
             Next::End => return made(step.plot),
             Next::Refused(refusal) => return unread(refusal),

@@ -1,6 +1,5 @@
-// One record: what it leaves of the file and of the plot. `record` is what the reader of reader.rt
-// asks. Private helpers; they ask that a place is in the file or at its end, and that the tiles so
-// far are stored with zeros behind them.
+// One record: what it leaves of the file and of the plot. Private helpers; they ask that a place is
+// in the file or at its end, and that the tiles so far are stored with zeros behind them.
 //
 // The plot so far, board and tiles, goes through every record behind the first, so that a further kind
 // of record, whether it changes the board or the tiles, is a further arm of `later_body`.
@@ -8,7 +7,6 @@ use crate::bodies;
 use crate::marks;
 use crate::marks::Mark;
 use crate::marks::Marked;
-use crate::reader;
 use board::MadeBoard;
 use board::RectangularBoard;
 use refusal::Refusal;
@@ -21,9 +19,8 @@ ghost use mathlib.Core.List.{[], _∷_, _++_};
 ghost use Prim.Native.Nat.{_+_, _≤_, _<_};
 ghost use lib.ListN.{length, drop};
 ghost use Rattle.refusal.specs.Refusal.{mapAnswer};
-ghost use Rattle.tile.specs.Path.{codesOk};
-ghost use Rattle.tile.specs.Stored.{pathIn};
-ghost use Rattle.tiles.specs.Stored.{pathsIn, tilesOf};
+ghost use Rattle.tile.specs.Path.{codesOk, pathIn};
+ghost use Rattle.tiles.specs.Paths.{pathsIn, tilesOf};
 ghost use Rattle.tile.specs.Inner.{CleanTile};
 ghost use Rattle.tiles.specs.Inner.{Clean};
 ghost use Rattle.board.specs.Board.{boardOf};
@@ -159,7 +156,7 @@ fn end_record(file: &[u8], at: usize, plot: Plot) -> Step
     requires { ⌜ (at ≤ length (now file)) × Kept plot ⌝ }
     ensures { λ r. ⌜ Reads (now (file .entry)) at (endBody (plotOf plot) (drop at (now (file .entry)))) r ⌝ }
 {
-    if reader::finished_at(file, at) {
+    if file.len() <= at {
         return Step {
             next: Next::End,
             plot,

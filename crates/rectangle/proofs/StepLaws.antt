@@ -1,5 +1,5 @@
 -- What the tests of sizes and cells and the steps of the code come to: a size, a cell in the rectangle, the place at a position, and the place one
--- step on. Rests on `Board`, `Place` and direction's laws. Assumes nothing.
+-- step on. Rests on `Board`, `Parts` and direction's laws. Assumes nothing.
 use native.Mathlib.Decide.{decLt}
 use mathlib.Core.Path.{_≡_, refl, sym, ap, _∙_, ap₂, subst}
 use mathlib.Core.Bool.{true, false, or-false, and-false}
@@ -14,12 +14,11 @@ use Rattle.refusal.specs.Refusal.{refused, given, refusalNumber}
 use Rattle.direction.specs.DirectionLaws.{by-code, onCode-given, onCode-past}
 use Rattle.direction.specs.declared.Offset.{Offset}
 use Rattle.direction.specs.declared.Offset.the-variants as O
-use Rattle.direction.specs.Position.{Position, at, shift}
-use Rattle.direction.specs.Direction.{step, onCode, offsetAnswer}
+use Rattle.direction.specs.Direction.{Position, at, shift, step, onCode, offsetAnswer}
 use Rattle.rectangle.specs.Board.{positionOf, inside, below, sizeOk}
+use Rattle.rectangle.specs.Parts.{placeAnswer, placeIf, placeAfter}
 use Rattle.rectangle.specs.declared.Place.{Place}
 use Rattle.rectangle.specs.declared.Place.the-variants as P
-use Rattle.rectangle.specs.Place.{placeAnswer, placeIf, placeAfter}
 
 -- ---- sizes
 

@@ -1,13 +1,13 @@
--- Definitions: boards by their numbers; cells and positions; free cells; which boards are accepted; and boards by other boards. What stands in
--- quotation marks is 01's, from its sections Boards and Children. Assumes nothing.
+-- Definitions: boards by their numbers; cells and positions; free cells; which boards are accepted; and boards by other boards.
+-- What stands in quotation marks is 01's, from its sections Boards and Children. Assumes nothing.
 use mathlib.Core.Bool.{Bool, false, not, cond, _&&_, _||_}
 use Prim.Native.Nat.{ℕ, _+_, _-_, _*_, _/_, _%_}
 use lib.Dec.{eqb, ltb, leb}
 use lib.IntN.{ℤ, pos, negsuc, natAbs}
 use Rattle.cells.specs.Set.{hasCell, setOf, unionOf, size}
-use Rattle.cells.specs.Arrays.{allBelow}
+use Rattle.cells.specs.Lists.{allBelow}
 use Rattle.refusal.specs.Refusal.{Answer, refused, given}
-use Rattle.direction.specs.Position.{Position, at}
+use Rattle.direction.specs.Direction.{Position, at}
 
 -- "A board handed in carries its size and each kind of mark"; the marks are sets of cells
 pub record Board : Type 0 where
@@ -18,10 +18,11 @@ pub record Board : Type 0 where
 
 -- ---- cells and positions
 
--- "Cell (row, column) is bit 16 × row + column": the cell at a position of the rectangle, and the position of a cell
+-- "Cell (row, column) is bit 16 × row + column": the cell at a position of the rectangle
 unfoldable pub cellOf : Position → ℕ
 cellOf p = 16 * natAbs (p .row) + natAbs (p .col)
 
+-- the position of a cell
 abbrev pub positionOf : ℕ → Position
 positionOf cell = at (pos (cell / 16)) (pos (cell % 16))
 
@@ -52,20 +53,17 @@ unfoldable pub freeAt : Board → Position → Bool
 unfolding inside isMarked cellOf
 freeAt b p = inside (b .width) (b .height) p && not (isMarked b (cellOf p))
 
--- the same by a number of marks, whatever their kind: a position is in the rectangle and its cell is none of the marks
-unfoldable pub freeIn : ℕ → ℕ → ℕ → Position → Bool
-unfolding inside hasCell cellOf
-freeIn w h m p = inside w h p && not (hasCell m (cellOf p))
-
+-- whether the position of a cell is free
 unfoldable pub isFree : Board → ℕ → Bool
 unfolding freeAt
 isFree b cell = freeAt b (positionOf cell)
 
--- the set of the free cells, and their number
+-- the set of the free cells
 unfoldable pub freeSet : Board → ℕ
 unfolding setOf isFree
 freeSet b = setOf (isFree b)
 
+-- how many cells are free
 unfoldable pub freeCount : Board → ℕ
 unfolding freeSet size
 freeCount b = size (freeSet b)
@@ -87,6 +85,7 @@ unfolding hasCell isMarked inside
 markOk b cell =
     not (hasCell (b .fixed) cell && hasCell (b .laid) cell) && (inside (b .width) (b .height) (positionOf cell) || not (isMarked b cell))
 
+-- the size and every mark are as they have to be
 unfoldable pub valid : Board → Bool
 unfolding sizeOk markOk allBelow
 valid b = sizeOk (b .width) (b .height) && allBelow (markOk b) 256
@@ -101,10 +100,6 @@ acceptBoard b = cond (valid b) (given b) (refused 4)
 -- the 0 by 0 board
 abbrev pub noBoard : Board
 noBoard = record { width = 0; height = 0; fixed = 0; laid = 0 }
-
--- the board of the same size with no marks at all
-abbrev pub bare : Board → Board
-bare b = record { width = b .width; height = b .height; fixed = 0; laid = 0 }
 
 -- "A board in an output, layer or node is four words, both kinds together; its fixed marks are the starting board's": the board of a number of marks
 abbrev pub boardAt : Board → ℕ → Board

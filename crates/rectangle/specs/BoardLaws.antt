@@ -10,16 +10,17 @@ use borrow.Author.Tests.{eqb-true, eq-eqb, leb-true, lt-leb, ne-eqb, not-true, l
 use lib.Dec.{eqb, ltb, leb}
 use lib.IntN.{ℤ, pos, negsuc}
 use lib.Pow.{pow-pos}
-use Rattle.cells.specs.Set.{bit, hasCell, Disjoint, size}
-use Rattle.cells.specs.BitLaws.{bit-le, bit-ext, bit-high, zero-bit}
+use Rattle.cells.specs.Set.{bit, hasCell, size}
+use Rattle.cells.specs.BitLaws.{Disjoint, bit-le, bit-ext, bit-high, zero-bit}
 use Rattle.cells.specs.SetLaws.{hasCell-iff, hasCell-false, bit-unionOf, unionOf-lt, size-zero, size-none, bit-free, hasCell-none, hasCell-setOf, setOf-lt}
 use Rattle.cells.specs.FirstsLaws.{so-eq}
-use Rattle.cells.specs.Arrays.{allBelow}
+use Rattle.cells.specs.Lists.{allBelow}
 use Rattle.cells.specs.ArrayLaws.{allBelow-at}
 use Rattle.refusal.specs.Refusal.{refused, given, refusalOf}
 use Rattle.refusal.specs.RefusalLaws.{refused-given, given-inj}
-use Rattle.direction.specs.Position.{Position, at}
-use Rattle.rectangle.specs.Board.{Board, cellOf, positionOf, below, inside, marks, isMarked, freeAt, isFree, freeSet, freeCount, isFull, sizeOk, markOk, valid, freeIn, acceptBoard}
+use Rattle.direction.specs.Direction.{Position, at}
+use Rattle.rectangle.specs.Board.{Board, cellOf, positionOf, below, inside, marks, isMarked, freeAt, isFree, freeSet, freeCount, isFull, sizeOk, markOk, valid, acceptBoard}
+use Rattle.rectangle.specs.Parts.{freeIn}
 
 -- ---- positions of the rectangle and their cells
 

@@ -1,6 +1,6 @@
--- Boards by their numbers. `Board` and `Place` are what a reader must believe; the rest are laws.
+-- Boards by their numbers. `Board` is what a reader must believe; `Parts` holds what functions answer that serve the crates above; the rest are laws.
 pub mod Board
-pub mod Place
+pub mod Parts
 pub mod BoardLaws
 pub mod FreeLaws
 pub mod PlaceLaws

@@ -1,4 +1,4 @@
--- Laws of places: where one step leads from a place of a board, and what a place tells of its position. Rests on `Place` and `BoardLaws`.
+-- Laws of places: where one step leads from a place of a board, and what a place tells of its position. Rests on `Parts` and `BoardLaws`.
 -- Assumes nothing.
 use mathlib.Core.Path.{_≡_, refl, sym, ap, ap₂, _∙_}
 use mathlib.Core.Bool.{Bool, true, false, So, cond}
@@ -7,12 +7,11 @@ use Prim.Native.Nat.{ℕ, _+_, _*_, _<_}
 use native.Mathlib.Omega.{arith}
 use borrow.Author.Tests.{lt-ltb}
 use lib.IntN.{pos, natAbs}
-use Rattle.direction.specs.Position.{Position, at, shift}
-use Rattle.direction.specs.Direction.{step}
+use Rattle.direction.specs.Direction.{Position, at, shift, step}
 use Rattle.rectangle.specs.declared.Place.{Place}
 use Rattle.rectangle.specs.declared.Place.the-variants as P
 use Rattle.rectangle.specs.Board.{cellOf, inside}
-use Rattle.rectangle.specs.Place.{placeAnswer, placeIf, placeAfter}
+use Rattle.rectangle.specs.Parts.{placeAnswer, placeIf, placeAfter}
 use Rattle.rectangle.specs.BoardLaws.{inside-parts}
 
 -- from a row and a column that a board has, by a direction

@@ -1,10 +1,10 @@
 // The rectangle of a board: sizes, cells, and steps from a place. Nothing is asked of a caller; what
-// each call answers is a definition of specs/: Board.antt for sizes and cells, Place.antt for steps.
+// each call answers is a definition of specs/: Board.antt for sizes and cells, Parts.antt for steps.
 use direction::Offset;
 ghost use mathlib.Core.Path.{_≡_};
-ghost use Rattle.direction.specs.Position.{at};
+ghost use Rattle.direction.specs.Direction.{at};
 ghost use Rattle.rectangle.specs.Board.{positionOf, inside, sizeOk};
-ghost use Rattle.rectangle.specs.Place.{placeAnswer, placeIf, placeAfter};
+ghost use Rattle.rectangle.specs.Parts.{placeAnswer, placeIf, placeAfter};
 
 // A place of the board by its row and column, or none.
 pub enum Place {

@@ -1,6 +1,9 @@
--- Definitions: the refusals by 01's numbers, and an answer that is a refusal or a value. Every call's answer is read by one of these, so that
+-- Definitions: the refusals by 01's numbers, an answer that is a refusal or a value, and what is left in lent words for one. Every call's answer is read by one of these, so that
 -- the contracts speak of 01's numbers and not of the code's names for them. Assumes nothing.
+use mathlib.Core.Path.{_≡_}
+use mathlib.Core.List.{List, []}
 use Prim.Native.Nat.{ℕ}
+use lib.ListN.{length}
 use Rattle.refusal.specs.declared.Refusal.{Refusal}
 use Rattle.refusal.specs.declared.Refusal.the-variants as R
 use Rattle.refusal.specs.declared.Verdict.{Verdict}
@@ -50,3 +53,9 @@ valueOr d (given a) = a
 abbrev pub verdictNumber : Verdict → ℕ
 verdictNumber Verdicts.Accepted = 0
 verdictNumber (Verdicts.Refused r) = refusalNumber r
+
+-- what is answered and left in lent words for an answer that is a list: the number of its elements comes back, and the words hold the list as `stored` says,
+-- zeros behind, or zeros after a refusal
+pub record Leaves {A : Type 0} (stored : List A → ℕ → List ℕ) (a : Answer (List A)) (number : Answer ℕ) (old new : List ℕ) : Type 0 where
+  pub answer : number ≡ mapAnswer length a
+  pub words : new ≡ stored (valueOr [] a) (length old)

@@ -6,18 +6,18 @@ use mathlib.Core.List.{List}
 use Prim.Native.Nat.{ℕ, zero, suc, _+_, _-_, _*_, _%_, _^_, _≤_, _<_, min}
 use native.Mathlib.Omega.{arith}
 use borrow.Author.Tests.{ltb-true, ltb-false}
-use lib.Dec.{ltb, leb}
+use lib.Dec.{ltb, leb, eqb}
 use lib.ListN.{length}
 use Rattle.refusal.specs.Refusal.{refused}
 use Rattle.refusal.specs.RefusalLaws.{Refuses, refuses-one, refuses-none, refuses-cond, refuses-bind, refuses-map}
 use Rattle.tiles.specs.Paths.{equalCounts}
 use Rattle.rectangle.specs.Board.{marks}
-use Rattle.covers.specs.Counts.{Entry, counts, layerOf}
-use Rattle.graph.specs.Rooms.{plotBoards, plotNodes, plotEdges}
+use Rattle.children.specs.Children.{childrenAt, freeCountAt}
+use Rattle.covers.specs.Counts.{Entry, counts, layer}
+use Rattle.graph.specs.Graph.{plotBoards, plotNodes, plotEdges}
 use Rattle.path_count.specs.PathCounts.{countLimit}
 use Rattle.path_count.specs.PathCountLaws.{word-count}
-use Rattle.expansion.specs.Boards.{setting}
-use Rattle.layers.specs.LayerCounts.{tooLarge, judgeLayer, judgeLayers, layersAnswer}
+use Rattle.layers.specs.LayerCounts.{tooLarge, judgeLayer, judgeLayers, layerCountFor}
 use Rattle.tiler.specs.Graphs.{graphOf, judgeGraph}
 use Rattle.plot_file.specs.PlotFile.{Plot}
 use Rattle.report.specs.Report.{withEqualTiles, plotLayers, plotGraph}
@@ -45,17 +45,17 @@ judgeLayers-refusals at room (suc n) = refuses-bind Layers (judgeLayers at room 
 
 -- A layer count is refused by 7, 8 or 9,
 pub layers-refusals : (plot : Plot) (n : ℕ) → plotLayers plot ≡ refused n → (7 ≤ n) × (n ≤ 9)
-unfolding plotLayers withEqualTiles layersAnswer
+unfolding plotLayers withEqualTiles layerCountFor
 layers-refusals plot =
-    let S = setting (plot .board) (plot .tiles) in
-    let s = marks (plot .board) in
-    refuses-cond Layers (equalCounts (plot .tiles)) _ _ (refuses-map Layers _ _ (judgeLayers-refusals (layerOf S s) plotBoards (S .freeCount s))) (refuses-one Layers 7 (omega arith, omega arith))
+    let at = layer eqb (childrenAt (plot .board) (plot .tiles)) (marks (plot .board)) in
+    refuses-cond Layers (equalCounts (plot .tiles)) _ _
+    (refuses-map Layers _ _ (judgeLayers-refusals at plotBoards (freeCountAt (plot .board) (marks (plot .board))))) (refuses-one Layers 7 (omega arith, omega arith))
 
 -- and a graph by 7, 8, 9 or 10.
 pub graph-refusals : (plot : Plot) (n : ℕ) → plotGraph plot ≡ refused n → (7 ≤ n) × (n ≤ 10)
 unfolding plotGraph withEqualTiles judgeGraph
 graph-refusals plot =
-    let g = graphOf (setting (plot .board) (plot .tiles)) (marks (plot .board)) in
+    let g = graphOf (plot .board) (plot .tiles) in
     refuses-cond Graphs (equalCounts (plot .tiles)) _ _
     (refuses-cond Graphs (leb (length (g .nodes)) plotNodes) _ _
     (refuses-cond Graphs (leb (length (g .edges)) plotEdges) _ _

@@ -1,9 +1,15 @@
 -- Examples: the text of some files, byte for byte; the first is 01's. Rests on `Report`. Assumes nothing.
 use mathlib.Core.Path.{_≡_, refl}
-use mathlib.Core.List.{[], _∷_}
+use mathlib.Core.List.{[], _∷_, _++_, map}
+use mathlib.Core.Option.{some}
+use Prim.Native.Nat.{ℕ}
+use lib.ListN.{replicate}
+use Rattle.cells.specs.Lists.{padded}
 use Rattle.direction.specs.Direction.{step, rotate, reflect}
-use Rattle.plot_file.specs.Ascii.{ascii}
-use Rattle.report.specs.Report.{report}
+use Rattle.plot_file.specs.PlotFile.{ascii, Plot}
+use Rattle.layers.specs.LayerCounts.{layerCountFor}
+use Rattle.tiler.specs.Graphs.{Graph, graphFor}
+use Rattle.report.specs.Report.{withEqualTiles, plotLayers, plotGraph, listed, digits, decimal, graphLine, report, WritesReport}
 
 -- "For hexadecimal 52 42 02 02 4F 52 01 03 45 4E it prints exactly": the marks are RB, OR and EN
 pub worked-example : report (0x52 ∷ 0x42 ∷ 2 ∷ 2 ∷ 0x4F ∷ 0x52 ∷ 1 ∷ 3 ∷ 0x45 ∷ 0x4E ∷ [])
@@ -37,3 +43,44 @@ pub l-board : report (0x4C ∷ 0x42 ∷ 3 ∷ 1 ∷ 0x4F ∷ 0x52 ∷ 1 ∷ 3 �
     ≡ ascii "board 3 2 free 4\ntiles 4\nlayers 1\ngraph 1 nodes 3 edges 2\ntiling 0: 0 1 2\n"
 unfolding report ascii step rotate reflect
 l-board = refl
+
+-- ---- the parts of a line
+
+-- the decimal digits of numbers of one digit and more
+decimals : map decimal (0 ∷ 9 ∷ 10 ∷ 11 ∷ 99 ∷ 1024 ∷ []) ≡ ascii "0" ∷ ascii "9" ∷ ascii "10" ∷ ascii "11" ∷ ascii "99" ∷ ascii "1024" ∷ []
+unfolding decimal ascii
+decimals = refl
+
+-- the largest count has 20 digits; where one digit is asked for it is the last
+some-digits : (digits 19 18446744073709551615 ≡ ascii "18446744073709551615") × (digits 0 19 ≡ ascii "9")
+unfolding digits ascii
+some-digits = (refl, refl)
+
+-- a graph of three nodes, two counts and one edge, whose full node has so many paths
+abbrev graph : ℕ → Graph
+graph n = record { nodes = 0 ∷ 1 ∷ 3 ∷ []; counts = 1 ∷ n ∷ []; edges = (0, 1) ∷ []; complete = some 1 }
+
+-- its line: "graph count, nodes, edges"
+its-line : graphLine (graph 17) ≡ ascii "graph 17 nodes 3 edges 1\n"
+unfolding graphLine ascii
+its-line = refl
+
+-- "the first 16 tilings, or all if there are fewer"
+first-16 : map (λ n. listed (graph n)) (20 ∷ 16 ∷ 3 ∷ 0 ∷ []) ≡ 16 ∷ 16 ∷ 3 ∷ 0 ∷ []
+unfolding listed
+first-16 = refl
+
+-- "512 boards a layer, 1,024 nodes, 4,096 edges": which room is which, of every plot
+rooms : (plot : Plot) → (plotLayers plot ≡ withEqualTiles plot (layerCountFor (plot .board) (plot .tiles) 512)) × (plotGraph plot ≡ withEqualTiles plot (graphFor (plot .board) (plot .tiles) 1024 4096))
+unfolding plotLayers plotGraph
+rooms plot = (refl, refl)
+
+-- ---- what `write_report` leaves in bytes that held 7: the text, zeros behind; as much as there is room for
+
+left : WritesReport [] (replicate 12 7) (ascii "refused 1\n" ++ 0 ∷ 0 ∷ []) 10
+unfolding report ascii padded
+left = record { bytes = refl; number = refl }
+
+left-cut : WritesReport [] (replicate 3 7) (ascii "ref") 3
+unfolding report ascii padded
+left-cut = record { bytes = refl; number = refl }

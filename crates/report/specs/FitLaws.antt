@@ -8,7 +8,7 @@ use native.Mathlib.Nat.{lt-of-lt-of-le, le-trans}
 use native.Mathlib.Omega.{arith}
 use lib.Dec.{lit≤}
 use lib.ListN.{length, length-append}
-use Rattle.cells.specs.Arrays.{listOf}
+use Rattle.cells.specs.Lists.{listOf}
 use Rattle.cells.specs.ArrayLaws.{length-listOf}
 use Rattle.cells.specs.MemberLaws.{mem-listOf}
 use Rattle.refusal.specs.Refusal.{Answer, refused, given}
@@ -17,13 +17,17 @@ use Rattle.rectangle.specs.FreeLaws.{free-le}
 use Rattle.rectangle.specs.BoardLaws.{valid-width, valid-height}
 use Rattle.tiler.specs.Graphs.{Graph, countOfGraph, nodeListOf}
 use Rattle.tiler.specs.NumberLaws.{graph-count-small, list-below}
-use Rattle.plot_file.specs.Ascii.{ascii}
-use Rattle.plot_file.specs.PlotFile.{Plot}
-use Rattle.report.specs.Report.{plotLayers, plotGraph, listed, decimal, field, feed, refusedLine, boardLine, tilesLine, layersLine, graphLine, tilingLine, graphLines, plotLines, longestText}
+use Rattle.plot_file.specs.PlotFile.{ascii, Plot}
+use Rattle.report.specs.Report.{plotLayers, plotGraph, listed, decimal, field, feed, refusedLine, boardLine, tilesLine, layersLine, graphLine, tilingLine, graphLines, plotLines}
 use Rattle.report.specs.DecimalLaws.{decimal-length}
 use Rattle.report.specs.CountLaws.{layers-refusals, graph-refusals}
 use Rattle.report.specs.BuiltLaws.{list-short}
 use Rattle.report.specs.PlotLaws.{AcceptedPlot, layers-fit, of-graph, nodes-few, edges-few}
+
+-- no text has more bytes: the board's line has at most 21, the tiles' 9, the layers' 28, the graph's 49, and each of 16 tiling lines 1,296
+-- ("tiling ", two digits, ":", 257 times a blank and four digits, and the line feed)
+abbrev pub longestText : ℕ
+longestText = 20843
 
 -- ---- numbers and fields
 

@@ -10,20 +10,19 @@ use Rattle.cells.specs.ArrayLaws.{length-listOf}
 use Rattle.tiles.specs.declared.Tiles.{Tiles}
 use Rattle.refusal.specs.Refusal.{Answer, refused, given, mapAnswer, bindAnswer, valueOr}
 use Rattle.tile.specs.Path.{Path}
-use Rattle.tiles.specs.Paths.{equalCounts}
-use Rattle.tiles.specs.Stored.{pathAt, pathsIn}
+use Rattle.tiles.specs.Paths.{equalCounts, pathAt, pathsIn}
 use Rattle.tiles.specs.ReadLaws.{readTiles-sound}
 use Rattle.tiles.specs.EqualLaws.{readEqualTiles-equal, readEqualTiles-unequal}
 use Rattle.board.specs.declared.RectangularBoard.{RectangularBoard}
 use Rattle.rectangle.specs.Board.{Board, freeCount}
 use Rattle.board.specs.Board.{boardOf, readBoard}
 use Rattle.board.specs.BoardLaws.{readBoard-is}
-use Rattle.path_count.specs.PathCounts.{countSpan}
-use Rattle.graph.specs.Rooms.{layerRoom, edgeRoom, plotBoards, plotNodes, plotEdges}
+use Rattle.path_count.specs.Inner.{countSpan}
+use Rattle.graph.specs.Graph.{layerRoom, edgeRoom, plotBoards, plotNodes, plotEdges}
 use Rattle.graph.specs.RoomLaws.{layer-room-plot, node-room-plot}
 use Rattle.layers.specs.declared.Count.{Count}
-use Rattle.expansion.specs.Plots.{readPlot}
-use Rattle.layers.specs.LayerCounts.{layersOf, countTilings, countAnswer, CountsTilings}
+use Rattle.expansion.specs.Plots.{acceptPlot}
+use Rattle.layers.specs.LayerCounts.{layerCountFor, countTilings, countAnswer, CountsTilings}
 use Rattle.tiler.specs.Graphs.{Graph, graphFor, generateGraph}
 use Rattle.plot_file.specs.PlotFile.{Plot}
 use Rattle.report.specs.Report.{withEqualTiles, plotLayers, plotGraph}
@@ -55,12 +54,12 @@ module _ (plot : Plot) (board : RectangularBoard) (tiles : Tiles) (h : HoldsPlot
   -- ---- what is counted
 
   -- board and tiles as the calls read them: refusal 7 where two tiles have different numbers of cells
-  plot-equal : equalCounts (plot .tiles) ≡ true → readPlot board tiles ≡ given (plot .board, plot .tiles)
-  unfolding readPlot bindAnswer mapAnswer
+  plot-equal : equalCounts (plot .tiles) ≡ true → acceptPlot board tiles ≡ given (plot .board, plot .tiles)
+  unfolding acceptPlot bindAnswer mapAnswer
   plot-equal e = rw (h .boardIs, readEqualTiles-equal tiles (plot .tiles) (h .tilesAre) e)
 
-  plot-unequal : equalCounts (plot .tiles) ≡ false → readPlot board tiles ≡ refused 7
-  unfolding readPlot bindAnswer mapAnswer
+  plot-unequal : equalCounts (plot .tiles) ≡ false → acceptPlot board tiles ≡ refused 7
+  unfolding acceptPlot bindAnswer mapAnswer
   plot-unequal e = rw (h .boardIs, readEqualTiles-unequal tiles (plot .tiles) (h .tilesAre) e)
 
   -- the layer count of the calls is the plot's,
@@ -69,23 +68,23 @@ module _ (plot : Plot) (board : RectangularBoard) (tiles : Tiles) (h : HoldsPlot
   held-layers = go (equalCounts (plot .tiles)) refl
     where
       answer : Board × List Path → Answer ℕ
-      answer p = layersOf (p .0) (p .1) plotBoards
+      answer p = layerCountFor (p .0) (p .1) plotBoards
 
       go : (t : Bool) → equalCounts (plot .tiles) ≡ t
-          → bindAnswer (readPlot board tiles) answer ≡ cond (equalCounts (plot .tiles)) (answer (plot .board, plot .tiles)) (refused 7)
+          → bindAnswer (acceptPlot board tiles) answer ≡ cond (equalCounts (plot .tiles)) (answer (plot .board, plot .tiles)) (refused 7)
       go true e = ap (λ a. bindAnswer a answer) (plot-equal e) ∙ sym (ap (λ t. cond t (answer (plot .board, plot .tiles)) (refused 7)) e)
       go false e = ap (λ a. bindAnswer a answer) (plot-unequal e) ∙ sym (ap (λ t. cond t (answer (plot .board, plot .tiles)) (refused 7)) e)
 
   -- and so is the graph
   pub held-graph : generateGraph board tiles (4 * plotNodes) (countSpan plotNodes) (2 * plotEdges) ≡ plotGraph plot
   unfolding generateGraph plotGraph withEqualTiles bindAnswer edgeRoom
-  held-graph = ap (λ (n : ℕ). bindAnswer (readPlot board tiles) (λ p. graphFor (p .0) (p .1) n plotEdges)) node-room-plot ∙ go (equalCounts (plot .tiles)) refl
+  held-graph = ap (λ (n : ℕ). bindAnswer (acceptPlot board tiles) (λ p. graphFor (p .0) (p .1) n plotEdges)) node-room-plot ∙ go (equalCounts (plot .tiles)) refl
     where
       answer : Board × List Path → Answer Graph
       answer p = graphFor (p .0) (p .1) plotNodes plotEdges
 
       go : (t : Bool) → equalCounts (plot .tiles) ≡ t
-          → bindAnswer (readPlot board tiles) answer ≡ cond (equalCounts (plot .tiles)) (answer (plot .board, plot .tiles)) (refused 7)
+          → bindAnswer (acceptPlot board tiles) answer ≡ cond (equalCounts (plot .tiles)) (answer (plot .board, plot .tiles)) (refused 7)
       go true e = ap (λ a. bindAnswer a answer) (plot-equal e) ∙ sym (ap (λ t. cond t (answer (plot .board, plot .tiles)) (refused 7)) e)
       go false e = ap (λ a. bindAnswer a answer) (plot-unequal e) ∙ sym (ap (λ t. cond t (answer (plot .board, plot .tiles)) (refused 7)) e)
 

@@ -6,12 +6,12 @@ use Prim.Native.Nat.{ℕ, _+_, _-_, _≤_, _<_, min}
 use lib.ListN.{length, take, drop}
 use Rattle.tiles.specs.declared.Tiles.{Tiles}
 use Rattle.refusal.specs.Refusal.{given}
-use Rattle.tiles.specs.Stored.{readTiles}
+use Rattle.tiles.specs.Paths.{readTiles}
 use Rattle.board.specs.declared.RectangularBoard.{RectangularBoard}
 use Rattle.board.specs.Board.{readBoard}
 use Rattle.graph.specs.declared.GraphResult.{GraphResult}
-use Rattle.graph.specs.Result.{completeNode, countFromGraph}
-use Rattle.numbered_tilings.specs.Tilings.{badGraph, nodeList}
+use Rattle.graph.specs.Graph.{completeNode, countFromGraph}
+use Rattle.numbered_tilings.specs.Tilings.{badGraph, nodeListIn}
 use Rattle.tiler.specs.Graphs.{Graph, countOfGraph, nodeListOf}
 use Rattle.plot_file.specs.PlotFile.{Plot}
 
@@ -39,5 +39,5 @@ pub record Built (g : Graph) (r : GraphResult) (nodes counts edges : List ℕ) :
   pub edgeNumber : r .edges ≡ length (g .edges)
   pub count : countFromGraph (completeNode (r .complete)) counts ≡ countOfGraph g
   pub sound : badGraph r (length nodes) counts edges ≡ false
-  pub list : (m : ℕ) → m < countOfGraph g → nodeList r counts edges m ≡ nodeListOf g m
+  pub list : (m : ℕ) → m < countOfGraph g → nodeListIn r counts edges m ≡ nodeListOf g m
   pub short : (m : ℕ) → m < countOfGraph g → length (nodeListOf g m) ≤ 257

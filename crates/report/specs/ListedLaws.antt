@@ -7,8 +7,8 @@ use Prim.Native.Nat.{ℕ, _+_, _≤_, _<_, min}
 use native.Mathlib.Omega.{arith}
 use lib.ListN.{length, take}
 use lib.Seq.{length-take-le}
-use Rattle.cells.specs.Arrays.{listOf}
-use Rattle.cells.specs.ArrayLaws.{listOf-snoc}
+use Rattle.cells.specs.Lists.{listOf}
+use Rattle.cells.specs.ArrayLaws.{listOf-snoc, length-padded}
 use Rattle.cells.specs.MemberLaws.{flatMap-snoc}
 use Rattle.refusal.specs.declared.Refusal.{Refusal}
 use Rattle.refusal.specs.Refusal.{given, refusalNumber}
@@ -16,8 +16,7 @@ use Rattle.refusal.specs.RefusalLaws.{refused-given, given-inj}
 use Rattle.graph.specs.declared.GraphResult.{GraphResult}
 use Rattle.numbered_tilings.specs.declared.Tiling.{Tiling}
 use Rattle.numbered_tilings.specs.declared.Tiling.the-variants as T
-use Rattle.numbered_tilings.specs.Tilings.{nodeList, tilingAnswer, GivesTiling}
-use Rattle.graph.specs.GraphLaws.{length-numbersFor}
+use Rattle.numbered_tilings.specs.Tilings.{nodeListIn, tilingAnswer, GivesTiling}
 use Rattle.numbered_tilings.specs.TilingLaws.{told-tiling, list-read}
 use Rattle.tiler.specs.Graphs.{Graph, countOfGraph, nodeListOf}
 use Rattle.report.specs.Report.{listed, tilingLine}
@@ -25,16 +24,16 @@ use Rattle.report.specs.Inner.{Puts, Built}
 use Rattle.report.specs.TextLaws.{puts-append, puts-as}
 
 -- what is given of equal numbers is the same
-pub gives-same : {r : GraphResult} {nodes counts edges : List ℕ} {k m : ℕ} {out out′ : List ℕ} {t : Tiling} → k ≡ m
+pub gives-same : (r : GraphResult) (nodes counts edges : List ℕ) (k m : ℕ) (out out′ : List ℕ) (t : Tiling) → k ≡ m
     → GivesTiling r nodes counts edges k out out′ t → GivesTiling r nodes counts edges m out out′ t
-gives-same {r} {nodes} {counts} {edges} {k} {m} {out} {out′} {t} e g = subst (λ (n : ℕ). GivesTiling r nodes counts edges n out out′ t) e g
+gives-same r nodes counts edges k m out out′ t e g = subst (λ (n : ℕ). GivesTiling r nodes counts edges n out out′ t) e g
 
-module _ {r : GraphResult} {nodes counts edges : List ℕ} {m : ℕ} {out out′ : List ℕ} {t : Tiling} (gives : GivesTiling r nodes counts edges m out out′ t) where
+module _ (r : GraphResult) (nodes counts edges : List ℕ) (m : ℕ) (out out′ : List ℕ) (t : Tiling) (gives : GivesTiling r nodes counts edges m out out′ t) where
   -- a list that is given is not longer than the output,
   pub told-short : (n : ℕ) → t ≡ T.Length n → n ≤ length out′
   told-short n e =
       let w = told-tiling r (length nodes) counts edges m (length out) n (sym (gives .answer) ∙ ap tilingAnswer e) in
-      let long : length out′ ≡ length out = ap length (gives .words) ∙ simp length-numbersFor in
+      let long : length out′ ≡ length out = ap length (gives .words) ∙ simp length-padded in
       omega (arith, w .2, w .3)
 
   -- so that many words of it can be read
@@ -42,7 +41,7 @@ module _ {r : GraphResult} {nodes counts edges : List ℕ} {m : ℕ} {out out′
   told-long n e = sym (length-take-le n out′ (told-short n e))
 
   module _ {g : Graph} (built : Built g r nodes counts edges) (below : m < countOfGraph g) (long : length out ≡ 257) where
-    read-list : (tilingAnswer t ≡ given (length (nodeList r counts edges m))) × (take (length (nodeList r counts edges m)) out′ ≡ nodeList r counts edges m)
+    read-list : (tilingAnswer t ≡ given (length (nodeListIn r counts edges m))) × (take (length (nodeListIn r counts edges m)) out′ ≡ nodeListIn r counts edges m)
     read-list =
         list-read r nodes counts edges m out out′ t gives (built .sound) (omega (arith, built .count))
         (omega (arith, ap length (built .list m below), built .short m below))
@@ -50,12 +49,12 @@ module _ {r : GraphResult} {nodes counts edges : List ℕ} {m : ℕ} {out out′
     -- of a graph that is built it is the graph's
     pub told-list : (n : ℕ) → t ≡ T.Length n → take n out′ ≡ nodeListOf g m
     told-list n e =
-        let size = given-inj (length (nodeList r counts edges m)) n (sym (read-list .0) ∙ ap tilingAnswer e) in
+        let size = given-inj (length (nodeListIn r counts edges m)) n (sym (read-list .0) ∙ ap tilingAnswer e) in
         ap (λ (k : ℕ). take k out′) (sym size) ∙ read-list .1 ∙ built .list m below
 
     -- and it is not refused
     pub told-given : (x : Refusal) → t ≡ T.Refused x → ⊥
-    told-given x e = refused-given (refusalNumber x) (length (nodeList r counts edges m)) (sym (ap tilingAnswer e) ∙ read-list .0)
+    told-given x e = refused-given (refusalNumber x) (length (nodeListIn r counts edges m)) (sym (ap tilingAnswer e) ∙ read-list .0)
 
 -- ---- the lines of the tilings
 

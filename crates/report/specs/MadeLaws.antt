@@ -4,7 +4,7 @@ use mathlib.Core.Path.{_≡_, sym, ap, ap₂, _∙_}
 use mathlib.Core.List.{List, _++_}
 use Prim.Native.Nat.{ℕ, _*_}
 use lib.ListN.{length}
-use Rattle.cells.specs.Words.{Sound}
+use Rattle.cells.specs.Set.{Sound}
 use Rattle.tiles.specs.declared.Tiles.{Tiles}
 use Rattle.refusal.specs.declared.Refusal.{Refusal}
 use Rattle.refusal.specs.declared.Verdict.the-variants as Verdicts
@@ -13,10 +13,9 @@ use Rattle.refusal.specs.RefusalLaws.{refused-of}
 use Rattle.board.specs.declared.RectangularBoard.{RectangularBoard}
 use Rattle.rectangle.specs.Board.{Board, freeCount}
 use Rattle.board.specs.Board.{readBoard}
-use Rattle.path_count.specs.PathCounts.{countSpan}
+use Rattle.path_count.specs.Inner.{countSpan}
 use Rattle.graph.specs.declared.GraphResult.{GraphResult}
-use Rattle.graph.specs.Rooms.{plotNodes, plotEdges}
-use Rattle.graph.specs.Result.{completeNode, countFromGraph}
+use Rattle.graph.specs.Graph.{plotNodes, plotEdges, completeNode, countFromGraph}
 use Rattle.tiler.specs.declared.MadeGraph.{MadeGraph}
 use Rattle.tiler.specs.Graphs.{Graph, generateGraph, GeneratesGraph}
 use Rattle.tiler.specs.AnswerLaws.{given-graph}

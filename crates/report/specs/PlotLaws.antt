@@ -7,26 +7,28 @@ use mathlib.Core.List.{List}
 use Prim.Native.Nat.{ℕ, _*_, _^_, _≤_, _<_}
 use lib.Dec.{lit<}
 use lib.ListN.{length}
-use Rattle.cells.specs.Words.{Sound}
+use Rattle.cells.specs.Set.{Sound}
 use Rattle.cells.specs.WordLaws.{sound-cellsOf}
 use Rattle.tiles.specs.declared.Tiles.{Tiles}
 use Rattle.refusal.specs.Refusal.{given}
 use Rattle.tile.specs.Path.{Path}
-use Rattle.tiles.specs.Stored.{pathsIn, Storable, tilesOf}
+use Rattle.tiles.specs.Paths.{pathsIn, tilesOf}
+use Rattle.tiles.specs.Inner.{Storable}
 use Rattle.tiles.specs.StoredLaws.{readTiles-tilesOf}
 use Rattle.board.specs.declared.RectangularBoard.{RectangularBoard}
 use Rattle.rectangle.specs.Board.{Board, valid}
 use Rattle.board.specs.Board.{boardOf}
 use Rattle.board.specs.BoardLaws.{structOf, board-struct, readBoard-given}
-use Rattle.covers.specs.Cuttings.{Exactly, Numbering}
-use Rattle.graph.specs.Rooms.{edgeRoom, plotBoards, plotNodes, plotEdges}
-use Rattle.layers.specs.CountLaws.{layers-small}
-use Rattle.path_count.specs.PathCounts.{countLimit, countSpan}
+use Rattle.covers.specs.Counts.{Exactly, Numbering}
+use Rattle.graph.specs.Graph.{edgeRoom, plotBoards, plotNodes, plotEdges}
+use Rattle.layers.specs.CountLaws.{layers-small, count-cuttings}
+use Rattle.path_count.specs.PathCounts.{countLimit}
+use Rattle.path_count.specs.Inner.{countSpan}
 use Rattle.layers.specs.LayerCounts.{countTilings}
-use Rattle.tiler.specs.Graphs.{Graph, countOfGraph, cuttingOf, generateGraph}
-use Rattle.expansion.specs.Cuttings.{IsCutting, HasFreeCell, AllEdgeJoined}
+use Rattle.tiler.specs.Graphs.{Graph, countOfGraph, generateGraph}
+use Rattle.tiler.specs.Inner.{markedPiecesOf}
+use Rattle.expansion.specs.Plots.{IsCutting, HasFreeCell, AllEdgeJoined}
 use Rattle.tiler.specs.GivenLaws.{graph-room}
-use Rattle.layers.specs.CountLaws.{count-cuttings}
 use Rattle.tiler.specs.NumberLaws.{lists-number-cuttings}
 use Rattle.tiler.specs.Theorems.{counts-agree}
 use Rattle.plot_file.specs.PlotFile.{Plot}
@@ -111,7 +113,7 @@ module _ (plot : Plot) (ok : AcceptedPlot plot) where
     counts-same n q = counts-agree b fixed laid ts plotBoards n (told n q) (4 * plotNodes) (countSpan plotNodes) (2 * plotEdges) g made
 
     pub lists-cuttings : HasFreeCell (plot .board) → AllEdgeJoined (plot .tiles)
-        → Numbering (IsCutting (plot .board) (plot .tiles)) (countOfGraph g) (cuttingOf g)
+        → Numbering (IsCutting (plot .board) (plot .tiles)) (countOfGraph g) (markedPiecesOf g)
     lists-cuttings free joined =
-        of-plot (λ d paths. Numbering (IsCutting d paths) (countOfGraph g) (cuttingOf g))
+        of-plot (λ d paths. Numbering (IsCutting d paths) (countOfGraph g) (markedPiecesOf g))
         (lists-number-cuttings b fixed laid ts (4 * plotNodes) (countSpan plotNodes) (2 * plotEdges) g made (free-struct free) (joined-struct joined))

@@ -6,16 +6,15 @@ use mathlib.Core.List.{List, [], _∷_, _++_, flatMap}
 use Prim.Native.Nat.{ℕ, zero, suc, _+_, _/_, _%_, min}
 use Prim.Native.String.{String}
 use lib.Dec.{ltb}
-use lib.ListN.{length, take, drop}
-use Rattle.cells.specs.Arrays.{listOf}
+use lib.ListN.{length}
+use Rattle.cells.specs.Lists.{listOf, padded}
 use Rattle.refusal.specs.Refusal.{Answer, refused, given}
 use Rattle.tiles.specs.Paths.{equalCounts}
 use Rattle.rectangle.specs.Board.{freeCount}
-use Rattle.graph.specs.Rooms.{plotBoards, plotNodes, plotEdges}
-use Rattle.layers.specs.LayerCounts.{layersOf}
+use Rattle.graph.specs.Graph.{plotBoards, plotNodes, plotEdges}
+use Rattle.layers.specs.LayerCounts.{layerCountFor}
 use Rattle.tiler.specs.Graphs.{Graph, countOfGraph, graphFor, nodeListOf}
-use Rattle.plot_file.specs.Ascii.{ascii}
-use Rattle.plot_file.specs.PlotFile.{Plot, plotIn}
+use Rattle.plot_file.specs.PlotFile.{ascii, Plot, plotIn}
 
 -- ---- what is counted
 
@@ -26,8 +25,8 @@ withEqualTiles plot answer = cond (equalCounts (plot .tiles)) answer (refused 7)
 
 -- the program "lends 512 boards a layer,"
 unfoldable pub plotLayers : Plot → Answer ℕ
-unfolding withEqualTiles layersOf
-plotLayers plot = withEqualTiles plot (layersOf (plot .board) (plot .tiles) plotBoards)
+unfolding withEqualTiles layerCountFor
+plotLayers plot = withEqualTiles plot (layerCountFor (plot .board) (plot .tiles) plotBoards)
 
 -- "1,024 nodes, 4,096 edges,"
 unfoldable pub plotGraph : Plot → Answer Graph
@@ -47,6 +46,7 @@ unfoldable pub digits : ℕ → ℕ → List ℕ
 digits zero n = (48 + n % 10) ∷ []
 digits (suc k) n = cond (ltb n 10) ((48 + n) ∷ []) (digits k (n / 10) ++ (48 + n % 10) ∷ [])
 
+-- the decimal digits of a number
 unfoldable pub decimal : ℕ → List ℕ
 unfolding digits
 decimal n = digits n n
@@ -104,6 +104,7 @@ graphLines (given g) = graphLine g ++ flatMap (tilingLine g) (listOf (λ m. m) (
 
 -- ---- the text
 
+-- the lines of a plot
 unfoldable pub plotLines : Plot → List ℕ
 unfolding boardLine tilesLine layersLine plotLayers graphLines plotGraph
 plotLines plot = boardLine plot ++ tilesLine plot ++ layersLine (plotLayers plot) ++ graphLines (plotGraph plot)
@@ -121,13 +122,8 @@ report file = linesFor (plotIn file)
 
 -- ---- the answer of the code
 
--- `write_report`: as much of the text as there is room for stands in front of the lent bytes, and behind it what stood there; the number of its bytes comes back.
+-- `write_report`: as much of the text as there is room for stands in front of the lent bytes, zeros behind; the number of bytes put comes back.
 -- The program's bytes hold every text (`report-fits`)
 pub record WritesReport (file out out′ : List ℕ) (r : ℕ) : Type 0 where
-  pub bytes : out′ ≡ take (length out) (report file) ++ drop (length (report file)) out
-  pub length : r ≡ min (length out) (length (report file))
-
--- no text has more bytes: the board's line has at most 21, the tiles' 9, the layers' 28, the graph's 49, and each of 16 tiling lines 1,296
--- ("tiling ", two digits, ":", 257 times a blank and four digits, and the line feed)
-abbrev pub longestText : ℕ
-longestText = 20843
+  pub bytes : out′ ≡ padded (report file) (length out)
+  pub number : r ≡ min (length out) (length (report file))

@@ -1,14 +1,20 @@
 -- Laws of texts in lent bytes (`written`, `Puts`): the bytes keep their number, two texts put one behind the other are their join, and a text put in
--- front is what `WritesReport` says. Rests on `Inner` and `lib.Seq`. Assumes nothing.
+-- front, with the bytes behind it cleared, is what `WritesReport` says. Rests on `Inner` and `lib.Seq`. Assumes nothing.
 use mathlib.Core.Path.{_≡_, refl, sym, ap, _∙_, subst}
+use mathlib.Core.Bool.{cond}
 use mathlib.Core.List.{List, [], _∷_, _++_, flatMap, append-assoc}
 use Prim.Native.Nat.{ℕ, _+_, _-_, _≤_, _<_, min}
-use native.Mathlib.Nat.{sub-zero, zero-add}
+use native.Mathlib.Nat.{sub-zero}
 use native.Mathlib.Numerals.{add-one}
 use native.Mathlib.Decide.{decLt}
 use native.Mathlib.Omega.{arith}
-use lib.ListN.{length, getD, set, take, drop, length-append, length-take, length-drop, length-set, List·getD-append}
+use borrow.Author.Tests.{lt-ltb, le-ltb}
+use lib.Dec.{ltb}
+use lib.ListN.{length, getD, set, take, drop, length-append, length-take, length-drop, length-set, List·getD-append, List·getD-eq-default}
 use lib.Seq.{take-suc, getD-append-add, getD-take, getD-drop, getD-set-same, getD-set-other, ext-getD}
+use Rattle.cells.specs.Lists.{listOf, padded}
+use Rattle.cells.specs.Parts.{clearedFrom}
+use Rattle.cells.specs.ArrayLaws.{listOf-ext}
 use Rattle.cells.specs.MemberLaws.{flatMap-snoc}
 use Rattle.report.specs.Report.{report, WritesReport}
 use Rattle.report.specs.Inner.{written, Puts}
@@ -174,18 +180,24 @@ pub puts-join : {out : List ℕ} {at : ℕ} {s : List ℕ} (t u : List ℕ) {mid
     → Puts out at ((s ++ t) ++ u) out′ q
 puts-join {s = s} t u inside f g = puts-as (sym (append-assoc s t u)) (puts-append inside f g)
 
--- ---- a text in front of the bytes
+-- ---- a text in front of the bytes, and the bytes behind it cleared
 
-pub puts-front-bytes : {out text out′ : List ℕ} {r : ℕ} → Puts out 0 text out′ r → out′ ≡ take (length out) text ++ drop (length text) out
-unfolding written
-puts-front-bytes {out} {text} p = p .bytes ∙ rw (sub-zero (length out), zero-add (length text))
-
-pub puts-front-next : {out text out′ : List ℕ} {r : ℕ} → Puts out 0 text out′ r → r ≡ min (length out) (length text)
-puts-front-next p = omega (arith, p .next)
-
--- the text for a file
-pub puts-report : {file out out′ : List ℕ} {r : ℕ} → Puts out 0 (report file) out′ r → WritesReport file out out′ r
-puts-report p = record { bytes = puts-front-bytes p; length = puts-front-next p }
+pub puts-cleared : {file out mid out′ : List ℕ} {r : ℕ} → Puts out 0 (report file) mid r → out′ ≡ clearedFrom r mid → WritesReport file out out′ r
+unfolding clearedFrom padded
+puts-cleared {file} {out} {mid} {out′} {r} p e =
+    record {
+      bytes =
+          e
+          ∙ ap (listOf (λ k. cond (ltb k r) (getD mid k 0) 0)) (puts-length (omega arith) p)
+          ∙ listOf-ext (λ k. cond (ltb k r) (getD mid k 0) 0) (λ k. getD (report file) k 0) (length out) (λ k h. go k h (decLt k r));
+      number = omega (arith, p .next);
+    }
+  where
+    go : (k : ℕ) → k < length out → Dec (k < r) → cond (ltb k r) (getD mid k 0) 0 ≡ getD (report file) k 0
+    go k h (yes a) =
+        rw (lt-ltb k r a)
+        (ap (λ (bs : List ℕ). getD bs k 0) (p .bytes) ∙ written-in out 0 (report file) (omega arith) k (omega arith) (omega (arith, p .next)) h ∙ ap (λ (i : ℕ). getD (report file) i 0) (sub-zero k))
+    go k h (no a) = rw (le-ltb k r (omega arith)) (sym (List·getD-eq-default (report file) 0 {n = k} (omega (arith, p .next))))
 
 -- ---- loops over parts of a text
 

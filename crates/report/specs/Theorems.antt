@@ -2,26 +2,26 @@
 -- cuttings, that its two counts agree, and what its tiling lines list. The text is `report` of `Report`; its examples are in `Examples`. Each is said here
 -- in words and proved in `CountLaws`, `BuiltLaws`, `FitLaws`, `PlotLaws` or tiler's `NumberLaws`. What stands in quotation marks is 01's. Assumes nothing.
 use mathlib.Core.Path.{_≡_, refl, ap, ap₂, _∙_}
-use mathlib.Core.List.{List, [], _∷_, _++_, List·Memᴰ as Mem}
+use mathlib.Core.List.{List, [], _∷_, List·Memᴰ as Mem}
 use mathlib.Core.Option.{some}
-use Prim.Native.Nat.{ℕ, _≤_, _<_, min}
+use Prim.Native.Nat.{ℕ, _≤_, _<_}
 use native.Mathlib.Omega.{arith}
-use lib.ListN.{length, take, drop}
-use lib.Seq.{take-all, take-append-seam}
+use lib.ListN.{length, take}
 use Rattle.refusal.specs.Refusal.{Answer, refused, given}
-use Rattle.covers.specs.Cuttings.{Exactly, Numbering}
-use Rattle.covers.specs.Counts.{Chain}
-use Rattle.tiler.specs.Graphs.{Graph, countOfGraph, nodeListOf, cuttingOf}
-use Rattle.expansion.specs.Cuttings.{IsCutting, HasFreeCell, AllEdgeJoined}
+use Rattle.covers.specs.Counts.{Exactly, Numbering, Chain}
+use Rattle.graph.specs.GraphLaws.{take-padded}
+use Rattle.tiler.specs.Graphs.{Graph, countOfGraph, nodeListOf}
+use Rattle.tiler.specs.Inner.{markedPiecesOf}
+use Rattle.expansion.specs.Plots.{IsCutting, HasFreeCell, AllEdgeJoined}
 use Rattle.tiler.specs.NumberLaws.{list-chain, list-below}
 use Rattle.plot_file.specs.PlotFile.{Plot, plotIn}
 use Rattle.plot_file.specs.Theorems.{refusal-listed, accepted-plot, accepted-fixed, four-thousand-settle}
-use Rattle.report.specs.Report.{plotLayers, plotGraph, listed, linesFor, report, WritesReport, longestText}
+use Rattle.report.specs.Report.{plotLayers, plotGraph, listed, linesFor, report, WritesReport}
+use Rattle.report.specs.FitLaws.{longestText, refused-length, plot-length}
 use Rattle.report.specs.CountLaws as Count
 use Rattle.report.specs.BuiltLaws.{list-short}
 use Rattle.report.specs.PlotLaws as P
 use Rattle.report.specs.PlotLaws.{AcceptedPlot}
-use Rattle.report.specs.FitLaws.{refused-length, plot-length}
 
 -- ---- 1. Refusals
 
@@ -42,17 +42,6 @@ chain-some : (R : ℕ → ℕ → Type 0) (a b : ℕ) (xs : List ℕ) → Chain 
 chain-some R a b [] c = absurd c
 chain-some R a b (x ∷ xs) c = omega arith
 
--- bytes that have room for a text hold all of it
-whole : (text out out′ : List ℕ) (r : ℕ) → length text ≤ longestText → longestText ≤ length out → r ≡ min (length out) (length text)
-    → out′ ≡ take (length out) text ++ drop (length text) out → (r ≡ length text) × (take r out′ ≡ text)
-whole text out out′ r fits room told is =
-    let all : r ≡ length text = omega arith in (
-      all,
-      ap₂ (λ (n : ℕ) (bytes : List ℕ). take n bytes) all
-          (is ∙ ap (λ (l : List ℕ). l ++ drop (length text) out) (take-all (length out) text (omega arith)))
-          ∙ take-append-seam text (drop (length text) out),
-    )
-
 accepted : (file : List ℕ) (plot : Plot) → plotIn file ≡ given plot → AcceptedPlot plot
 accepted file plot is =
     let r = accepted-plot file plot is in record { board = r .0; laid = r .1; fixed = accepted-fixed file plot is; few = r .2; storable = r .3 }
@@ -70,7 +59,9 @@ report-fits file = go (plotIn file) refl
 
 -- So a call with as many bytes leaves the whole text in front of them, and tells its length.
 pub report-whole : (file out out′ : List ℕ) (r : ℕ) → WritesReport file out out′ r → longestText ≤ length out → (r ≡ length (report file)) × (take r out′ ≡ report file)
-report-whole file out out′ r w room = whole (report file) out out′ r (report-fits file) room (w .length) (w .bytes)
+report-whole file out out′ r w room =
+    let all : r ≡ length (report file) = omega (arith, report-fits file, w .number) in
+    (all, ap₂ (λ (n : ℕ) (bytes : List ℕ). take n bytes) all (w .bytes) ∙ take-padded (report file) (length out) (omega (arith, report-fits file)))
 
 -- "4,096 bytes are enough to settle any file": the text is that of the first 4,096 bytes.
 pub report-settled : (file : List ℕ) → report (take 4096 file) ≡ report file
@@ -93,7 +84,7 @@ module _ (file : List ℕ) (plot : Plot) (is : plotIn file ≡ given plot) where
     -- and so is the number behind `graph`.
     pub graph-count-is-cuttings : HasFreeCell (plot .board) → AllEdgeJoined (plot .tiles)
         → Exactly (countOfGraph g) (IsCutting (plot .board) (plot .tiles))
-    graph-count-is-cuttings free joined = (cuttingOf g, P.lists-cuttings plot ok g made free joined)
+    graph-count-is-cuttings free joined = (markedPiecesOf g, P.lists-cuttings plot ok g made free joined)
 
     -- Both numbers agree where neither count is refused, whatever the board and the tiles.
     pub counts-agree : (n : ℕ) → plotLayers plot ≡ given n → countOfGraph g ≡ n
@@ -101,10 +92,10 @@ module _ (file : List ℕ) (plot : Plot) (is : plotIn file ≡ given plot) where
 
     -- ---- 4. The tiling lines
 
-    -- The numbers below the graph's count number the cuttings: the pieces that the steps of the list of a number mark (`cuttingOf`) are a cutting, two numbers
+    -- The numbers below the graph's count number the cuttings: the pieces that the steps of the list of a number mark (`markedPiecesOf`) are a cutting, two numbers
     -- never give the same, and every cutting has its number. So the tiling lines are different cuttings, and all of them where there are at most 16.
     pub tilings-are-cuttings : HasFreeCell (plot .board) → AllEdgeJoined (plot .tiles)
-        → Numbering (IsCutting (plot .board) (plot .tiles)) (countOfGraph g) (cuttingOf g)
+        → Numbering (IsCutting (plot .board) (plot .tiles)) (countOfGraph g) (markedPiecesOf g)
     tilings-are-cuttings = P.lists-cuttings plot ok g made
 
     module _ (m : ℕ) (line : m < listed g) where

@@ -13,23 +13,32 @@ ghost use mathlib.Core.Path.{_≡_};
 ghost use mathlib.Core.List.{flatMap};
 ghost use Prim.Native.Nat.{_≤_, _<_};
 ghost use lib.ListN.{length};
-ghost use Rattle.cells.specs.Arrays.{listOf};
+ghost use Rattle.cells.specs.Lists.{listOf};
 ghost use Rattle.refusal.specs.Refusal.{given, mapAnswer, valueOr};
 ghost use Rattle.rectangle.specs.Board.{freeCount};
 ghost use Rattle.board.specs.Board.{readBoard};
 ghost use Rattle.path_count.specs.PathCounts.{countValue};
 ghost use Rattle.tiler.specs.Graphs.{Graph, countOfGraph};
 ghost use Rattle.plot_file.specs.PlotFile.{Plot};
-ghost use Rattle.report.specs.Report.{listed, layersLine, plotLayers, graphLines, plotGraph, tilingLine, plotLines, WritesReport};
+ghost use Rattle.report.specs.Report.{listed, layersLine, plotLayers, graphLines, plotGraph, tilingLine, plotLines, report, WritesReport};
 ghost use Rattle.report.specs.Inner.{Puts, HoldsPlot, Built};
 
 mod lines;
 mod text;
 
 // The text for a file. As much of it as there is room for stands in front of the lent bytes, and the
-// bytes behind it are as they were; the number of its bytes comes back.
+// bytes behind it are zero; the number of bytes put comes back.
 pub fn write_report(file: &[u8], out: &mut [u8]) -> usize
     ensures { λ r. ⌜ WritesReport (now (file .entry)) (now (out .entry)) (now (out .exit)) r ⌝ }
+{
+    let end = put_report(out, file);
+    text::clear_from(out, end);
+    end
+}
+
+// The text in front of the bytes, and behind it what stood there.
+fn put_report(out: &mut [u8], file: &[u8]) -> usize
+    ensures { λ r. ⌜ Puts (now (out .entry)) 0 (report (now (file .entry))) (now (out .exit)) r ⌝ }
 {
     let plot = plot_file::read_plot(file);
     let verdict = plot.verdict;

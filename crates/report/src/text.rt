@@ -1,10 +1,12 @@
 // Text in lent bytes: a byte, some bytes, a number in decimal digits, put at a place as far as there
-// is room; the place behind what was put comes back. Private helpers; they ask that a place is in
-// the bytes or at their end.
+// is room; the place behind what was put comes back. Private helpers; those that put something ask
+// that a place is in the bytes or at their end.
 use path_count::PathCount;
+ghost use mathlib.Core.Path.{_≡_};
 ghost use mathlib.Core.List.{[], _∷_, _++_};
 ghost use Prim.Native.Nat.{_≤_};
 ghost use lib.ListN.{length};
+ghost use Rattle.cells.specs.Parts.{clearedFrom};
 ghost use Rattle.path_count.specs.PathCounts.{countValue};
 ghost use Rattle.report.specs.Report.{decimal, feed};
 ghost use Rattle.report.specs.Inner.{Puts};
@@ -68,4 +70,15 @@ pub fn put_last(out: &mut [u8], at: usize, words: &[u8], n: u64) -> usize
 {
     let next = put_field(out, at, words, n);
     put_byte(out, next, b'\n')
+}
+
+// Zeros from a byte on.
+pub fn clear_from(out: &mut [u8], at: usize)
+    ensures { λ _. ⌜ now (out .exit) ≡ clearedFrom at (now (out .entry)) ⌝ }
+{
+    let mut i = at;
+    while i < out.len() {
+        out[i] = 0;
+        i += 1;
+    }
 }

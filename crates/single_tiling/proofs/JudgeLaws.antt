@@ -16,8 +16,7 @@ use Rattle.tiles.specs.declared.Tiles.{Tiles}
 use Rattle.tiles.specs.declared.Contains.{Contains}
 use Rattle.tiles.specs.declared.Contains.the-variants as H
 use Rattle.tile.specs.Path.{Path}
-use Rattle.tiles.specs.Paths.{containsSingle}
-use Rattle.tiles.specs.Stored.{pathsIn, readTiles, containsAnswer}
+use Rattle.tiles.specs.Paths.{containsSingle, pathsIn, readTiles, containsAnswer}
 use Rattle.tiles.specs.ReadLaws.{readTiles-accepted}
 use Rattle.board.specs.declared.RectangularBoard.{RectangularBoard}
 use Rattle.board.specs.declared.FreeCells.{FreeCells}

@@ -9,14 +9,13 @@ use native.Mathlib.Omega.{arith}
 use lib.Dec.{eqb}
 use lib.ListN.{getD, take, drop}
 use borrow.Author.Tests.{eqb-true, ne-eqb}
-use Rattle.cells.specs.Words.{value}
+use Rattle.cells.specs.Set.{value}
 use Rattle.cells.specs.ArrayLaws.{getD-listOf}
 use Rattle.refusal.specs.declared.Refusal.{Refusal}
 use Rattle.refusal.specs.Refusal.{given, mapAnswer, refusalNumber}
 use Rattle.refusal.specs.RefusalLaws.{refused-given, given-inj}
 use Rattle.tile.specs.Path.{Path}
-use Rattle.tiles.specs.Paths.{containsSingle}
-use Rattle.tiles.specs.Stored.{pathAt, pathsIn}
+use Rattle.tiles.specs.Paths.{containsSingle, pathAt, pathsIn}
 use Rattle.board.specs.declared.RectangularBoard.{RectangularBoard}
 use Rattle.board.specs.declared.AllMarked.{AllMarked}
 use Rattle.board.specs.declared.AllMarked.the-variants as M
@@ -28,7 +27,8 @@ use Rattle.rectangle.specs.Board.{Board, marks, isFull, valid}
 use Rattle.board.specs.Board.{boardOf, readBoard, allMarkedAnswer}
 use Rattle.choice.specs.Choice.{countOf, chosen, cellWithCount, chosenCount, chosenAnswer}
 use Rattle.children.specs.Children.{pruned}
-use Rattle.fit.specs.Fit.{fitFor, fitIn, fitPieces}
+use Rattle.fit.specs.Inner.{fitFor}
+use Rattle.fit.specs.Parts.{fitIn, fitPieces}
 use Rattle.fit.specs.FitForLaws.{fitIn-is-fitFor}
 use Rattle.board.specs.BoardLaws.{readBoard-given}
 use Rattle.rectangle.specs.BoardLaws.{valid-width}

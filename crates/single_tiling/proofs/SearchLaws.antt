@@ -1,4 +1,4 @@
--- What `walk`, `search` and `get_single_tiling` answer. Rests on `DescentLaws`, `SumLaws`, `TilingLaws` and graph's `GraphLaws`. Assumes nothing.
+-- What `walk`, `search` and `get_single_tiling` answer. Rests on `DescentLaws`, `SumLaws`, `TilingLaws` and cells' `ListLaws`. Assumes nothing.
 use mathlib.Core.Path.{_≡_, refl, sym, ap, _∙_, subst}
 use mathlib.Core.Bool.{Bool, true, false, cond, false≢true}
 use mathlib.Core.List.{List, [], _∷_, _++_, map}
@@ -8,25 +8,23 @@ use native.Mathlib.Nat.{zero-add}
 use native.Mathlib.Omega.{arith}
 use borrow.Author.Tests.{eq-eqb, ne-eqb, le-leb}
 use lib.ListN.{length, getD}
-use Rattle.cells.specs.Words.{Sound}
+use Rattle.cells.specs.Set.{Sound}
 use Rattle.cells.specs.WordLaws.{number-lt}
-use Rattle.cells.specs.Arrays.{listFrom, listOf}
-use Rattle.cells.specs.Lists.{setAt, clearedFrom, wordsFor}
-use Rattle.cells.specs.ListLaws.{cleared-all}
+use Rattle.cells.specs.Lists.{listFrom, listOf, setAt, wordsFor}
+use Rattle.cells.specs.Parts.{clearedFrom}
+use Rattle.cells.specs.ListLaws.{cleared-sets, cleared-all}
 use Rattle.refusal.specs.declared.Refusal.{Refusal}
 use Rattle.refusal.specs.Refusal.{Answer, refused, given, mapAnswer, bindAnswer, refusalNumber, valueOr}
 use Rattle.refusal.specs.RefusalLaws.{refused-given, given-inj, map-refused}
 use Rattle.tiles.specs.declared.Tiles.{Tiles}
 use Rattle.tile.specs.Path.{Path, cellCount}
-use Rattle.tiles.specs.Paths.{containsSingle}
-use Rattle.tiles.specs.Stored.{pathsIn}
+use Rattle.tiles.specs.Paths.{containsSingle, pathsIn}
 use Rattle.tiles.specs.ReadLaws.{readTiles-sound}
 use Rattle.board.specs.declared.RectangularBoard.{RectangularBoard}
 use Rattle.rectangle.specs.Board.{Board, freeCount, isFull}
 use Rattle.board.specs.Board.{boardOf, freeCellsAnswer}
 use Rattle.board.specs.BoardLaws.{readBoard-given}
 use Rattle.rectangle.specs.FreeLaws.{free-le}
-use Rattle.graph.specs.GraphLaws.{cleared-nodes}
 use Rattle.single_tiling.specs.declared.SingleTiling.{SingleTiling}
 use Rattle.single_tiling.specs.declared.SingleTiling.the-variants as S
 use Rattle.board.specs.declared.FreeCells.{FreeCells}
@@ -159,7 +157,7 @@ module _ (b : RectangularBoard) (fixed : Sound (b .fixed)) (laid : Sound (b .lai
             let number : n ≡ length (x ∷ xs) = found-some 0 n (x ∷ xs) (sym e ∙ w .answer ∙ ap (foundAs 0) q) .1 ∙ zero-add (length (x ∷ xs)) in
             let room : 4 * length (x ∷ xs) ≤ length mid = room-is n (length (x ∷ xs)) (length mid) (length old) number long (boards-few n e .0) in
             gets (x ∷ xs) new (S.Boards n) q (ap (λ (k : ℕ). given (some k)) number)
-            (cleared ∙ ap (λ (k : ℕ). clearedFrom (4 * k) mid) number ∙ cleared-nodes mid (x ∷ xs) small room (boards-are (x ∷ xs) q) ∙ ap (wordsFor (x ∷ xs)) long) refl
+            (cleared ∙ ap (λ (k : ℕ). clearedFrom (4 * k) mid) number ∙ cleared-sets mid (x ∷ xs) small room (boards-are (x ∷ xs) q) ∙ ap (wordsFor (x ∷ xs)) long) refl
           where
             boards-are : (ns : List ℕ) → singleOf (boardOf b) (pathsIn ts) ≡ ns → listOf (setAt mid) (length ns) ≡ ns
             boards-are ns q = subst (λ (xs : List ℕ). listOf (setAt mid) (length xs) ≡ xs) q (from-none old mid (singleOf (boardOf b) (pathsIn ts)) (w .boards))

@@ -11,9 +11,8 @@ use borrow.Author.Tests.{le-leb, lt-leb, eq-eqb, ne-eqb}
 use lib.Dec.{eqb, leb}
 use lib.ListN.{length, getD, set, length-set}
 use lib.Seq.{getD-set-same, getD-set-other}
-use Rattle.cells.specs.Arrays.{listOf}
+use Rattle.cells.specs.Lists.{listOf, any}
 use Rattle.cells.specs.ArrayLaws.{getD-listOf}
-use Rattle.cells.specs.Firsts.{any}
 use Rattle.cells.specs.MemberLaws.{mem-listOf}
 use Rattle.refusal.specs.declared.Refusal.{Refusal}
 use Rattle.refusal.specs.Refusal.{mapAnswer}
@@ -21,9 +20,8 @@ use Rattle.tile.specs.declared.Tile.{Tile}
 use Rattle.tiles.specs.declared.Tiles.{Tiles}
 use Rattle.tile.specs.declared.CellCount.{CellCount}
 use Rattle.tile.specs.declared.CellCount.the-variants as C
-use Rattle.tile.specs.Path.{cellCount}
-use Rattle.tile.specs.Stored.{readTile, cellCountAnswer}
-use Rattle.tiles.specs.Stored.{pathAt, pathsIn, tileAt}
+use Rattle.tile.specs.Path.{cellCount, readTile, cellCountAnswer}
+use Rattle.tiles.specs.Paths.{pathAt, pathsIn, tileAt}
 use Rattle.tile.specs.PathLaws.{cellCount-pos}
 use Rattle.tiles.specs.ReadLaws.{tile-count-is, tile-count-refused}
 use Rattle.single_tiling.specs.Inner.{Read, IsSum}

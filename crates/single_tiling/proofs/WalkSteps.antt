@@ -10,22 +10,22 @@ use native.Mathlib.Decide.{decLt}
 use native.Mathlib.Omega.{arith}
 use lib.ListN.{length, getD}
 use Rattle.cells.specs.declared.Cells.{Cells}
-use Rattle.cells.specs.Words.{Sound, value, number}
+use Rattle.cells.specs.Set.{Sound, value, number}
 use Rattle.cells.specs.WordLaws.{number-lt}
-use Rattle.cells.specs.Arrays.{listOf}
+use Rattle.cells.specs.Lists.{listOf, setAt}
+use Rattle.cells.specs.Parts.{withSet}
 use Rattle.cells.specs.ArrayLaws.{length-listOf, getD-listOf, listOf-ext, listOf-snoc}
-use Rattle.cells.specs.Lists.{setAt, withSet}
 use Rattle.cells.specs.ListLaws.{length-withSet, setAt-same, setAt-other}
 use Rattle.tiles.specs.declared.Tiles.{Tiles}
-use Rattle.tiles.specs.Stored.{pathAt, pathsIn, Storable}
+use Rattle.tiles.specs.Paths.{pathAt, pathsIn}
+use Rattle.tiles.specs.Inner.{Storable}
 use Rattle.tiles.specs.ReadLaws.{readTiles-storable}
 use Rattle.board.specs.declared.RectangularBoard.{RectangularBoard}
 use Rattle.fit.specs.declared.Fit.{Fit}
 use Rattle.fit.specs.declared.Fit.the-variants as Fits
-use Rattle.rectangle.specs.Board.{Board, marks, freeCount, isFull, valid}
+use Rattle.rectangle.specs.Board.{Board, marks, freeCount, isFull, valid, lay}
 use Rattle.board.specs.Board.{boardOf}
-use Rattle.fit.specs.Fit.{fitPieces}
-use Rattle.rectangle.specs.Board.{lay}
+use Rattle.fit.specs.Parts.{fitPieces}
 use Rattle.rectangle.specs.BoardLaws.{marks-lt}
 use Rattle.single_tiling.specs.declared.descent.Found.{Found}
 use Rattle.single_tiling.specs.declared.descent.Found.the-variants as F

@@ -4,26 +4,26 @@ use mathlib.Core.Bool.{Bool, true, false, So}
 use mathlib.Core.List.{List}
 use Prim.Native.Nat.{ℕ}
 use native.Mathlib.Omega.{arith}
-use Rattle.cells.specs.Words.{Sound}
+use Rattle.cells.specs.Set.{Sound}
 use Rattle.cells.specs.WordLaws.{number-lt}
 use Rattle.refusal.specs.Refusal.{given}
 use Rattle.tiles.specs.declared.Tiles.{Tiles}
-use Rattle.tiles.specs.Stored.{pathsIn}
+use Rattle.tiles.specs.Paths.{pathsIn}
 use Rattle.board.specs.declared.RectangularBoard.{RectangularBoard}
 use Rattle.board.specs.Board.{boardOf}
 use Rattle.rectangle.specs.Board.{isFull, valid}
-use Rattle.covers.specs.Cuttings.{Exactly}
+use Rattle.covers.specs.Counts.{Exactly}
 use Rattle.layers.specs.LayerCounts.{countTilings}
 use Rattle.layers.specs.CountLaws.{layers-count}
 use Rattle.tiler.specs.Theorems.{Reaches, layer-count-is-number-of-sequences, layer-count-of-none, layer-count-of-full-start}
-use Rattle.single_tiling.specs.SingleTiling.{Tiling}
+use Rattle.single_tiling.specs.SingleTiling.{IsTiling}
 use Rattle.single_tiling.specs.TilingLaws.{full-no-tiling, sequence-tiling}
 
 module _ (b : RectangularBoard) (fixed : Sound (b .fixed)) (laid : Sound (b .laid)) (ts : Tiles) (room n : ℕ) (told : countTilings b ts room ≡ given n) where
   good : So (valid (boardOf b))
   good = layers-count b fixed laid ts room n told .0 .board
 
-  pub no-tiling-count : ((xs : List ℕ) → Tiling (boardOf b) (pathsIn ts) xs → ⊥) → n ≡ 0
+  pub no-tiling-count : ((xs : List ℕ) → IsTiling (boardOf b) (pathsIn ts) xs → ⊥) → n ≡ 0
   no-tiling-count never = go (isFull (boardOf b)) refl
     where
       go : (t : Bool) → isFull (boardOf b) ≡ t → n ≡ 0
@@ -32,7 +32,7 @@ module _ (b : RectangularBoard) (fixed : Sound (b .fixed)) (laid : Sound (b .lai
           layer-count-of-none b fixed laid ts room n told
           (λ t full xs s. never xs (sequence-tiling (boardOf b) good (pathsIn ts) (number-lt (b .fixed) fixed) (number-lt (b .laid) laid) free t full xs s))
 
-  pub count-no-tiling : n ≡ 0 → (xs : List ℕ) → Tiling (boardOf b) (pathsIn ts) xs → ⊥
+  pub count-no-tiling : n ≡ 0 → (xs : List ℕ) → IsTiling (boardOf b) (pathsIn ts) xs → ⊥
   count-no-tiling none xs t = go (isFull (boardOf b)) refl
     where
       go : (s : Bool) → isFull (boardOf b) ≡ s → ⊥

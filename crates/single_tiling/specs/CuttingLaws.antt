@@ -5,27 +5,27 @@ use mathlib.Core.Bool.{Bool, false, So}
 use mathlib.Core.List.{List, List·Memᴰ as Mem}
 use Prim.Native.Nat.{ℕ, _^_, _<_}
 use lib.Dec.{eqb}
-use Rattle.cells.specs.Firsts.{holds}
+use Rattle.cells.specs.Lists.{holds}
 use Rattle.tile.specs.Path.{Path, codesOk}
 use Rattle.rectangle.specs.Board.{Board, marks, isFree, isFull, valid}
 use Rattle.covers.specs.Counts.{ChildSequence, piecesOf}
 use Rattle.covers.specs.ChildLaws.{sequence-children, children-sequence}
 use Rattle.covers.specs.SequenceLaws.{free-not-full, sequence-cutting, cutting-sequence}
-use Rattle.graph.specs.Result.{stepPiece, markedBy}
+use Rattle.graph.specs.Graph.{stepPiece, markedPieces}
 use Rattle.expansion.specs.Boards.{setting}
-use Rattle.expansion.specs.Cuttings.{IsCutting, HasFreeCell, AllEdgeJoined}
+use Rattle.expansion.specs.Plots.{IsCutting, HasFreeCell, AllEdgeJoined}
 use Rattle.expansion.specs.SettingLaws.{same-children, setting-laws, start-at, start-ok}
 use Rattle.expansion.specs.CuttingLaws.{sound-pruning, cutting-start}
-use Rattle.single_tiling.specs.SingleTiling.{Tiling}
+use Rattle.single_tiling.specs.SingleTiling.{IsTiling}
 use Rattle.single_tiling.specs.TilingLaws.{sequence-tiling}
 
 module _ (b : Board) (good : So (valid b)) (paths : List Path) (fixedLt : b .fixed < 2 ^ 256) (laidLt : b .laid < 2 ^ 256) where
   -- the pieces that a tiling's steps mark
-  pub tiling-cutting : (xs : List ℕ) → Tiling b paths xs → IsCutting b paths (markedBy xs)
+  pub tiling-cutting : (xs : List ℕ) → IsTiling b paths xs → IsCutting b paths (markedPieces xs)
   unfolding setting
   tiling-cutting xs t =
       let ok = start-ok b paths good fixedLt laidLt in
-      cutting-start b paths good fixedLt laidLt (markedBy xs) .0
+      cutting-start b paths good fixedLt laidLt (markedPieces xs) .0
       (sequence-cutting (setting b paths) (setting-laws b paths good) (marks b) (piecesOf stepPiece xs) ok
       (children-sequence (setting b paths) (setting-laws b paths good) (marks b) (t .last) xs ok (t .full)
       (subst (λ (ch : ℕ → List ℕ). ChildSequence ch (marks b) (t .last) xs) (sym (same-children b paths)) (t .sequence))))
@@ -40,7 +40,7 @@ module _ (b : Board) (good : So (valid b)) (paths : List Path) (fixedLt : b .fix
 
   -- each cutting is that of a tiling
   pub cutting-tiling : HasFreeCell b → AllEdgeJoined paths → ((path : Path) → Mem path paths → So (codesOk path)) → (X : ℕ → Bool) → IsCutting b paths X
-      → (xs : List ℕ) × Tiling b paths xs × (markedBy xs ≡ X)
+      → (xs : List ℕ) × IsTiling b paths xs × (markedPieces xs ≡ X)
   unfolding setting
   cutting-tiling free joined codes X cutting =
       let ok = start-ok b paths good fixedLt laidLt in

@@ -10,14 +10,13 @@ use Prim.Native.Nat.{ℕ, zero, suc, _+_, _*_, _^_, _≤_, _<_}
 use native.Mathlib.Omega.{arith}
 use borrow.Author.Tests.{eqb-false}
 use lib.ListN.{length}
-use Rattle.cells.specs.Arrays.{listOf}
+use Rattle.cells.specs.Lists.{listOf}
 use Rattle.cells.specs.SetLaws.{unionOf-lt}
 use Rattle.tile.specs.Path.{Path}
-use Rattle.tiles.specs.Stored.{Storable}
-use Rattle.rectangle.specs.Board.{Board, boardAt, marks, freeCount, isFull, valid}
+use Rattle.tiles.specs.Inner.{Storable}
+use Rattle.rectangle.specs.Board.{Board, boardAt, marks, freeCount, isFull, valid, lay}
 use Rattle.fit.specs.Fit.{IsPiece, pieces}
 use Rattle.choice.specs.Choice.{chosen}
-use Rattle.rectangle.specs.Board.{lay}
 use Rattle.children.specs.Children.{pruned, children, childrenAt}
 use Rattle.fit.specs.PieceLaws.{pieces-are-pieces}
 use Rattle.children.specs.ChildLaws.{children-pruned, children-full, children-chosen}
@@ -28,8 +27,7 @@ use Rattle.expansion.specs.SettingLaws.{start-at, start-ok}
 use Rattle.single_tiling.specs.declared.descent.Place.the-variants as P
 use Rattle.single_tiling.specs.SingleTiling.{Finds}
 use Rattle.single_tiling.specs.Inner.{firstOf, inFront, firstTiling, firstTilingFrom, singleOf, fitIndex, placeOf, placeFor, New}
-use Rattle.single_tiling.specs.FirstLaws.{orElse-nil, firstOf-ext, firstOf-map}
-use Rattle.single_tiling.specs.FirstLaws.{tiling-full, tiling-more, tiling-none, tiling-steps, tiling-sound, tiling-complete}
+use Rattle.single_tiling.specs.FirstLaws.{orElse-nil, firstOf-ext, firstOf-map, tiling-full, tiling-more, tiling-none, tiling-steps, tiling-sound, tiling-complete}
 use Rattle.single_tiling.specs.IndexLaws.{pieces-by-index, lay-fewer}
 use Rattle.single_tiling.specs.TilingLaws.{child-falls, sequence-length, full-no-tiling, sequence-tiling}
 

@@ -9,9 +9,8 @@ use Prim.Native.Nat.{ℕ, zero, suc, _+_, _-_, _≤_, _<_}
 use native.Mathlib.Nat.{add-zero, zero-add}
 use native.Mathlib.Omega.{arith}
 use lib.ListN.{length}
-use Rattle.cells.specs.Firsts.{Tells, holds, addNew, addFirsts, firsts}
-use Rattle.cells.specs.FirstsLaws.{holds-iff, addNew-old, addNew-new}
-use Rattle.cells.specs.Arrays.{listFrom, listOf}
+use Rattle.cells.specs.FirstsLaws.{Tells, holds-iff, addNew-old, addNew-new}
+use Rattle.cells.specs.Lists.{holds, addNew, addFirsts, firsts, listFrom, listOf}
 use Rattle.cells.specs.MemberLaws.{mem-listOf}
 use Rattle.covers.specs.Counts.{Steps, ChildSequence}
 use Rattle.single_tiling.specs.Inner.{orElse, firstOf, inFront, firstTiling}

@@ -8,21 +8,20 @@ use Prim.Native.Nat.{ℕ, suc, _+_, _*_, _/_, _%_, _≤_, _<_}
 use native.Mathlib.Omega.{arith}
 use lib.Dec.{eqb, leb}
 use lib.ListN.{length, getD}
-use Rattle.cells.specs.Arrays.{listOf}
+use Rattle.cells.specs.Lists.{listOf}
 use Rattle.cells.specs.FirstsLaws.{mem-getD}
 use Rattle.cells.specs.MemberLaws.{eqb-tells}
 use Rattle.tile.specs.Path.{Path, codesOk, isPath}
-use Rattle.tiles.specs.Stored.{Storable}
+use Rattle.tiles.specs.Inner.{Storable}
 use Rattle.tile.specs.StoredLaws.{isPath-good}
 use Rattle.tile.specs.PathLaws.{cellCount-pos}
-use Rattle.rectangle.specs.Board.{Board, positionOf, freeCount, sizeOk, valid}
-use Rattle.fit.specs.Fit.{offset, pointAt, IsPiece, fitAt, fitsOf, pieces, fitFor}
-use Rattle.rectangle.specs.Board.{lay}
+use Rattle.rectangle.specs.Board.{Board, positionOf, freeCount, sizeOk, valid, lay}
+use Rattle.fit.specs.Fit.{offset, pointAt, IsPiece, fitAt, fitsOf, pieces}
+use Rattle.fit.specs.Inner.{fitFor}
 use Rattle.rectangle.specs.BoardLaws.{valid-size}
 use Rattle.fit.specs.PieceLaws.{fitAt-piece}
 use Rattle.fit.specs.FitForLaws.{fitFor-point, fitFor-fit}
-use Rattle.fit.specs.LayLaws.{lay-valid}
-use Rattle.fit.specs.LayLaws.{piece-iff, piece-size, lay-count}
+use Rattle.fit.specs.LayLaws.{lay-valid, piece-iff, piece-size, lay-count}
 use Rattle.single_tiling.specs.Inner.{orElse, firstOf, fitIndex}
 use Rattle.single_tiling.specs.FirstLaws.{firstOf-append, firstOf-flatMap, firstOf-firsts, first-join, first-ext, first-miss, first-short}
 

@@ -8,19 +8,17 @@ use mathlib.Core.Option.{Option, none, some}
 use Prim.Native.Nat.{ℕ, zero, suc, _+_, _/_, _%_, _≤_, _<_}
 use lib.Dec.{leb}
 use lib.ListN.{length, getD}
-use Rattle.cells.specs.Arrays.{listOf}
-use Rattle.cells.specs.Lists.{setAt}
+use Rattle.cells.specs.Lists.{listOf, setAt}
 use Rattle.refusal.specs.Refusal.{Answer, refused, given, bindAnswer}
 use Rattle.tiles.specs.declared.Tiles.{Tiles}
 use Rattle.tile.specs.Path.{Path}
-use Rattle.tiles.specs.Paths.{containsSingle}
-use Rattle.tiles.specs.Stored.{pathsIn, readTiles}
+use Rattle.tiles.specs.Paths.{containsSingle, pathsIn, readTiles}
 use Rattle.board.specs.declared.RectangularBoard.{RectangularBoard}
 use Rattle.rectangle.specs.Board.{Board, boardAt, marks, freeCount, isFull, valid}
 use Rattle.board.specs.Board.{boardOf}
 use Rattle.choice.specs.Choice.{chosen}
 use Rattle.children.specs.Children.{pruned, children, childrenAt}
-use Rattle.fit.specs.Fit.{fitFor}
+use Rattle.fit.specs.Inner.{fitFor}
 use Rattle.covers.specs.Counts.{sumOf}
 use Rattle.single_tiling.specs.declared.descent.Found.{Found}
 use Rattle.single_tiling.specs.declared.descent.Found.the-variants as F

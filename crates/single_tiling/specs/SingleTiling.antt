@@ -11,7 +11,7 @@ use Rattle.cells.specs.Lists.{wordsFor}
 use Rattle.refusal.specs.Refusal.{Answer, refused, given, mapAnswer, bindAnswer, refusalNumber, valueOr}
 use Rattle.tiles.specs.declared.Tiles.{Tiles}
 use Rattle.tile.specs.Path.{Path}
-use Rattle.tiles.specs.Stored.{readTiles}
+use Rattle.tiles.specs.Paths.{readTiles}
 use Rattle.board.specs.declared.RectangularBoard.{RectangularBoard}
 use Rattle.rectangle.specs.Board.{Board, boardAt, marks, freeCount, isFull}
 use Rattle.board.specs.Board.{readBoard}
@@ -23,7 +23,7 @@ use Rattle.single_tiling.specs.declared.SingleTiling.the-variants as S
 -- ---- one tiling
 
 -- "boards from the start to a full one": "each board after the first is a child of the one before, and the last is full"; "of one piece or more"
-pub record Tiling (b : Board) (paths : List Path) (xs : List ℕ) : Type 0 where
+pub record IsTiling (b : Board) (paths : List Path) (xs : List ℕ) : Type 0 where
   pub last : ℕ
   pub sequence : ChildSequence (childrenAt b paths) (marks b) last xs
   pub full : So (isFull (boardAt b last))
@@ -31,8 +31,8 @@ pub record Tiling (b : Board) (paths : List Path) (xs : List ℕ) : Type 0 where
 
 -- what may be found: "Which sequence is free"; "or none exactly if no child sequence reaches one"
 abbrev pub Finds : Board → List Path → Option (List ℕ) → Type 0
-Finds b paths none = (xs : List ℕ) → Tiling b paths xs → ⊥
-Finds b paths (some xs) = Tiling b paths xs
+Finds b paths none = (xs : List ℕ) → IsTiling b paths xs → ⊥
+Finds b paths (some xs) = IsTiling b paths xs
 
 -- ---- what is refused
 
@@ -45,15 +45,17 @@ readSearch b ts room =
 
 -- ---- `get_single_tiling`
 
--- the boards that were found, and their number
+-- the boards that were found
 unfoldable pub boardsFound : Option (List ℕ) → List ℕ
 boardsFound none = []
 boardsFound (some xs) = xs
 
+-- how many boards were found
 unfoldable pub numberFound : Option (List ℕ) → Option ℕ
 numberFound none = none
 numberFound (some xs) = some (length xs)
 
+-- what `get_single_tiling` answers: a number of boards, nothing, or a refusal
 abbrev pub singleAnswer : SingleTiling → Answer (Option ℕ)
 singleAnswer (S.Boards n) = given (some n)
 singleAnswer S.Nothing = given none

@@ -11,20 +11,19 @@ use borrow.Author.Tests.{eq-eqb, le-leb}
 use lib.Dec.{eqb, leb}
 use lib.ListN.{length, getD, set}
 use lib.Seq.{getD-set-same, getD-set-other}
-use Rattle.cells.specs.Arrays.{listOf}
+use Rattle.cells.specs.Lists.{listOf, any}
 use Rattle.cells.specs.ArrayLaws.{length-listOf}
-use Rattle.cells.specs.Firsts.{any}
 use Rattle.cells.specs.FirstsLaws.{any-true}
 use Rattle.cells.specs.MemberLaws.{mem-place, mem-listOf}
 use Rattle.tiles.specs.declared.Tiles.{Tiles}
 use Rattle.tile.specs.Path.{Path, cellCount}
-use Rattle.tiles.specs.Stored.{pathAt, pathsIn}
+use Rattle.tiles.specs.Paths.{pathAt, pathsIn}
 use Rattle.rectangle.specs.Board.{Board, boardAt, marks, freeCount, isFull, valid}
 use Rattle.children.specs.Children.{childrenAt}
 use Rattle.covers.specs.Counts.{Steps, ChildSequence, sumOf}
 use Rattle.expansion.specs.Boards.{From}
 use Rattle.expansion.specs.SettingLaws.{start-at, start-ok}
-use Rattle.single_tiling.specs.SingleTiling.{Tiling}
+use Rattle.single_tiling.specs.SingleTiling.{IsTiling}
 use Rattle.single_tiling.specs.Inner.{IsSum}
 use Rattle.single_tiling.specs.TilingLaws.{full-zero, child-from, child-tile}
 
@@ -74,7 +73,7 @@ module _ (b : Board) (good : So (valid b)) (paths : List Path) where
       (steps-sum last x xs full (subst (From b) (sym (s .0)) (start-ok b paths good fixedLt laidLt)) (s .1))
 
 -- they are a sum of the tiles' numbers of cells
-pub tiling-sum : (b : Board) → So (valid b) → b .fixed < 2 ^ 256 → b .laid < 2 ^ 256 → (paths : List Path) (xs : List ℕ) → Tiling b paths xs
+pub tiling-sum : (b : Board) → So (valid b) → b .fixed < 2 ^ 256 → b .laid < 2 ^ 256 → (paths : List Path) (xs : List ℕ) → IsTiling b paths xs
     → IsSum (map cellCount paths) (freeCount b)
 tiling-sum b good fixedLt laidLt paths xs t = sequence-sum b good paths fixedLt laidLt (t .last) xs (t .full) (t .sequence)
 

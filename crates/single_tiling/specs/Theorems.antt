@@ -10,23 +10,24 @@ use mathlib.Core.List.{List}
 use mathlib.Core.Option.{Option, none, some}
 use Prim.Native.Nat.{ℕ, _+_, _/_, _^_, _≤_, _<_}
 use lib.ListN.{length, replicate}
-use Rattle.cells.specs.Lists.{setsIn, wordsFor}
-use Rattle.cells.specs.Words.{Sound}
+use Rattle.cells.specs.ListLaws.{setsIn}
+use Rattle.cells.specs.Lists.{wordsFor}
+use Rattle.cells.specs.Set.{Sound}
 use Rattle.cells.specs.WordLaws.{number-lt}
 use Rattle.refusal.specs.Refusal.{refused, given}
 use Rattle.refusal.specs.RefusalLaws.{given-inj, map-refused}
 use Rattle.tiles.specs.declared.Tiles.{Tiles}
 use Rattle.tile.specs.Path.{Path}
-use Rattle.tiles.specs.Stored.{pathsIn}
+use Rattle.tiles.specs.Paths.{pathsIn}
 use Rattle.tiles.specs.ReadLaws.{readTiles-storable}
 use Rattle.board.specs.declared.RectangularBoard.{RectangularBoard}
 use Rattle.rectangle.specs.Board.{Board, freeCount, isFull, valid}
 use Rattle.board.specs.Board.{boardOf}
-use Rattle.graph.specs.Result.{markedBy}
+use Rattle.graph.specs.Graph.{markedPieces}
 use Rattle.layers.specs.LayerCounts.{countTilings}
-use Rattle.expansion.specs.Cuttings.{IsCutting, HasFreeCell, AllEdgeJoined}
+use Rattle.expansion.specs.Plots.{IsCutting, HasFreeCell, AllEdgeJoined}
 use Rattle.single_tiling.specs.declared.SingleTiling.{SingleTiling}
-use Rattle.single_tiling.specs.SingleTiling.{Tiling, readSearch, numberFound, singleAnswer, GetsSingleTiling}
+use Rattle.single_tiling.specs.SingleTiling.{IsTiling, readSearch, numberFound, singleAnswer, GetsSingleTiling}
 use Rattle.single_tiling.specs.TilingLaws.{tiling-length, tiling-small, full-no-tiling, search-read, finds-none, finds-some, finds-nothing, words-refused, answer-given, words-given, words-back, words-zero, no-cells-full}
 use Rattle.single_tiling.specs.CountLaws.{no-tiling-count, count-no-tiling}
 use Rattle.single_tiling.specs.CuttingLaws.{tiling-cutting, cutting-tiling}
@@ -62,16 +63,16 @@ module _ (b : RectangularBoard) (fixed : Sound (b .fixed)) (laid : Sound (b .lai
   laidLt = number-lt (b .laid) laid
 
   -- a tiling of what is searched is one of what was handed in, and so the other way round
-  handed : (xs : List ℕ) → Tiling (p .0) (p .1) xs → Tiling (boardOf b) (pathsIn ts) xs
-  handed xs t = subst (λ (q : Board × List Path). Tiling (q .0) (q .1) xs) searched-is-given t
+  handed : (xs : List ℕ) → IsTiling (p .0) (p .1) xs → IsTiling (boardOf b) (pathsIn ts) xs
+  handed xs t = subst (λ (q : Board × List Path). IsTiling (q .0) (q .1) xs) searched-is-given t
 
-  searched : (xs : List ℕ) → Tiling (boardOf b) (pathsIn ts) xs → Tiling (p .0) (p .1) xs
-  searched xs t = subst (λ (q : Board × List Path). Tiling (q .0) (q .1) xs) (sym searched-is-given) t
+  searched : (xs : List ℕ) → IsTiling (boardOf b) (pathsIn ts) xs → IsTiling (p .0) (p .1) xs
+  searched xs t = subst (λ (q : Board × List Path). IsTiling (q .0) (q .1) xs) (sym searched-is-given) t
 
   -- ---- 1. The answer and the output
 
   -- "none exactly if no child sequence reaches one": a full board, by one piece or more.
-  pub none-iff : (singleAnswer r ≡ given none) ↔ ((xs : List ℕ) → Tiling (p .0) (p .1) xs → ⊥)
+  pub none-iff : (singleAnswer r ≡ given none) ↔ ((xs : List ℕ) → IsTiling (p .0) (p .1) xs → ⊥)
   none-iff =
       let told = answer-given b ts old new r call p read in
       let found = finds-none (p .0) (p .1) (call .found) (call .tiling p read) in
@@ -79,7 +80,7 @@ module _ (b : RectangularBoard) (fixed : Sound (b .fixed)) (laid : Sound (b .lai
 
   -- Otherwise "the number of boards comes back", and the output holds the boards of a tiling, "from the start to a full one", and zeros behind them.
   pub found-is-tiling : (n : ℕ) → singleAnswer r ≡ given (some n)
-      → (xs : List ℕ) × Tiling (p .0) (p .1) xs × (length xs ≡ n) × (setsIn new n ≡ xs) × (new ≡ wordsFor xs (length old))
+      → (xs : List ℕ) × IsTiling (p .0) (p .1) xs × (length xs ≡ n) × (setsIn new n ≡ xs) × (new ≡ wordsFor xs (length old))
   found-is-tiling n e =
       let number = given-inj (numberFound (call .found)) (some n) (sym (answer-given b ts old new r call p read) ∙ e) in
       let f = finds-some (p .0) (p .1) (call .found) (call .tiling p read) n number in
@@ -96,7 +97,7 @@ module _ (b : RectangularBoard) (fixed : Sound (b .fixed)) (laid : Sound (b .lai
 
   -- "saying none outright, contradicts a sequence that demand 2's definition has": where there is a tiling, one is found, of two boards at least and at
   -- most one more than there are free cells.
-  pub tiling-is-found : (xs : List ℕ) → Tiling (p .0) (p .1) xs → (n : ℕ) × (singleAnswer r ≡ given (some n)) × (2 ≤ n) × (n ≤ freeCount (boardOf b) + 1)
+  pub tiling-is-found : (xs : List ℕ) → IsTiling (p .0) (p .1) xs → (n : ℕ) × (singleAnswer r ≡ given (some n)) × (2 ≤ n) × (n ≤ freeCount (boardOf b) + 1)
   tiling-is-found xs t = go (numberFound (call .found)) refl
     where
       go : (o : Option ℕ) → numberFound (call .found) ≡ o → (n : ℕ) × (singleAnswer r ≡ given (some n)) × (2 ≤ n) × (n ≤ freeCount (boardOf b) + 1)
@@ -119,7 +120,7 @@ module _ (b : RectangularBoard) (fixed : Sound (b .fixed)) (laid : Sound (b .lai
   -- ---- 2. A start with no free cell
 
   -- "of one piece or more": a full start has no tiling,
-  pub full-start-has-none : So (isFull (boardOf b)) → (xs : List ℕ) → Tiling (boardOf b) (pathsIn ts) xs → ⊥
+  pub full-start-has-none : So (isFull (boardOf b)) → (xs : List ℕ) → IsTiling (boardOf b) (pathsIn ts) xs → ⊥
   full-start-has-none full xs t = full-no-tiling (boardOf b) good (pathsIn ts) fixedLt laidLt full xs t
 
   -- and none is answered,
@@ -142,14 +143,14 @@ module _ (b : RectangularBoard) (fixed : Sound (b .fixed)) (laid : Sound (b .lai
   -- ---- 4. Cuttings
 
   -- "the set of pieces that its steps mark" is, of a tiling, a cutting of the start,
-  pub tiling-is-cutting : (xs : List ℕ) → Tiling (boardOf b) (pathsIn ts) xs → IsCutting (boardOf b) (pathsIn ts) (markedBy xs)
+  pub tiling-is-cutting : (xs : List ℕ) → IsTiling (boardOf b) (pathsIn ts) xs → IsCutting (boardOf b) (pathsIn ts) (markedPieces xs)
   tiling-is-cutting xs t = tiling-cutting (boardOf b) good (pathsIn ts) fixedLt laidLt xs t
 
   -- so the output holds one.
-  pub found-is-cutting : (n : ℕ) → singleAnswer r ≡ given (some n) → IsCutting (boardOf b) (pathsIn ts) (markedBy (setsIn new n))
+  pub found-is-cutting : (n : ℕ) → singleAnswer r ≡ given (some n) → IsCutting (boardOf b) (pathsIn ts) (markedPieces (setsIn new n))
   found-is-cutting n e =
       let f = found-is-tiling n e in
-      subst (λ (xs : List ℕ). IsCutting (boardOf b) (pathsIn ts) (markedBy xs)) (sym (f .3)) (tiling-is-cutting (f .0) (handed (f .0) (f .1)))
+      subst (λ (xs : List ℕ). IsCutting (boardOf b) (pathsIn ts) (markedPieces xs)) (sym (f .3)) (tiling-is-cutting (f .0) (handed (f .0) (f .1)))
 
   -- For a board with a free cell, and tiles where every cell of a tile of two or more cells shares an edge with another cell of that tile, none is
   -- answered exactly if there is no cutting at all; "unequal tiles allowed".
@@ -160,5 +161,5 @@ module _ (b : RectangularBoard) (fixed : Sound (b .fixed)) (laid : Sound (b .lai
         λ e X cutting.
             let t = cutting-tiling (boardOf b) good (pathsIn ts) fixedLt laidLt free joined (λ path m. codes path m .1) X cutting in
             none-iff .0 e (t .0) (searched (t .0) (t .1)),
-        λ never. none-iff .1 (λ xs t. never (markedBy xs) (tiling-is-cutting xs (handed xs t))),
+        λ never. none-iff .1 (λ xs t. never (markedPieces xs) (tiling-is-cutting xs (handed xs t))),
       )

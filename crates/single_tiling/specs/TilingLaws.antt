@@ -12,13 +12,13 @@ use borrow.Author.Tests.{eqb-true, leb-true}
 use lib.Dec.{leb}
 use lib.ListN.{length, getD, replicate}
 use Rattle.cells.specs.ArrayLaws.{listOf-ext, replicate-listOf}
-use Rattle.cells.specs.Lists.{setsIn, wordAt, wordsFor}
-use Rattle.cells.specs.ListLaws.{wordAt-past, setsIn-wordsFor}
+use Rattle.cells.specs.ListLaws.{setsIn, setsIn-wordsFor}
+use Rattle.cells.specs.Lists.{wordsFor}
 use Rattle.refusal.specs.Refusal.{Answer, refused, given, mapAnswer, bindAnswer, valueOr}
 use Rattle.refusal.specs.RefusalLaws.{refused-given, given-inj, bind-given}
 use Rattle.tiles.specs.declared.Tiles.{Tiles}
 use Rattle.tile.specs.Path.{Path, cellCount}
-use Rattle.tiles.specs.Stored.{pathsIn, readTiles}
+use Rattle.tiles.specs.Paths.{pathsIn, readTiles}
 use Rattle.tile.specs.PathLaws.{cellCount-pos}
 use Rattle.tiles.specs.ReadLaws.{readTiles-sound}
 use Rattle.board.specs.declared.RectangularBoard.{RectangularBoard}
@@ -27,8 +27,7 @@ use Rattle.board.specs.Board.{boardOf, readBoard}
 use Rattle.board.specs.BoardLaws.{readBoard-is}
 use Rattle.fit.specs.Fit.{IsPiece}
 use Rattle.children.specs.Children.{childrenAt}
-use Rattle.rectangle.specs.BoardLaws.{none-full}
-use Rattle.rectangle.specs.BoardLaws.{free-inside}
+use Rattle.rectangle.specs.BoardLaws.{none-full, free-inside}
 use Rattle.children.specs.ChildLaws.{child-piece, full-children}
 use Rattle.fit.specs.LayLaws.{piece-iff, piece-size, lay-count}
 use Rattle.covers.specs.Counts.{Steps, ChildSequence}
@@ -37,7 +36,7 @@ use Rattle.expansion.specs.Boards.{From}
 use Rattle.expansion.specs.SettingLaws.{marks-at, lay-at, lay-from, start-at, start-ok}
 use Rattle.expansion.specs.ExpansionLaws.{small-at}
 use Rattle.single_tiling.specs.declared.SingleTiling.{SingleTiling}
-use Rattle.single_tiling.specs.SingleTiling.{Tiling, Finds, readSearch, boardsFound, numberFound, singleAnswer, GetsSingleTiling}
+use Rattle.single_tiling.specs.SingleTiling.{IsTiling, Finds, readSearch, boardsFound, numberFound, singleAnswer, GetsSingleTiling}
 
 -- ---- a child
 
@@ -89,11 +88,11 @@ module _ (b : Board) (good : So (valid b)) (paths : List Path) where
     sequence-length last [] s = absurd s
     sequence-length last (x ∷ xs) s = omega (arith, steps-length last x xs (start-from x (s .0)) (s .1), start-free x (s .0))
 
-    pub tiling-length : (xs : List ℕ) → Tiling b paths xs → length xs ≤ freeCount b + 1
+    pub tiling-length : (xs : List ℕ) → IsTiling b paths xs → length xs ≤ freeCount b + 1
     tiling-length xs t = sequence-length (t .last) xs (t .sequence)
 
     -- each board is one of the start, a set of 256 cells
-    pub tiling-small : (xs : List ℕ) → Tiling b paths xs → (i : ℕ) → getD xs i 0 < 2 ^ 256
+    pub tiling-small : (xs : List ℕ) → IsTiling b paths xs → (i : ℕ) → getD xs i 0 < 2 ^ 256
     tiling-small xs t =
         small-at xs
         (λ n m. chain-good (λ s u. Mem u (childrenAt b paths s)) (From b) child-from (marks b) (t .last) xs (start-ok b paths good fixedLt laidLt) (t .sequence) n m .small)
@@ -106,7 +105,7 @@ module _ (b : Board) (good : So (valid b)) (paths : List Path) where
         let e = ap isFull (ap (boardAt b) (s .0) ∙ start-at b paths good fixedLt laidLt) ∙ full in
         not-nil (subst (Mem y) (full-children (boardAt b x) (start-from x (s .0) .accepted) paths e) (s .1 .0))
 
-    pub full-no-tiling : So (isFull b) → (xs : List ℕ) → Tiling b paths xs → ⊥
+    pub full-no-tiling : So (isFull b) → (xs : List ℕ) → IsTiling b paths xs → ⊥
     full-no-tiling full xs t = full-sequence full (t .last) xs (t .sequence) (t .pieces)
 
     -- from a start that is not full every child sequence to a full board is of one piece or more
@@ -117,7 +116,7 @@ module _ (b : Board) (good : So (valid b)) (paths : List Path) where
     one-step free last full (x ∷ y ∷ ys) s = omega arith
 
     pub sequence-tiling : isFull b ≡ false → (last : ℕ) → So (isFull (boardAt b last)) → (xs : List ℕ)
-        → ChildSequence (childrenAt b paths) (marks b) last xs → Tiling b paths xs
+        → ChildSequence (childrenAt b paths) (marks b) last xs → IsTiling b paths xs
     sequence-tiling free last full xs s = record { last = last; sequence = s; full = full; pieces = one-step free last full xs s }
 
 -- ---- what is read
@@ -145,13 +144,13 @@ search-read b ts room p e =
 -- ---- what is found
 
 pub finds-none : (b : Board) (paths : List Path) (found : Option (List ℕ)) → Finds b paths found
-    → (numberFound found ≡ none) ↔ ((xs : List ℕ) → Tiling b paths xs → ⊥)
+    → (numberFound found ≡ none) ↔ ((xs : List ℕ) → IsTiling b paths xs → ⊥)
 unfolding numberFound
 finds-none b paths none f = (λ e. f, λ h. refl)
 finds-none b paths (some xs) f = (λ e. absurd (Option·none-ne-some (length xs) (sym e)), λ h. absurd (h xs f))
 
 pub finds-some : (b : Board) (paths : List Path) (found : Option (List ℕ)) → Finds b paths found → (n : ℕ) → numberFound found ≡ some n
-    → (xs : List ℕ) × Tiling b paths xs × (length xs ≡ n) × (boardsFound found ≡ xs)
+    → (xs : List ℕ) × IsTiling b paths xs × (length xs ≡ n) × (boardsFound found ≡ xs)
 unfolding numberFound boardsFound
 finds-some b paths none f n e = absurd (Option·none-ne-some n e)
 finds-some b paths (some xs) f n e = (xs, f, Option·some-injective (length xs) n e, refl)
@@ -192,7 +191,7 @@ words-back xs free count h i small = setsIn-wordsFor xs count (four-each (length
 -- no set: the words are zero
 pub words-zero : (count : ℕ) → wordsFor [] count ≡ replicate count 0
 unfolding wordsFor
-words-zero count = listOf-ext (wordAt []) (λ k. 0) count (λ k h. wordAt-past [] k (omega arith)) ∙ sym (replicate-listOf 0 count 0)
+words-zero count = listOf-ext (λ k. getD {A = ℕ} [] k 0) (λ k. 0) count (λ k h. refl) ∙ sym (replicate-listOf 0 count 0)
 
 -- a board of no columns is full
 pub no-cells-full : (b : Board) → b .width ≡ 0 → isFull b ≡ true

@@ -12,13 +12,12 @@ ghost use mathlib.Core.Bool.{So, true};
 ghost use mathlib.Core.List.{List, [], _∷_};
 ghost use Prim.Native.Nat.{ℕ, _+_, _*_, _/_, _<_};
 ghost use lib.ListN.{length};
-ghost use Rattle.cells.specs.Words.{number};
+ghost use Rattle.cells.specs.Set.{number};
 ghost use Rattle.tile.specs.Path.{Path};
-ghost use Rattle.tiles.specs.Paths.{containsSingle};
-ghost use Rattle.tiles.specs.Stored.{pathsIn};
+ghost use Rattle.tiles.specs.Paths.{containsSingle, pathsIn};
 ghost use Rattle.board.specs.Board.{boardOf};
 ghost use Rattle.rectangle.specs.Board.{freeCount, isFull, valid};
-ghost use Rattle.fit.specs.Fit.{fitPieces};
+ghost use Rattle.fit.specs.Parts.{fitPieces};
 ghost use Rattle.single_tiling.specs.Inner.{firstTilingFrom, fitIndex, placeFor, tilesFrom, Read, Held, New, Walked};
 
 // The number of boards in the lent words, or nothing where no full board is reached.

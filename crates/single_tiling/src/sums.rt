@@ -9,10 +9,9 @@ ghost use mathlib.Core.List.{[], map};
 ghost use Prim.Native.Nat.{ℕ, _-_, _≤_, _<_};
 ghost use lib.Dec.{eqb, leb};
 ghost use lib.ListN.{getD};
-ghost use Rattle.cells.specs.Arrays.{listOf};
-ghost use Rattle.cells.specs.Firsts.{any};
+ghost use Rattle.cells.specs.Lists.{listOf, any};
 ghost use Rattle.tile.specs.Path.{cellCount};
-ghost use Rattle.tiles.specs.Stored.{pathsIn};
+ghost use Rattle.tiles.specs.Paths.{pathsIn};
 ghost use Rattle.single_tiling.specs.Inner.{Read, IsSum};
 
 // The number of cells of tile i.

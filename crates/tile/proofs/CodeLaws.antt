@@ -10,14 +10,13 @@ use borrow.Author.Tests.{lt-ltb, le-ltb, le-leb, lt-leb}
 use lib.Dec.{leb}
 use lib.ListN.{length, getD, take, drop, length-map, List·getD-eq-default, List·getD-map}
 use lib.Seq.{drop-cons, drop-length, length-take-le, getD-take}
-use Rattle.cells.specs.Arrays.{listOf}
+use Rattle.cells.specs.Lists.{listOf}
 use Rattle.cells.specs.ArrayLaws.{getD-any}
 use Rattle.direction.specs.declared.Code.{Code}
 use Rattle.direction.specs.declared.Code.the-variants as Codes
 use Rattle.refusal.specs.Refusal.{refused, given}
 use Rattle.direction.specs.Direction.{codeAnswer, onCode}
-use Rattle.tile.specs.Path.{Path, codesOk}
-use Rattle.tile.specs.Stored.{tileOf}
+use Rattle.tile.specs.Path.{Path, codesOk, tileOf}
 use Rattle.tile.specs.Inner.{codeOf, run}
 use Rattle.direction.specs.DirectionLaws.{onCode-past, onCode-given}
 

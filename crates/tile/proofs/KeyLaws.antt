@@ -10,11 +10,10 @@ use lib.Dec.{eqb, lit≤}
 use lib.IntN.{ℤ, pos, negsuc, _+ℤ_, +ℤ-assoc, +ℤ-comm, +ℤ-idr, +ℤ-negℤ-cancel, pos-+ℤ-pos}
 use lib.ListN.{length, getD, take, drop, set, length-map, List·getD-eq-default}
 use lib.Seq.{drop-cons, drop-length, take-suc-set}
-use Rattle.cells.specs.Firsts.{holds, addNew, addFirsts, firsts}
+use Rattle.cells.specs.Lists.{holds, addNew, addFirsts, firsts}
 use Rattle.cells.specs.FirstsLaws.{firsts-map, so-eq}
 use Rattle.tile.specs.declared.points.Keys.{Keys}
-use Rattle.direction.specs.Position.{Position, at, shift, samePosition}
-use Rattle.direction.specs.Direction.{step}
+use Rattle.direction.specs.Direction.{Position, at, shift, samePosition, step}
 use Rattle.tile.specs.Path.{Path, codesOk, points, cells, cellCount}
 use Rattle.tile.specs.Inner.{keyed, keyStep, keysAfter, Near, keysIn}
 use Rattle.direction.specs.PositionLaws.{samePosition-iff, cancel}

@@ -1,5 +1,5 @@
 -- Laws of the calls that make a tile: when a made tile is the answer that `MakesTile` asks for, and the codes of `l_tile` and `t_tile`. Rests on
--- `Stored` and the laws of arrays. Assumes nothing.
+-- `Path` and the laws of arrays. Assumes nothing.
 use mathlib.Core.Path.{_≡_, refl, sym, ap, _∙_}
 use mathlib.Core.Bool.{Bool, true, false, _&&_, cond, and-false}
 use mathlib.Core.List.{List, [], _∷_, _++_}
@@ -10,13 +10,12 @@ use borrow.Author.Tests.{lt-ltb, le-leb, lt-leb}
 use lib.Dec.{leb, ltb}
 use lib.ListN.{length, getD, set, replicate, length-append, length-set, length-replicate, getD-replicate, List·getD-append, List·getD-eq-default}
 use lib.Seq.{getD-append-add, getD-set-same, getD-set-other}
-use Rattle.cells.specs.Arrays.{listOf}
+use Rattle.cells.specs.Lists.{listOf}
 use Rattle.cells.specs.ArrayLaws.{length-listOf, getD-listOf, listOf-ext}
 use Rattle.tile.specs.declared.Tile.{Tile}
 use Rattle.tile.specs.declared.MadeTile.{MadeTile}
 use Rattle.refusal.specs.Refusal.{Answer, refused, given, refusalOf, valueOr, verdictNumber}
-use Rattle.tile.specs.Path.{Path, lPath, tPath}
-use Rattle.tile.specs.Stored.{tileOf, MakesTile, ofLength, lTile, tTile}
+use Rattle.tile.specs.Path.{Path, lPath, tPath, tileOf, MakesTile, ofLength, lTile, tTile}
 use Rattle.tile.specs.Inner.{run}
 use Rattle.tile.proofs.CodeLaws.{run-inside, run-before, run-behind}
 

@@ -8,10 +8,9 @@ use native.Mathlib.Decide.{decLt}
 use native.Mathlib.Omega.{arith}
 use borrow.Author.Tests.{not-true, le-leb, lt-leb}
 use lib.Dec.{leb}
-use Rattle.cells.specs.Firsts.{any}
+use Rattle.cells.specs.Lists.{any}
 use Rattle.cells.specs.FirstsLaws.{any-true, any-some}
-use Rattle.direction.specs.Position.{Position, shift, samePosition}
-use Rattle.direction.specs.Direction.{step}
+use Rattle.direction.specs.Direction.{Position, shift, samePosition, step}
 use Rattle.tile.specs.Path.{Path, cells, cellCount, Beside, EdgeJoined}
 use Rattle.direction.specs.PositionLaws.{samePosition-iff}
 

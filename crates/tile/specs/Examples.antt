@@ -2,14 +2,18 @@
 use mathlib.Core.Path.{_≡_, refl}
 use mathlib.Core.Bool.{true, false}
 use mathlib.Core.List.{[], _∷_}
+use Prim.Native.Nat.{ℕ}
 use lib.IntN.{pos, negsuc}
 use lib.ListN.{length, replicate}
 use Rattle.direction.specs.declared.Axis.the-variants as A
-use Rattle.refusal.specs.Refusal.{refused, given}
-use Rattle.direction.specs.Position.{at, origin}
-use Rattle.direction.specs.Direction.{step, rotate, reflect, onCode}
-use Rattle.tile.specs.Path.{Path, isPath, points, cells, cellCount, EdgeJoined, tPath}
-use Rattle.tile.specs.Stored.{readTile, tileOf, lTile, tTile}
+use Rattle.refusal.specs.Refusal.{refused, given, refusalOf, valueOr}
+use Rattle.refusal.specs.declared.Refusal.the-variants as R
+use Rattle.refusal.specs.declared.Verdict.the-variants as Verdicts
+use Rattle.direction.specs.declared.Offset.the-variants as O
+use Rattle.direction.specs.declared.Code.the-variants as Codes
+use Rattle.tile.specs.declared.CellCount.the-variants as C
+use Rattle.direction.specs.Direction.{at, origin, step, opposite, rotate, reflect, onCode, offsetAnswer, codeAnswer}
+use Rattle.tile.specs.Path.{Path, isPath, points, cells, cellCount, isSingle, EdgeJoined, tPath, readTile, tileOf, MakesTile, cellCountAnswer, lTile, tTile}
 use Rattle.tile.specs.EdgeTest.{edgeJoined, edgeJoined-iff}
 
 -- ---- directions
@@ -21,6 +25,11 @@ up-left = refl
 no-code : onCode 8 (step 8) ≡ refused 5
 unfolding onCode
 no-code = refl
+
+-- code 7 is the last; a code that is none has no step and no image
+codes : (onCode {A = ℕ} 7 3 ≡ given 3) × (step 8 ≡ origin) × (opposite 8 ≡ 8) × (rotate 8 ≡ 8) × (reflect A.Vertical 8 ≡ 8)
+unfolding onCode step opposite rotate reflect
+codes = (refl, refl, refl, refl, refl)
 
 turned-up-left : rotate 4 ≡ 5
 unfolding rotate
@@ -83,11 +92,21 @@ there-and-back : cellCount (3 ∷ 2 ∷ []) ≡ 2
 unfolding cellCount step
 there-and-back = refl
 
+-- "A single tile is the empty path"
+singles : (isSingle [] ≡ true) × (isSingle (3 ∷ []) ≡ false)
+unfolding isSingle
+singles = (refl, refl)
+
 -- ---- the Rust's tiles
 
 l-two : lTile 2 ≡ given (2 ∷ 0 ∷ [])
 unfolding lTile
 l-two = refl
+
+-- on to the top; and the longest path, of 32 codes
+l-more : (lTile 3 ≡ given (2 ∷ 0 ∷ 0 ∷ [])) × (lTile 32 ≡ given (2 ∷ replicate 31 0))
+unfolding lTile
+l-more = (refl, refl)
 
 l-none : lTile 0 ≡ refused 5
 unfolding lTile
@@ -100,6 +119,11 @@ l-long = refl
 t-one : tTile 1 ≡ given (3 ∷ 0 ∷ 6 ∷ [])
 unfolding tTile
 t-one = refl
+
+-- on to the right
+t-two : tTile 2 ≡ given (3 ∷ 3 ∷ 0 ∷ 6 ∷ 3 ∷ [])
+unfolding tTile
+t-two = refl
 
 t-long : tTile 16 ≡ refused 5
 unfolding tTile
@@ -125,7 +149,31 @@ stored-nine : readTile (tileOf (9 ∷ [])) ≡ refused 5
 unfolding readTile tileOf
 stored-nine = refl
 
+-- 32 codes are stored, zeros behind the path; and 32 are read
+stored-codes : tileOf (3 ∷ 7 ∷ []) ≡ record { len = 2; codes = 3 ∷ 7 ∷ replicate 30 0 }
+unfolding tileOf
+stored-codes = refl
+
+longest-read : readTile (record { len = 32; codes = replicate 32 7 }) ≡ given (replicate 32 7)
+unfolding readTile
+longest-read = refl
+
 -- a length over 32 is refused, though the 32 codes are a path
 length-over : readTile (record { len = 33; codes = replicate 32 0 }) ≡ refused 5
 unfolding readTile
 length-over = refl
+
+-- ---- the answers of the code
+
+-- a tile that is made; and the empty path with the refusal's number
+made : MakesTile (lTile 2) (record { verdict = Verdicts.Accepted; tile = tileOf (2 ∷ 0 ∷ []) })
+unfolding lTile refusalOf valueOr
+made = record { verdict = refl; tile = refl }
+
+made-refused : MakesTile (lTile 0) (record { verdict = Verdicts.Refused R.BadTile; tile = record { len = 0; codes = replicate 32 0 } })
+unfolding lTile refusalOf valueOr tileOf
+made-refused = record { verdict = refl; tile = refl }
+
+answers : (offsetAnswer (O.By (pos 1) (negsuc 0)) ≡ given (at (pos 1) (negsuc 0))) × (offsetAnswer (O.Refused R.BadTile) ≡ refused 5) × (codeAnswer (Codes.Is 3) ≡ given 3) × (codeAnswer (Codes.Refused R.BadTile) ≡ refused 5)
+    × (cellCountAnswer (C.Is 3) ≡ given 3) × (cellCountAnswer (C.Refused R.BadTile) ≡ refused 5)
+answers = (refl, refl, refl, refl, refl, refl)

@@ -13,10 +13,8 @@ use Rattle.tile.specs.declared.codes.Motion.the-variants as M
 use Rattle.direction.specs.declared.Code.{Code}
 use Rattle.direction.specs.declared.Code.the-variants as Codes
 use Rattle.tile.specs.declared.points.Keys.{Keys}
-use Rattle.direction.specs.Position.{Position, at}
-use Rattle.direction.specs.Direction.{rotate, reflect}
-use Rattle.tile.specs.Path.{Path}
-use Rattle.tile.specs.Stored.{pathIn, tileOf}
+use Rattle.direction.specs.Direction.{Position, at, rotate, reflect}
+use Rattle.tile.specs.Path.{Path, pathIn, tileOf}
 
 -- ---- codes in arrays
 

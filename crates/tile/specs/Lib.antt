@@ -1,6 +1,5 @@
--- One tile. `Path` and `Stored` are what a reader must believe; `Inner` serves private contracts only; the rest are laws.
+-- One tile. `Path` is what a reader must believe; `Inner` serves private contracts only; the rest are laws.
 pub mod Path
-pub mod Stored
 pub mod Inner
 pub mod PathLaws
 pub mod StoredLaws

@@ -10,13 +10,12 @@ use native.Mathlib.Omega.{arith}
 use borrow.Author.Tests.{ltb-true, lt-ltb}
 use lib.Dec.{ltb}
 use lib.ListN.{length, getD, length-map}
-use Rattle.cells.specs.Firsts.{holds, addNew, addFirsts, firsts}
+use Rattle.cells.specs.Lists.{holds, addNew, addFirsts, firsts}
 use Rattle.cells.specs.FirstsLaws.{firsts-map, length-addFirsts, mem-firsts}
 use Rattle.direction.specs.declared.Axis.the-variants as A
-use Rattle.direction.specs.Position.{Position, origin, shift, turn, mirrorRows, samePosition}
-use Rattle.direction.specs.Direction.{step, rotate, reflect}
+use Rattle.direction.specs.Direction.{Position, origin, shift, samePosition, step, rotate, reflect}
+use Rattle.direction.specs.PositionLaws.{quarterTurn, mirrorRows, samePosition-map, shift-shift, shift-inj, shift-origin, turn-inj, turn-shift, mirrorRows-inj, mirrorRows-shift, samePosition-iff}
 use Rattle.tile.specs.Path.{Path, codesOk, points, cells, cellCount, EdgeJoined, rotated, reflected}
-use Rattle.direction.specs.PositionLaws.{samePosition-map, shift-shift, shift-inj, shift-origin, turn-inj, turn-shift, mirrorRows-inj, mirrorRows-shift, samePosition-iff}
 use Rattle.direction.specs.DirectionLaws.{by-code, step-rotate, step-reflect, rotate-edge, reflect-edge, rotate-four, reflect-reflect, reflect-rotate, reflect-vertical, rotate-lt, reflect-lt}
 use Rattle.cells.specs.MemberLaws.{mem-place}
 use Rattle.direction.specs.declared.Axis.{Axis}
@@ -46,7 +45,7 @@ pub record Symmetry (f : ℕ → ℕ) (F : Position → Position) : Type 0 where
   pub steps : (c : ℕ) → step (f c) ≡ F (step c)
   pub edges : (c : ℕ) → c < 4 → f c < 4
 
-pub rotate-symmetry : Symmetry rotate turn
+pub rotate-symmetry : Symmetry rotate quarterTurn
 rotate-symmetry = record { fixes = refl; adds = turn-shift; one = turn-inj; steps = step-rotate; edges = rotate-edge }
 
 pub reflect-symmetry : Symmetry (reflect A.Horizontal) mirrorRows

@@ -1,4 +1,4 @@
--- Laws of paths and stored tiles: the test of a path tells what `readPath` and `readTile` answer, and what is stored is read back. Rests on `Stored`
+-- Laws of paths and stored tiles: the test of a path tells what `readPath` and `readTile` answer, and what is stored is read back. Rests on `Path`
 -- and the laws of arrays. Assumes nothing.
 use mathlib.Core.Path.{_≡_, refl, sym, ap, _∙_, subst}
 use mathlib.Core.Bool.{Bool, true, false, So, and-false, and-eq-true-iff}
@@ -11,15 +11,14 @@ use borrow.Author.Tests.{le-leb, lt-leb, leb-true}
 use lib.Dec.{leb}
 use lib.ListN.{length, getD, take, length-take}
 use lib.Seq.{ext-getD, getD-take, length-take-le}
-use Rattle.cells.specs.Arrays.{listOf}
+use Rattle.cells.specs.Lists.{listOf}
 use Rattle.cells.specs.ArrayLaws.{length-listOf, getD-listOf}
 use Rattle.tile.specs.declared.Tile.{Tile}
 use Rattle.refusal.specs.declared.Refusal.{Refusal}
 use Rattle.refusal.specs.declared.Verdict.{Verdict}
 use Rattle.refusal.specs.declared.Verdict.the-variants as Verdicts
 use Rattle.refusal.specs.Refusal.{refused, given, refusalNumber, refusalOf, verdictNumber}
-use Rattle.tile.specs.Path.{Path, codesOk, isPath}
-use Rattle.tile.specs.Stored.{pathIn, readTile, readPath, tileOf}
+use Rattle.tile.specs.Path.{Path, codesOk, isPath, pathIn, readTile, readPath, tileOf}
 use Rattle.tile.specs.Inner.{CleanTile}
 use Rattle.refusal.specs.RefusalLaws.{clash, refused-of, given-inj, Refuses, refuses-one, refuses-cond}
 

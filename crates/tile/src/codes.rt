@@ -7,9 +7,8 @@ ghost use mathlib.Core.Path.{_≡_};
 ghost use mathlib.Core.List.{map};
 ghost use Prim.Native.Nat.{_≤_};
 ghost use lib.ListN.{length, getD};
-ghost use Rattle.cells.specs.Arrays.{listOf};
-ghost use Rattle.tile.specs.Path.{codesOk};
-ghost use Rattle.tile.specs.Stored.{pathIn, tileOf};
+ghost use Rattle.cells.specs.Lists.{listOf};
+ghost use Rattle.tile.specs.Path.{codesOk, pathIn, tileOf};
 ghost use Rattle.tile.specs.Inner.{image, codeOf, run};
 
 // Whether every code is one of 0 to 7.

@@ -3,7 +3,7 @@
 //
 // The struct holds any numbers; a call that is handed one tests it and refuses, by 5 (a path over 32
 // or a code over 7), so that nothing is asked of a caller. What each call answers is a definition of
-// specs/: Path.antt for the paths, Stored.antt for how they are stored.
+// specs/Path.antt.
 use codes::Motion;
 use direction::Axis;
 use refusal::Refusal;
@@ -11,8 +11,7 @@ use refusal::Verdict;
 ghost use mathlib.Core.Path.{_≡_};
 ghost use mathlib.Core.List.{[]};
 ghost use Rattle.refusal.specs.Refusal.{refusalNumber, mapAnswer, refusalOf, verdictNumber};
-ghost use Rattle.tile.specs.Path.{isPath, cellCount, rotated, reflected};
-ghost use Rattle.tile.specs.Stored.{readTile, readPath, tileOf, MakesTile, cellCountAnswer, lTile, tTile};
+ghost use Rattle.tile.specs.Path.{isPath, cellCount, rotated, reflected, readTile, readPath, tileOf, MakesTile, cellCountAnswer, lTile, tTile};
 
 mod codes;
 mod points;

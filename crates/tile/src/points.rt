@@ -6,7 +6,7 @@ ghost use mathlib.Core.Bool.{So};
 ghost use Prim.Native.Nat.{_+_, _≤_};
 ghost use lib.Dec.{eqb};
 ghost use lib.ListN.{length};
-ghost use Rattle.cells.specs.Firsts.{holds, addNew};
+ghost use Rattle.cells.specs.Lists.{holds, addNew};
 ghost use Rattle.tile.specs.Path.{codesOk, cellCount};
 ghost use Rattle.tile.specs.Inner.{keyStep, keysIn};
 

@@ -10,21 +10,20 @@ use native.Mathlib.Omega.{arith}
 use borrow.Author.Tests.{le-leb, lt-leb, leb-true, leb-false}
 use lib.Dec.{eqb, leb}
 use lib.ListN.{length, getD, set, length-append}
-use Rattle.cells.specs.Words.{number}
-use Rattle.cells.specs.Firsts.{holds}
+use Rattle.cells.specs.Set.{number}
+use Rattle.cells.specs.Lists.{holds, listOf, listFrom, setAt}
+use Rattle.cells.specs.Parts.{withSet, findSet, foundAnswer}
 use Rattle.cells.specs.FirstsLaws.{addNew-old, addNew-new, holds-iff, mem-getD}
 use Rattle.cells.specs.MemberLaws.{eqb-tells}
-use Rattle.cells.specs.Arrays.{listOf, listFrom}
 use Rattle.cells.specs.ArrayLaws.{getD-listOf, listOf-ext, listOf-snoc}
-use Rattle.cells.specs.Lists.{setAt, withSet, findSet, foundAnswer}
 use Rattle.cells.specs.ListLaws.{setAt-same, setAt-other}
 use Rattle.tiles.specs.declared.Tiles.{Tiles}
-use Rattle.tiles.specs.Stored.{pathsIn}
+use Rattle.tiles.specs.Paths.{pathsIn}
 use Rattle.board.specs.declared.RectangularBoard.{RectangularBoard}
 use Rattle.board.specs.Board.{boardOf}
 use Rattle.rectangle.specs.BoardLaws.{marks-lt}
-use Rattle.covers.specs.Cuttings.{Setting, childBoards, Laws, EqualSteps}
-use Rattle.covers.specs.Counts.{numberIn, nodesOf, graphEdges}
+use Rattle.covers.specs.Setting.{Setting, childBoards, Laws, EqualSteps, nodesOf, graphEdges}
+use Rattle.covers.specs.Counts.{numberIn}
 use Rattle.covers.specs.NodeLaws.{number-right}
 use Rattle.covers.specs.SettingLaws.{node-ok, some-node}
 use Rattle.covers.specs.FindingLaws.{addChild, addChildren, addChildren-snoc, addChildren-longer, foundAt, edgesAt, found-zero, found-prefix, found-at, found-end, edges-zero, edges-all, expanded}
@@ -34,8 +33,8 @@ use Rattle.graph.specs.Graph.{edgeAt}
 use Rattle.graph.specs.GraphLaws.{set-edge, found-held}
 use Rattle.tiler.specs.declared.building.Growth.{Growth}
 use Rattle.tiler.specs.declared.building.Growth.the-variants as G
-use Rattle.expansion.specs.Boards.{From, setting, settingOf, startOf}
-use Rattle.expansion.specs.Plots.{Accepted, stepOf}
+use Rattle.expansion.specs.Boards.{From, setting, settingOf, startOf, Accepted}
+use Rattle.expansion.specs.Parts.{stepOf}
 use Rattle.tiler.specs.Inner.{growthOf, nodesIn, HoldsEdges, HoldsGraph}
 use Rattle.expansion.specs.AcceptedLaws.{accepted-laws, accepted-steps, accepted-start}
 

@@ -8,44 +8,44 @@ use native.Mathlib.Nat.{add-zero, le-of-eq}
 use native.Mathlib.Omega.{arith}
 use borrow.Author.Tests.{le-leb, lt-leb}
 use lib.ListN.{length, getD}
-use Rattle.cells.specs.Words.{Sound}
+use Rattle.cells.specs.Set.{Sound}
 use Rattle.cells.specs.WordLaws.{number-lt}
 use Rattle.cells.specs.FirstsLaws.{mem-getD}
-use Rattle.cells.specs.Arrays.{listFrom, listOf}
+use Rattle.cells.specs.Lists.{listFrom, listOf, setAt, wordsFor}
+use Rattle.cells.specs.Parts.{clearedFrom, firstFrom}
 use Rattle.cells.specs.ArrayLaws.{getD-listOf}
-use Rattle.cells.specs.Lists.{setAt, clearedFrom, wordsFor, firstFrom}
-use Rattle.cells.specs.ListLaws.{cleared-all}
+use Rattle.cells.specs.ListLaws.{cleared-sets, cleared-all}
 use Rattle.tiles.specs.declared.Tiles.{Tiles}
 use Rattle.refusal.specs.declared.Refusal.{Refusal}
 use Rattle.refusal.specs.declared.Verdict.the-variants as Verdicts
 use Rattle.refusal.specs.Refusal.{Answer, refused, given, bindAnswer, refusalOf, refusalNumber, valueOr, mapAnswer}
 use Rattle.tile.specs.Path.{Path}
-use Rattle.tiles.specs.Stored.{pathsIn}
+use Rattle.tiles.specs.Paths.{pathsIn}
 use Rattle.board.specs.declared.RectangularBoard.{RectangularBoard}
 use Rattle.board.specs.declared.AllMarked.{AllMarked}
 use Rattle.board.specs.declared.AllMarked.the-variants as M
-use Rattle.rectangle.specs.Board.{Board, boardAt, marks, isFull, valid}
+use Rattle.rectangle.specs.Board.{Board, boardAt, isFull, valid}
 use Rattle.board.specs.Board.{boardOf, readBoard, allMarkedAnswer}
-use Rattle.covers.specs.Cuttings.{Setting, Laws, EqualSteps}
-use Rattle.covers.specs.Counts.{counts, fullFrom, fullNode, entriesOf, nodesOf, graphEdges}
+use Rattle.covers.specs.Setting.{Setting, Laws, EqualSteps, entriesOf, nodesOf, graphEdges}
+use Rattle.covers.specs.Counts.{counts, fullFrom, fullNode}
 use Rattle.covers.specs.SettingLaws.{node-ok}
 use Rattle.covers.specs.PassLaws.{edge-in}
-use Rattle.graph.specs.Graph.{edgeAt, edgesFor}
+use Rattle.graph.specs.Graph.{edgeAt, edgesFor, nodeRoom, edgeRoom, completeNode}
 use Rattle.cells.specs.SearchLaws.{firstFrom-found, firstFrom-missed}
-use Rattle.graph.specs.GraphLaws.{cleared-nodes, cleared-edges}
+use Rattle.graph.specs.GraphLaws.{cleared-edges}
 use Rattle.graph.specs.declared.Complete.the-variants as N
 use Rattle.tiler.specs.declared.MadeGraph.{MadeGraph}
 use Rattle.tiler.specs.declared.building.Growth.{Growth}
 use Rattle.tiler.specs.declared.building.Growth.the-variants as G
-use Rattle.expansion.specs.Boards.{From, setting, settingOf, startOf}
-use Rattle.graph.specs.Rooms.{nodeRoom, edgeRoom}
-use Rattle.graph.specs.Result.{completeNode}
-use Rattle.tiler.specs.Graphs.{Graph, Makes, graphOf, judgeGraph, generateGraph}
-use Rattle.expansion.specs.Plots.{readPlot, markedBoard, Accepted, stepOf}
+use Rattle.expansion.specs.Boards.{From, setting, settingOf, startOf, Accepted}
+use Rattle.tiler.specs.Graphs.{Graph, Makes, judgeGraph, generateGraph, graphOf}
+use Rattle.expansion.specs.Plots.{acceptPlot}
+use Rattle.expansion.specs.Parts.{markedBoard, stepOf}
 use Rattle.layers.specs.LayerCounts.{tooLarge}
-use Rattle.tiler.specs.Inner.{HoldsGraph, EndsBelow, PassesEdges, Finishes}
+use Rattle.tiler.specs.Inner.{HoldsGraph, EndsBelow, PassesEdges, Finishes, graphIn}
 use Rattle.expansion.specs.AcceptedLaws.{accepted-laws, accepted-steps, accepted-start}
 use Rattle.graph.specs.RoomLaws.{node-room, edge-room}
+use Rattle.tiler.specs.GivenLaws.{graph-setting}
 use Rattle.tiler.proofs.BuildLaws.{size-held, no-room-held}
 use Rattle.tiler.proofs.PassingLaws.{pass-counts, pass-too-large}
 use Rattle.board.specs.BoardLaws.{readBoard-given}
@@ -220,7 +220,7 @@ module _ (b : RectangularBoard) (ts : Tiles) (accepted : Accepted b ts) (fixed :
         finished-nodes =
             finish .nodeWords
             ∙ ap (λ (k : ℕ). clearedFrom (4 * k) ns) (sized .1)
-            ∙ cleared-nodes ns nodes small (omega (arith, sized .0)) (holds .nodes (sized .0))
+            ∙ cleared-sets ns nodes small (omega (arith, sized .0)) (holds .nodes (sized .0))
 
         finished-edges : es′ ≡ edgesFor edges (length es)
         finished-edges =
@@ -241,17 +241,17 @@ module _ (b : RectangularBoard) (ts : Tiles) (accepted : Accepted b ts) (fixed :
       (ns es : List ℕ) (growth : Growth) (holds : HoldsGraph room edges-room ns es growth (nodes, edges))
       (longNodes : length ns ≡ wn) (longEdges : length es ≡ we) where
     abbrev answer : Answer Graph
-    answer = judgeGraph (nodeRoom wn wc) (edgeRoom we) (graphOf S start)
+    answer = judgeGraph (nodeRoom wn wc) (edgeRoom we) (graphIn S start)
 
-    rooms : answer ≡ judgeGraph room edges-room (graphOf S start)
+    rooms : answer ≡ judgeGraph room edges-room (graphIn S start)
     rooms = rw (← atRoom, ← atEdgesRoom)
 
     pub made-no-room : (ns′ cs′ es′ : List ℕ) (r : MadeGraph) → growth ≡ G.NoRoom → Makes (refused 8) (length ns) wc (length es) ns′ cs′ es′ r
         → Makes answer wn wc we ns′ cs′ es′ r
-    unfolding graphOf
+    unfolding graphIn
     made-no-room ns′ cs′ es′ r q =
         makes-as answer (refused 8) wn (length ns) wc wc we (length es) ns′ cs′ es′ r
-        (rooms ∙ judgeGraph-nodes room edges-room (graphOf S start) (no-room-held room edges-room (nodes, edges) (sym q ∙ holds .state))) longNodes refl longEdges
+        (rooms ∙ judgeGraph-nodes room edges-room (graphIn S start) (no-room-held room edges-room (nodes, edges) (sym q ∙ holds .state))) longNodes refl longEdges
 
     module _ (n e : ℕ) (size : growth ≡ G.Size n e) where
       -- what the calls ask
@@ -274,12 +274,12 @@ module _ (b : RectangularBoard) (ts : Tiles) (accepted : Accepted b ts) (fixed :
 
       pub made-no-room-for-edges : (ns′ cs′ es′ : List ℕ) (r : MadeGraph) → edges-room < e → Makes (refused 10) (length ns) wc (length es) ns′ cs′ es′ r
           → Makes answer wn wc we ns′ cs′ es′ r
-      unfolding graphOf
+      unfolding graphIn
       made-no-room-for-edges ns′ cs′ es′ r h =
           let fits = sized room edges-room ns es growth n e holds size in
           let q = fits .2 in
           makes-as answer (refused 10) wn (length ns) wc wc we (length es) ns′ cs′ es′ r
-          (rooms ∙ judgeGraph-edges room edges-room (graphOf S start) (fits .0) (omega arith)) longNodes refl longEdges
+          (rooms ∙ judgeGraph-edges room edges-room (graphIn S start) (fits .0) (omega arith)) longNodes refl longEdges
 
       module _ (few : e ≤ edges-room) (cs : List ℕ) (t : Bool) (longCounts : length cs ≡ wc)
           (pass : PassesEdges wc (listOf (edgeAt es) e) cs t) where
@@ -288,23 +288,23 @@ module _ (b : RectangularBoard) (ts : Tiles) (accepted : Accepted b ts) (fixed :
 
         pub made-large : (ns′ cs′ es′ : List ℕ) (r : MadeGraph) → t ≡ false → Makes (refused 9) (length ns) (length cs) (length es) ns′ cs′ es′ r
             → Makes answer wn wc we ns′ cs′ es′ r
-        unfolding graphOf
+        unfolding graphIn
         made-large ns′ cs′ es′ r f =
             makes-as answer (refused 9) wn (length ns) wc (length cs) we (length es) ns′ cs′ es′ r
             (rooms
-            ∙ judgeGraph-large room edges-room (graphOf S start) (sized room edges-room ns es growth n e holds size .0)
+            ∙ judgeGraph-large room edges-room (graphIn S start) (sized room edges-room ns es growth n e holds size .0)
             (all-edges room edges-room ns es growth n e holds size few .1)
             (pass-too-large S laws (stepOf (pathsIn ts)) equal start ok wc cs t all f))
             longNodes longCounts longEdges
 
         pub made-finished : (ns′ es′ : List ℕ) (r : MadeGraph) → ((i : ℕ) → getD ns i 0 < 2 ^ 64) → t ≡ true
             → Finishes (boardOf b) ns es n e ns′ es′ r → Makes answer wn wc we ns′ cs es′ r
-        unfolding graphOf refusalOf valueOr
+        unfolding graphIn refusalOf valueOr
         made-finished ns′ es′ r smallNodes f finish =
             let fits = sized room edges-room ns es growth n e holds size in
-            makes-as answer (given (graphOf S start)) wn (length ns) wc wc we (length es) ns′ cs es′ r
+            makes-as answer (given (graphIn S start)) wn (length ns) wc wc we (length es) ns′ cs es′ r
             (rooms
-            ∙ judgeGraph-given room edges-room (graphOf S start) (fits .0) (all-edges room edges-room ns es growth n e holds size few .1)
+            ∙ judgeGraph-given room edges-room (graphIn S start) (fits .0) (all-edges room edges-room ns es growth n e holds size few .1)
             (are .1))
             longNodes refl longEdges
             (record {
@@ -329,23 +329,25 @@ module _ (b : RectangularBoard) (ts : Tiles) (accepted : Accepted b ts) (fixed :
 -- ---- board and tiles that are judged
 
 module _ (b : RectangularBoard) (ts : Tiles) (wn wc we : ℕ) (ns cs es : List ℕ) (r : MadeGraph) where
-  generates : (a : Answer (Board × List Path)) → readPlot b ts ≡ a
-      → Makes (bindAnswer a (λ p. judgeGraph (nodeRoom wn wc) (edgeRoom we) (graphOf (setting (p .0) (p .1)) (marks (p .0))))) wn wc we ns cs es r
+  generates : (a : Answer (Board × List Path)) → acceptPlot b ts ≡ a
+      → Makes (bindAnswer a (λ p. judgeGraph (nodeRoom wn wc) (edgeRoom we) (graphOf (p .0) (p .1)))) wn wc we ns cs es r
       → Makes (generateGraph b ts wn wc we) wn wc we ns cs es r
   unfolding generateGraph
   generates a e =
       subst
       (λ (x : Answer (Board × List Path)).
-      Makes (bindAnswer x (λ p. judgeGraph (nodeRoom wn wc) (edgeRoom we) (graphOf (setting (p .0) (p .1)) (marks (p .0))))) wn wc we ns cs es r)
+      Makes (bindAnswer x (λ p. judgeGraph (nodeRoom wn wc) (edgeRoom we) (graphOf (p .0) (p .1)))) wn wc we ns cs es r)
       (sym e)
 
-  pub generates-made : readPlot b ts ≡ given (boardOf b, pathsIn ts)
-      → Makes (judgeGraph (nodeRoom wn wc) (edgeRoom we) (graphOf (settingOf b ts) (startOf b))) wn wc we ns cs es r
+  pub generates-made : acceptPlot b ts ≡ given (boardOf b, pathsIn ts)
+      → Makes (judgeGraph (nodeRoom wn wc) (edgeRoom we) (graphIn (settingOf b ts) (startOf b))) wn wc we ns cs es r
       → Makes (generateGraph b ts wn wc we) wn wc we ns cs es r
   unfolding bindAnswer
-  generates-made e m = generates (given (boardOf b, pathsIn ts)) e m
+  generates-made e m =
+      generates (given (boardOf b, pathsIn ts)) e
+      (subst (λ (g : Graph). Makes (judgeGraph (nodeRoom wn wc) (edgeRoom we) g) wn wc we ns cs es r) (sym (graph-setting (boardOf b) (pathsIn ts))) m)
 
-  pub generates-refused : (n : ℕ) → readPlot b ts ≡ refused n → Makes (refused n) wn wc we ns cs es r
+  pub generates-refused : (n : ℕ) → acceptPlot b ts ≡ refused n → Makes (refused n) wn wc we ns cs es r
       → Makes (generateGraph b ts wn wc we) wn wc we ns cs es r
   unfolding bindAnswer
   generates-refused n e m = generates (refused n) e m

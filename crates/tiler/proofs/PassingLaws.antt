@@ -10,16 +10,17 @@ use native.Mathlib.Omega.{arith}
 use borrow.Author.Tests.{leb-true, leb-false, le-leb, lt-leb, eqb-true, eq-eqb}
 use lib.Dec.{eqb, leb, lit<}
 use lib.ListN.{length, getD, List·getD-eq-default}
-use Rattle.cells.specs.Firsts.{any}
+use Rattle.cells.specs.Lists.{any, listOf}
+use Rattle.cells.specs.Parts.{clearedFrom}
 use Rattle.cells.specs.FirstsLaws.{mem-getD, any-true, any-some}
 use Rattle.cells.specs.MemberLaws.{mem-place}
-use Rattle.cells.specs.Arrays.{listOf}
 use Rattle.cells.specs.ArrayLaws.{length-listOf, getD-listOf}
-use Rattle.cells.specs.Lists.{clearedFrom}
-use Rattle.covers.specs.Cuttings.{Setting, Laws, EqualSteps}
-use Rattle.covers.specs.Counts.{counts, entriesOf, pathCountOf, graphEdges}
+use Rattle.covers.specs.Setting.{Setting, Laws, EqualSteps, entriesOf, pathCountOf, graphEdges}
+use Rattle.covers.specs.Counts.{counts}
 use Rattle.covers.specs.PassLaws.{passed, passed-zero, passed-suc, passed-all, passed-le}
-use Rattle.path_count.specs.PathCounts.{countLimit, countRoom, countIn, withCount, countWords, countsFor, AddsCount}
+use Rattle.path_count.specs.PathCounts.{countLimit, countRoom, countIn, countsFor}
+use Rattle.path_count.specs.Parts.{withCount, AddsCount}
+use Rattle.path_count.specs.Inner.{countWords}
 use Rattle.path_count.specs.PathCountLaws.{length-countWords, countIn-countWords, withCount-countWords, cleared-countWords, countWords-countsFor, adds-countWords}
 use Rattle.graph.specs.Graph.{edgeAt}
 use Rattle.layers.specs.LayerCounts.{tooLarge}

@@ -10,27 +10,25 @@ use native.Mathlib.Omega.{arith}
 use borrow.Author.Tests.{leb-true}
 use lib.Dec.{leb}
 use lib.ListN.{length, getD, length-map}
-use Rattle.cells.specs.Lists.{setsIn}
+use Rattle.cells.specs.ListLaws.{setsIn, length-wordsFor, setsIn-wordsFor}
 use Rattle.tiles.specs.declared.Tiles.{Tiles}
 use Rattle.refusal.specs.Refusal.{Answer, refused, given, bindAnswer, refusalOf, valueOr}
 use Rattle.refusal.specs.RefusalLaws.{refused-given, given-inj}
 use Rattle.tile.specs.Path.{Path}
-use Rattle.cells.specs.ListLaws.{length-wordsFor, setsIn-wordsFor}
 use Rattle.graph.specs.GraphLaws.{length-edgesFor, edgesIn-edgesFor}
 use Rattle.board.specs.declared.RectangularBoard.{RectangularBoard}
-use Rattle.rectangle.specs.Board.{Board, marks}
-use Rattle.covers.specs.Counts.{Entry, SumRule, boards, counts, fullFrom, fullNode}
+use Rattle.rectangle.specs.Board.{Board}
+use Rattle.covers.specs.Counts.{Entry, boards, counts, fullFrom, fullNode}
+use Rattle.covers.specs.Setting.{SumRule}
 use Rattle.covers.specs.CountLaws.{fullNode-some, fullNode-none}
-use Rattle.graph.specs.Graph.{edgesIn}
+use Rattle.graph.specs.Graph.{edgesIn, nodeRoom, edgeRoom}
 use Rattle.tiler.specs.declared.MadeGraph.{MadeGraph}
-use Rattle.expansion.specs.Boards.{setting}
-use Rattle.graph.specs.Rooms.{nodeRoom, edgeRoom}
 use Rattle.graph.specs.RoomLaws.{node-room, edge-room}
 use Rattle.path_count.specs.PathCounts.{countIn, countLimit}
 use Rattle.path_count.specs.PathCountLaws.{length-countsFor, countIn-countsFor}
 use Rattle.numbered_tilings.specs.TilingLaws.{SoundGraph}
 use Rattle.layers.specs.LayerCounts.{tooLarge}
-use Rattle.expansion.specs.Plots.{readPlot}
+use Rattle.expansion.specs.Plots.{acceptPlot}
 use Rattle.tiler.specs.Graphs.{Graph, graphOf, judgeGraph, generateGraph, Makes, pathCountAt}
 use Rattle.expansion.specs.AcceptedLaws.{plot-refusal}
 
@@ -68,13 +66,13 @@ graph-refusal room edges-room g e = go (leb (length (g .nodes)) room) (leb (leng
 pub given-graph : (b : RectangularBoard) (ts : Tiles) (nodeWords countWords edgeWords : ℕ) → refusalOf (generateGraph b ts nodeWords countWords edgeWords) ≡ 0
     → (g : Graph) × (generateGraph b ts nodeWords countWords edgeWords ≡ given g)
 unfolding generateGraph bindAnswer refusalOf
-given-graph b ts nodeWords countWords edgeWords e = go (readPlot b ts) refl e
+given-graph b ts nodeWords countWords edgeWords e = go (acceptPlot b ts) refl e
   where
-    go : (a : Answer (Board × List Path)) → readPlot b ts ≡ a
-        → refusalOf (bindAnswer a (λ p. judgeGraph (nodeRoom nodeWords countWords) (edgeRoom edgeWords) (graphOf (setting (p .0) (p .1)) (marks (p .0))))) ≡ 0
-        → (g : Graph) × (bindAnswer a (λ p. judgeGraph (nodeRoom nodeWords countWords) (edgeRoom edgeWords) (graphOf (setting (p .0) (p .1)) (marks (p .0)))) ≡ given g)
+    go : (a : Answer (Board × List Path)) → acceptPlot b ts ≡ a
+        → refusalOf (bindAnswer a (λ p. judgeGraph (nodeRoom nodeWords countWords) (edgeRoom edgeWords) (graphOf (p .0) (p .1)))) ≡ 0
+        → (g : Graph) × (bindAnswer a (λ p. judgeGraph (nodeRoom nodeWords countWords) (edgeRoom edgeWords) (graphOf (p .0) (p .1))) ≡ given g)
     go (refused n) q h = absurd (omega (arith, plot-refusal b ts n q))
-    go (given p) q h = graph-refusal (nodeRoom nodeWords countWords) (edgeRoom edgeWords) (graphOf (setting (p .0) (p .1)) (marks (p .0))) h
+    go (given p) q h = graph-refusal (nodeRoom nodeWords countWords) (edgeRoom edgeWords) (graphOf (p .0) (p .1)) h
 
 -- ---- a graph in its words
 

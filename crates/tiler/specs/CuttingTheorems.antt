@@ -5,28 +5,29 @@ use mathlib.Core.Path.{_≡_, sym, ap, _∙_, subst}
 use mathlib.Core.Bool.{Bool}
 use mathlib.Core.List.{List}
 use Prim.Native.Nat.{ℕ, _+_, _≤_, _<_}
+use native.Mathlib.Omega.{arith}
 use lib.ListN.{length, take}
-use Rattle.cells.specs.Words.{Sound}
+use Rattle.cells.specs.Set.{Sound}
 use Rattle.tiles.specs.declared.Tiles.{Tiles}
 use Rattle.refusal.specs.Refusal.{given, valueOr, verdictNumber}
-use Rattle.tiles.specs.Paths.{EqualCounts}
-use Rattle.tiles.specs.Stored.{pathsIn}
+use Rattle.tiles.specs.Paths.{EqualCounts, pathsIn}
 use Rattle.tiles.specs.EqualLaws.{readEqualTiles-given}
 use Rattle.board.specs.declared.RectangularBoard.{RectangularBoard}
 use Rattle.board.specs.Board.{boardOf}
 use Rattle.rectangle.specs.Board.{freeCount}
-use Rattle.covers.specs.Cuttings.{Numbering, Exactly}
-use Rattle.path_count.specs.PathCounts.{countLimit}
+use Rattle.rectangle.specs.FreeLaws.{free-le}
+use Rattle.covers.specs.Counts.{Numbering, Exactly}
+use Rattle.path_count.specs.declared.PathCount.{PathCount}
+use Rattle.path_count.specs.PathCounts.{countLimit, countValue}
 use Rattle.numbered_tilings.specs.declared.Tiling.{Tiling}
-use Rattle.graph.specs.Rooms.{layerRoom}
-use Rattle.graph.specs.Result.{completeNode, countFromGraph, markedPieces}
-use Rattle.numbered_tilings.specs.Tilings.{nodeList, tilingAnswer, GivesTiling}
+use Rattle.graph.specs.Graph.{layerRoom, completeNode, countFromGraph, markedPiecesIn}
+use Rattle.numbered_tilings.specs.Tilings.{nodeListIn, tilingAnswer, GivesTiling}
 use Rattle.numbered_tilings.specs.TilingLaws.{list-read}
 use Rattle.layers.specs.declared.Count.{Count}
 use Rattle.tiler.specs.declared.MadeGraph.{MadeGraph}
 use Rattle.layers.specs.LayerCounts.{countAnswer, CountsTilings, CountsCuttings}
 use Rattle.tiler.specs.Graphs.{Graph, generateGraph, GeneratesGraph, NumbersCuttings}
-use Rattle.expansion.specs.Cuttings.{IsCutting, HasFreeCell, AllEdgeJoined}
+use Rattle.expansion.specs.Plots.{IsCutting, HasFreeCell, AllEdgeJoined}
 use Rattle.tiler.specs.AnswerLaws.{given-graph}
 use Rattle.tiler.specs.GivenLaws.{plot-accepted}
 use Rattle.layers.specs.CountLaws.{counts-cuttings}
@@ -67,21 +68,22 @@ module _ (b : RectangularBoard) (fixed : Sound (b .fixed)) (laid : Sound (b .lai
   graph : (g : Graph) × (generateGraph b ts (length nodes) (length counts) (length edges) ≡ given g)
   graph = given-graph b ts (length nodes) (length counts) (length edges) (sym (generated .verdict) ∙ graphGiven)
 
-  pub tiles-cover-equally-many : EqualCounts (pathsIn ts)
-  tiles-cover-equally-many = readEqualTiles-given ts (pathsIn ts) (plot-accepted b fixed laid ts (length nodes) (length counts) (length edges) (graph .0) (graph .1) .tiles) .3
-
-  -- "both equal the number of cuttings": n is the layer count, and the graph count, which `count_tilings_from_graph` answers, is n too,
+  -- "both equal the number of cuttings": n is the layer count, and the graph count is n too,
   pub both-counts : countFromGraph (completeNode (made .graph .complete)) counts′ ≡ n
   both-counts =
       calls-agree b fixed laid ts (layerRoom (length boardsA) (length countsA) (length boardsB) (length countsB)) n (sym (counted .answer) ∙ countGiven)
       nodes counts edges nodes′ counts′ edges′ made generated graphGiven
+
+  -- and so is what `count_tilings_from_graph` answers by its contract;
+  pub graph-count-told : (r : PathCount) → countValue r ≡ countFromGraph (completeNode (made .graph .complete)) counts′ → countValue r ≡ n
+  graph-count-told r told = told ∙ both-counts
 
   -- and n is "the number of cuttings, the ways to cut the free cells into pieces that tiles cover."
   pub number-of-cuttings : Exactly n (IsCutting (boardOf b) (pathsIn ts))
   number-of-cuttings =
       layer-count-is-number-of-cuttings b fixed laid ts boardsA countsA boardsB countsB boardsA′ countsA′ boardsB′ countsB′ count counted free joined n countGiven
 
-  -- The numbers below n are path counts, as the numbered call takes them.
+  -- n is below the limit of a path count, so that every number below it can be handed to the numbered call.
   pub numbers-are-path-counts : n < countLimit
   numbers-are-path-counts =
       subst (λ (k : ℕ). k < countLimit) both-counts (words-count-small b fixed laid ts nodes counts edges nodes′ counts′ edges′ made generated (graph .0) (graph .1))
@@ -90,60 +92,75 @@ module _ (b : RectangularBoard) (fixed : Sound (b .fixed)) (laid : Sound (b .lai
   abbrev pub NumberedCall : ℕ → List ℕ → List ℕ → Tiling → Type 0
   NumberedCall m out out′ t = GivesTiling (made .graph) nodes′ counts′ edges′ m out out′ t
 
-  -- "that is long enough": not shorter than the list of 01's walk,
-  abbrev pub listFor : ℕ → List ℕ
-  listFor m = nodeList (made .graph) counts′ edges′ m
+  -- the list of 01's walk for the number m
+  abbrev pub nodeListFor : ℕ → List ℕ
+  nodeListFor m = nodeListIn (made .graph) counts′ edges′ m
 
+  -- "that is long enough": not shorter than that list,
   abbrev pub LongEnough : ℕ → List ℕ → Type 0
-  LongEnough m out = length (listFor m) ≤ length out
+  LongEnough m out = length (nodeListFor m) ≤ length out
 
-  -- as is any output of more words than there are free cells.
-  pub long-enough : (m : ℕ) → m < n → length (listFor m) ≤ freeCount (boardOf b) + 1
-  long-enough m h =
+  few : (m : ℕ) → m < n → length (nodeListFor m) ≤ freeCount (boardOf b) + 1
+  few m h =
       words-length b fixed laid ts nodes counts edges nodes′ counts′ edges′ made generated (graph .0) (graph .1) m (subst (λ (k : ℕ). m < k) (sym both-counts) h)
 
-  -- the node list that the call leaves: as many words of the output as it answers; and, in 01's words, "the set of pieces that its steps mark"
-  abbrev pub listIn : List ℕ → Tiling → List ℕ
-  listIn out′ t = take (valueOr 0 (tilingAnswer t)) out′
+  -- as is any output of 257 words, one more than a board can have free cells.
+  pub long-enough : (m : ℕ) → m < n → length (nodeListFor m) ≤ 257
+  long-enough m h = let f = few m h in omega (arith, free-le (boardOf b))
 
-  abbrev pub cuttingIn : List ℕ → Tiling → ℕ → Bool
-  cuttingIn out′ t = markedPieces nodes′ (listIn out′ t)
+  -- the node list that the call leaves: as many words of the output as it answers
+  abbrev pub nodeListLeft : List ℕ → Tiling → List ℕ
+  nodeListLeft out′ t = take (valueOr 0 (tilingAnswer t)) out′
+
+  -- what it gives, in 01's words: "the set of pieces that its steps mark"
+  abbrev pub cuttingLeft : List ℕ → Tiling → ℕ → Bool
+  cuttingLeft out′ t = markedPiecesIn nodes′ (nodeListLeft out′ t)
 
   -- the pieces of the lists by number are the cuttings
-  numbering : Numbering (IsCutting (boardOf b) (pathsIn ts)) n (λ m. markedPieces nodes′ (listFor m))
+  numbering : Numbering (IsCutting (boardOf b) (pathsIn ts)) n (λ m. markedPiecesIn nodes′ (nodeListFor m))
   numbering =
-      subst (λ (k : ℕ). Numbering (IsCutting (boardOf b) (pathsIn ts)) k (λ m. markedPieces nodes′ (listFor m))) both-counts
+      subst (λ (k : ℕ). Numbering (IsCutting (boardOf b) (pathsIn ts)) k (λ m. markedPiecesIn nodes′ (nodeListFor m))) both-counts
       (graph-numbers-cuttings b fixed laid ts nodes counts edges nodes′ counts′ edges′ made generated .cuttings graphGiven free joined)
 
   module _ (m : ℕ) (below : m < n) (out out′ : List ℕ) (t : Tiling) (long : LongEnough m out) (call : NumberedCall m out out′ t) where
-    read : (tilingAnswer t ≡ given (length (listFor m))) × (take (length (listFor m)) out′ ≡ listFor m)
+    read : (tilingAnswer t ≡ given (length (nodeListFor m))) × (take (length (nodeListFor m)) out′ ≡ nodeListFor m)
     read =
         list-read (made .graph) nodes′ counts′ edges′ m out out′ t call (own-graph-is-sound b fixed laid ts nodes counts edges nodes′ counts′ edges′ made generated graphGiven)
         (subst (λ (k : ℕ). m < k) (sym both-counts) below) long
 
     -- "For every number below the count, it isn't refused" (the length of the list comes back)
-    pub not-refused : tilingAnswer t ≡ given (length (listFor m))
+    pub not-refused : tilingAnswer t ≡ given (length (nodeListFor m))
     not-refused = read .0
 
     -- "and gives, by document 01's walk,"
-    pub by-the-walk : listIn out′ t ≡ listFor m
+    pub by-the-walk : nodeListLeft out′ t ≡ nodeListFor m
     unfolding valueOr
     by-the-walk = ap (λ (k : ℕ). take k out′) (ap (valueOr 0) (read .0)) ∙ read .1
 
     -- "one cutting."
-    pub gives-a-cutting : IsCutting (boardOf b) (pathsIn ts) (cuttingIn out′ t)
-    gives-a-cutting = subst (λ (list : List ℕ). IsCutting (boardOf b) (pathsIn ts) (markedPieces nodes′ list)) (sym by-the-walk) (numbering .each m below)
+    pub gives-a-cutting : IsCutting (boardOf b) (pathsIn ts) (cuttingLeft out′ t)
+    gives-a-cutting = subst (λ (list : List ℕ). IsCutting (boardOf b) (pathsIn ts) (markedPiecesIn nodes′ list)) (sym by-the-walk) (numbering .each m below)
 
   -- "Different numbers give different cuttings,"
   pub different-cuttings : (m k : ℕ) → m < n → k < n → (outM outM′ : List ℕ) (tM : Tiling) (outK outK′ : List ℕ) (tK : Tiling) → LongEnough m outM → LongEnough k outK
-      → NumberedCall m outM outM′ tM → NumberedCall k outK outK′ tK → cuttingIn outM′ tM ≡ cuttingIn outK′ tK → m ≡ k
+      → NumberedCall m outM outM′ tM → NumberedCall k outK outK′ tK → cuttingLeft outM′ tM ≡ cuttingLeft outK′ tK → m ≡ k
   different-cuttings m k h i outM outM′ tM outK outK′ tK longM longK callM callK e =
       numbering .once m k h i
-      (ap (markedPieces nodes′) (sym (by-the-walk m h outM outM′ tM longM callM)) ∙ e ∙ ap (markedPieces nodes′) (by-the-walk k i outK outK′ tK longK callK))
+      (ap (markedPiecesIn nodes′) (sym (by-the-walk m h outM outM′ tM longM callM)) ∙ e ∙ ap (markedPiecesIn nodes′) (by-the-walk k i outK outK′ tK longK callK))
 
   -- "and every cutting has its number below the count."
   pub every-cutting-has-its-number : (X : ℕ → Bool) → IsCutting (boardOf b) (pathsIn ts) X
-      → (m : ℕ) × (m < n) × ((out out′ : List ℕ) (t : Tiling) → LongEnough m out → NumberedCall m out out′ t → cuttingIn out′ t ≡ X)
+      → (m : ℕ) × (m < n) × ((out out′ : List ℕ) (t : Tiling) → LongEnough m out → NumberedCall m out out′ t → cuttingLeft out′ t ≡ X)
   every-cutting-has-its-number X cutting =
       let r = numbering .all X cutting in
-      (r .0, r .1, λ out out′ t long call. ap (markedPieces nodes′) (by-the-walk (r .0) (r .1) out out′ t long call) ∙ r .2)
+      (r .0, r .1, λ out out′ t long call. ap (markedPiecesIn nodes′) (by-the-walk (r .0) (r .1) out out′ t long call) ∙ r .2)
+
+  -- ---- 3. Of the same calls
+
+  -- Tiles whose counts are given "all cover equally many cells": it need not be asked.
+  pub tiles-cover-equally-many : EqualCounts (pathsIn ts)
+  tiles-cover-equally-many = readEqualTiles-given ts (pathsIn ts) (plot-accepted b fixed laid ts (length nodes) (length counts) (length edges) (graph .0) (graph .1) .tiles) .3
+
+  -- Any output of more words than there are free cells is long enough.
+  pub free-and-one-enough : (m : ℕ) → m < n → length (nodeListFor m) ≤ freeCount (boardOf b) + 1
+  free-and-one-enough = few

@@ -4,45 +4,61 @@ use mathlib.Core.Path.{_≡_, sym, ap, ap₂, _∙_, subst, fun-ext}
 use mathlib.Core.Bool.{false}
 use mathlib.Core.List.{List, List·Memᴰ as Mem}
 use Prim.Native.Nat.{ℕ, _^_, _≤_, _<_}
+use lib.Dec.{eqb}
 use lib.ListN.{length, getD}
-use Rattle.cells.specs.Words.{Sound}
+use Rattle.cells.specs.Set.{Sound}
 use Rattle.tiles.specs.declared.Tiles.{Tiles}
 use Rattle.refusal.specs.Refusal.{Answer, given, valueOr}
-use Rattle.tiles.specs.Stored.{pathsIn}
+use Rattle.tiles.specs.Paths.{pathsIn}
+use Rattle.tile.specs.Path.{Path}
 use Rattle.board.specs.declared.RectangularBoard.{RectangularBoard}
-use Rattle.covers.specs.Cuttings.{Laws, EqualSteps}
-use Rattle.covers.specs.Counts.{SumRule, atNode, counts, entriesOf, graphCount, nodesOf}
+use Rattle.rectangle.specs.Board.{Board, marks}
+use Rattle.board.specs.Board.{boardOf}
+use Rattle.children.specs.Children.{fullAt, freeCountAt}
+use Rattle.covers.specs.Setting.{Laws, EqualSteps, SumRule, entriesOf, graphCount, nodesOf}
+use Rattle.covers.specs.Counts.{atNode, boards, counts, layers, edgesOf, fullNode}
 use Rattle.covers.specs.Theorems.{graph-sum-rule}
 use Rattle.covers.specs.SettingLaws.{some-node, node-ok}
-use Rattle.graph.specs.Rooms.{nodeRoom, edgeRoom}
-use Rattle.graph.specs.Result.{completeNode, countFromGraph}
+use Rattle.graph.specs.Graph.{nodeRoom, edgeRoom, completeNode, countFromGraph}
 use Rattle.tiler.specs.declared.MadeGraph.{MadeGraph}
-use Rattle.expansion.specs.Boards.{setting, settingOf, startOf}
+use Rattle.expansion.specs.Boards.{setting, settingOf, startOf, Accepted}
 use Rattle.layers.specs.LayerCounts.{tooLarge}
 use Rattle.layers.specs.CountLaws.{small-counts}
+use Rattle.tiler.specs.Inner.{graphIn}
 use Rattle.tiler.specs.Graphs.{Graph, graphOf, judgeGraph, generateGraph, Makes, GeneratesGraph, pathCountAt, countOfGraph}
-use Rattle.expansion.specs.Plots.{Accepted, stepOf}
+use Rattle.expansion.specs.Parts.{stepOf}
+use Rattle.expansion.specs.SettingLaws.{same-children}
 use Rattle.expansion.specs.AcceptedLaws.{accepted-laws, accepted-steps, start-accepted, from-read}
 use Rattle.expansion.specs.ExpansionLaws.{small-at}
 use Rattle.tiler.specs.AnswerLaws.{judged-graph, as-many, HasRoom, counts-back}
 
+-- the graph of a board and tiles is that of their setting
+pub graph-setting : (b : Board) (paths : List Path) → graphOf b paths ≡ graphIn (setting b paths) (marks b)
+unfolding graphOf graphIn setting
+graph-setting b paths =
+    ap (λ (ch : ℕ → List ℕ). let es = layers eqb ch (marks b) (freeCountAt b (marks b)) in
+    record { nodes = boards es; counts = counts es; edges = edgesOf eqb ch (boards es); complete = fullNode (fullAt b) (boards es) })
+    (sym (same-children b paths))
+
 module _ (b : RectangularBoard) (fixed : Sound (b .fixed)) (laid : Sound (b .laid)) (ts : Tiles) where
   module _ (nodeWords countWords edgeWords : ℕ) (g : Graph) (made : generateGraph b ts nodeWords countWords edgeWords ≡ given g) where
-    read : Accepted b ts × (judgeGraph (nodeRoom nodeWords countWords) (edgeRoom edgeWords) (graphOf (settingOf b ts) (startOf b)) ≡ given g)
+    read : Accepted b ts × (judgeGraph (nodeRoom nodeWords countWords) (edgeRoom edgeWords) (graphIn (settingOf b ts) (startOf b)) ≡ given g)
     unfolding generateGraph
-    read = from-read b ts _ g made
+    read =
+        let r = from-read b ts _ g made in
+        (r .0, ap (judgeGraph (nodeRoom nodeWords countWords) (edgeRoom edgeWords)) (sym (graph-setting (boardOf b) (pathsIn ts))) ∙ r .1)
 
-    judged : (graphOf (settingOf b ts) (startOf b) ≡ g) × (length (graphOf (settingOf b ts) (startOf b) .nodes) ≤ nodeRoom nodeWords countWords)
-        × (length (graphOf (settingOf b ts) (startOf b) .edges) ≤ edgeRoom edgeWords) × (tooLarge (graphOf (settingOf b ts) (startOf b) .counts) ≡ false)
-    judged = judged-graph (nodeRoom nodeWords countWords) (edgeRoom edgeWords) (graphOf (settingOf b ts) (startOf b)) g (read .1)
+    judged : (graphIn (settingOf b ts) (startOf b) ≡ g) × (length (graphIn (settingOf b ts) (startOf b) .nodes) ≤ nodeRoom nodeWords countWords)
+        × (length (graphIn (settingOf b ts) (startOf b) .edges) ≤ edgeRoom edgeWords) × (tooLarge (graphIn (settingOf b ts) (startOf b) .counts) ≡ false)
+    judged = judged-graph (nodeRoom nodeWords countWords) (edgeRoom edgeWords) (graphIn (settingOf b ts) (startOf b)) g (read .1)
 
     pub plot-accepted : Accepted b ts
     plot-accepted = read .0
 
-    pub graph-is : graphOf (settingOf b ts) (startOf b) ≡ g
+    pub graph-is : graphIn (settingOf b ts) (startOf b) ≡ g
     graph-is = judged .0
 
-    pub graph-small : tooLarge (graphOf (settingOf b ts) (startOf b) .counts) ≡ false
+    pub graph-small : tooLarge (graphIn (settingOf b ts) (startOf b) .counts) ≡ false
     graph-small = judged .3
 
     pub graph-laws : Laws (settingOf b ts)
@@ -55,7 +71,7 @@ module _ (b : RectangularBoard) (fixed : Sound (b .fixed)) (laid : Sound (b .lai
     graph-start = start-accepted b fixed laid ts plot-accepted
 
     pub nodes-are : g .nodes ≡ nodesOf (settingOf b ts) (startOf b)
-    unfolding graphOf
+    unfolding graphIn
     nodes-are = ap (λ (h : Graph). h .nodes) (sym graph-is)
 
     -- each node is a set of 256 cells
@@ -64,12 +80,12 @@ module _ (b : RectangularBoard) (fixed : Sound (b .fixed)) (laid : Sound (b .lai
     nodes-small i = small-at (g .nodes) (λ t m. node-ok (settingOf b ts) graph-laws (startOf b) graph-start t (subst (Mem t) nodes-are m) .small) i
 
     pub graph-sums : SumRule (length (g .nodes)) (g .edges) (pathCountAt (g .counts))
-    unfolding graphOf
+    unfolding graphIn
     graph-sums = subst (λ (k : Graph). SumRule (length (k .nodes)) (k .edges) (pathCountAt (k .counts))) graph-is
         (graph-sum-rule (settingOf b ts) graph-laws (startOf b) graph-start (stepOf (pathsIn ts)) graph-steps)
 
     pub graph-room : HasRoom g nodeWords countWords edgeWords
-    unfolding graphOf
+    unfolding graphIn
     graph-room =
         subst (λ (k : Graph). HasRoom k nodeWords countWords edgeWords) graph-is record {
           someNodes = some-node (settingOf b ts) graph-laws (startOf b) graph-start;
@@ -80,7 +96,7 @@ module _ (b : RectangularBoard) (fixed : Sound (b .fixed)) (laid : Sound (b .lai
         }
 
     pub graph-count : countOfGraph g ≡ graphCount (settingOf b ts) (startOf b)
-    unfolding graphCount countOfGraph graphOf setting
+    unfolding graphCount countOfGraph graphIn setting
     graph-count = ap countOfGraph (sym graph-is)
 
   -- words that hold a graph that is given

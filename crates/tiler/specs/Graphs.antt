@@ -1,32 +1,27 @@
 -- Definitions: the graph of a board and tiles, its node lists and cuttings; what `generate_graph` answers and leaves in the lent words, for every input;
--- and what demand 3 says of it. Nodes, path counts and edges are those of `covers`, for the boards of the start and the tiles. What stands in quotation
+-- and what demand 3 says of it. Nodes, path counts and edges are those of `covers`, by the children of a board. What stands in quotation
 -- marks is 01's, from its section on the graph. Assumes nothing.
 use mathlib.Core.Path.{_≡_}
-use mathlib.Core.Bool.{Bool, false, cond}
-use mathlib.Core.List.{List, [], map}
+use mathlib.Core.Bool.{false, cond}
+use mathlib.Core.List.{List, []}
 use mathlib.Core.Option.{Option, none}
 use Prim.Native.Nat.{ℕ}
-use lib.Dec.{leb}
+use lib.Dec.{eqb, leb}
 use lib.ListN.{length, getD}
-use Rattle.cells.specs.Firsts.{holds}
 use Rattle.cells.specs.Lists.{wordsFor}
 use Rattle.tiles.specs.declared.Tiles.{Tiles}
 use Rattle.refusal.specs.Refusal.{Answer, refused, given, bindAnswer, refusalOf, valueOr, verdictNumber}
 use Rattle.tile.specs.Path.{Path}
-use Rattle.tiles.specs.Stored.{pathsIn}
+use Rattle.tiles.specs.Paths.{pathsIn}
 use Rattle.board.specs.declared.RectangularBoard.{RectangularBoard}
-use Rattle.rectangle.specs.Board.{Board, marks}
+use Rattle.rectangle.specs.Board.{Board, marks, isFull, freeCount}
 use Rattle.board.specs.Board.{boardOf}
-use Rattle.covers.specs.Cuttings.{Setting, Numbering}
-use Rattle.covers.specs.Counts.{counts, layers, edgesOf, tiling, fullNode, atNode, nodeListTo, entriesOf, nodesOf, graphEdges}
-use Rattle.graph.specs.Rooms.{nodeRoom, edgeRoom}
+use Rattle.children.specs.Children.{children, childrenAt, fullAt, freeCountAt}
+use Rattle.covers.specs.Counts.{Numbering, Entry, boards, counts, layers, edgesOf, nodeListTo, fullNode, atNode, nodeList}
+use Rattle.graph.specs.Graph.{nodeRoom, edgeRoom, edgesFor, completeNode, countFromGraph, markedPiecesIn}
 use Rattle.path_count.specs.PathCounts.{countsFor}
-use Rattle.graph.specs.Graph.{edgesFor}
-use Rattle.graph.specs.Result.{completeNode, countFromGraph, markedBy, markedPieces, stepPiece}
-use Rattle.numbered_tilings.specs.Tilings.{badGraph, nodeList}
-use Rattle.expansion.specs.Boards.{setting}
-use Rattle.expansion.specs.Plots.{readPlot}
-use Rattle.expansion.specs.Cuttings.{IsCutting, HasFreeCell, AllEdgeJoined}
+use Rattle.numbered_tilings.specs.Tilings.{badGraph, nodeListIn}
+use Rattle.expansion.specs.Plots.{acceptPlot, IsCutting, HasFreeCell, AllEdgeJoined}
 use Rattle.layers.specs.LayerCounts.{tooLarge}
 use Rattle.tiler.specs.declared.MadeGraph.{MadeGraph}
 
@@ -40,13 +35,23 @@ pub record Graph : Type 0 where
   pub edges : List (ℕ × ℕ)
   pub complete : Option ℕ
 
+-- the graph of no nodes, which stands for a refused one
 abbrev pub noGraph : Graph
 noGraph = record { nodes = []; counts = []; edges = []; complete = none }
 
--- the graph of a start
-unfoldable pub graphOf : {P : Type 0} → Setting ℕ P → ℕ → Graph
-unfolding layers edgesOf fullNode
-graphOf G s = record { nodes = nodesOf G s; counts = counts (entriesOf G s); edges = graphEdges G s; complete = fullNode (G .full) (nodesOf G s) }
+-- the nodes with their path counts: the boards of the layers up to that of as many pieces as cells are free
+abbrev pub entriesFor : Board → List Path → List (Entry ℕ)
+entriesFor b paths = layers eqb (childrenAt b paths) (marks b) (freeCountAt b (marks b))
+
+-- the graph of a board and tiles
+unfoldable pub graphOf : Board → List Path → Graph
+unfolding layers edgesOf fullNode children isFull freeCount marks
+graphOf b paths = record {
+  nodes = boards (entriesFor b paths);
+  counts = counts (entriesFor b paths);
+  edges = edgesOf eqb (childrenAt b paths) (boards (entriesFor b paths));
+  complete = fullNode (fullAt b) (boards (entriesFor b paths));
+}
 
 -- the path count of a node of the list, 0 of none
 abbrev pub pathCountAt : List ℕ → ℕ → ℕ
@@ -57,32 +62,28 @@ unfoldable pub countOfGraph : Graph → ℕ
 unfolding atNode
 countOfGraph g = atNode (pathCountAt (g .counts)) (g .complete)
 
--- its node list with the number m, and the cutting that the list gives: "the set of pieces that its steps mark"
+-- its node list with the number m
 unfoldable pub nodeListOf : Graph → ℕ → List ℕ
-unfolding tiling atNode
-nodeListOf g m = nodeListTo (g .edges) (pathCountAt (g .counts)) (g .complete) m
-
-unfoldable pub cuttingOf : Graph → ℕ → ℕ → Bool
-unfolding holds stepPiece nodeListOf
-cuttingOf g m = markedBy (map (λ v. getD (g .nodes) v 0) (nodeListOf g m))
+unfolding nodeListTo atNode
+nodeListOf g m = nodeList (g .edges) (pathCountAt (g .counts)) (g .complete) m
 
 -- "8, nodes exceed node words ÷ 4 or the count words; 10, edges exceed half the edge words; 9, a path count is 2^64 or more. The last three are judged
 -- over the whole graph in that order"
 unfoldable pub judgeGraph : ℕ → ℕ → Graph → Answer Graph
 unfolding tooLarge
-judgeGraph nodeRoom edgeRoom g =
-    cond (leb (length (g .nodes)) nodeRoom) (cond (leb (length (g .edges)) edgeRoom) (cond (tooLarge (g .counts)) (refused 9) (given g)) (refused 10)) (refused 8)
+judgeGraph nodes edges g =
+    cond (leb (length (g .nodes)) nodes) (cond (leb (length (g .edges)) edges) (cond (tooLarge (g .counts)) (refused 9) (given g)) (refused 10)) (refused 8)
 
 -- the graph of a board and tiles that are not refused, for a room of so many nodes and of so many edges,
 unfoldable pub graphFor : Board → List Path → ℕ → ℕ → Answer Graph
-unfolding judgeGraph graphOf setting marks
-graphFor b paths nodeRoom edgeRoom = judgeGraph nodeRoom edgeRoom (graphOf (setting b paths) (marks b))
+unfolding judgeGraph graphOf
+graphFor b paths nodes edges = judgeGraph nodes edges (graphOf b paths)
 
 -- and of any, for so many lent words of nodes, of counts and of edges
 unfoldable pub generateGraph : RectangularBoard → Tiles → ℕ → ℕ → ℕ → Answer Graph
-unfolding readPlot bindAnswer graphFor nodeRoom edgeRoom
+unfolding acceptPlot bindAnswer graphFor nodeRoom edgeRoom
 generateGraph b ts nodeWords countWords edgeWords =
-    bindAnswer (readPlot b ts) (λ p. graphFor (p .0) (p .1) (nodeRoom nodeWords countWords) (edgeRoom edgeWords))
+    bindAnswer (acceptPlot b ts) (λ p. graphFor (p .0) (p .1) (nodeRoom nodeWords countWords) (edgeRoom edgeWords))
 
 -- the result and the words for an answer and so many lent words. A graph is stored with zeros behind the last node, count and edge; "After any
 -- refusal all lent words are zero", and the result is that of no nodes
@@ -105,4 +106,4 @@ pub record NumbersCuttings (b : RectangularBoard) (ts : Tiles) (nodes′ counts�
   pub sound : verdictNumber (r .verdict) ≡ 0 → badGraph (r .graph) (length nodes′) counts′ edges′ ≡ false
   pub cuttings : verdictNumber (r .verdict) ≡ 0 → HasFreeCell (boardOf b) → AllEdgeJoined (pathsIn ts)
       → Numbering (IsCutting (boardOf b) (pathsIn ts)) (countFromGraph (completeNode (r .graph .complete)) counts′)
-      (λ m. markedPieces nodes′ (nodeList (r .graph) counts′ edges′ m))
+      (λ m. markedPiecesIn nodes′ (nodeListIn (r .graph) counts′ edges′ m))

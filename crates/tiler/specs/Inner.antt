@@ -1,32 +1,38 @@
 -- Definitions for the contracts of private functions: what the lent words hold while a graph grows, its path counts by a pass over its edges, and its
--- result. No contract of a function that can be called from outside cites one. Assumes nothing.
+-- result. No contract of a function that can be called from outside cites one; `markedPiecesOf` serves theorems. Assumes nothing.
 use mathlib.Core.Path.{_≡_}
 use mathlib.Core.Bool.{Bool, true, false, cond}
-use mathlib.Core.List.{List}
+use mathlib.Core.List.{List, map}
 use Prim.Native.Nat.{ℕ, zero, suc, _+_, _-_, _*_, _≤_, _<_, min}
 use lib.Dec.{eqb, leb}
 use lib.ListN.{length, getD}
-use Rattle.cells.specs.Arrays.{listOf}
-use Rattle.cells.specs.Lists.{setAt, clearedFrom, firstFrom}
+use Rattle.cells.specs.Lists.{listOf, setAt, holds}
+use Rattle.cells.specs.Parts.{clearedFrom, firstFrom}
 use Rattle.refusal.specs.Refusal.{verdictNumber}
 use Rattle.tiles.specs.declared.Tiles.{Tiles}
 use Rattle.rectangle.specs.Board.{Board, boardAt, isFull}
 use Rattle.board.specs.declared.RectangularBoard.{RectangularBoard}
-use Rattle.graph.specs.Graph.{edgeAt}
-use Rattle.graph.specs.Rooms.{nodeRoom, edgeRoom}
-use Rattle.graph.specs.Result.{completeNode}
+use Rattle.covers.specs.Setting.{Setting, entriesOf, nodesOf, graphEdges}
+use Rattle.covers.specs.Counts.{counts, layers, edgesOf, fullNode}
+use Rattle.graph.specs.Graph.{edgeAt, nodeRoom, edgeRoom, completeNode, stepPiece, markedPieces}
 use Rattle.expansion.specs.Boards.{settingOf, startOf}
-use Rattle.path_count.specs.PathCounts.{countLimit, countWords}
+use Rattle.path_count.specs.PathCounts.{countLimit}
+use Rattle.path_count.specs.Inner.{countWords}
 use Rattle.tiler.specs.declared.building.Growth.{Growth}
 use Rattle.tiler.specs.declared.building.Growth.the-variants as G
 use Rattle.tiler.specs.declared.MadeGraph.{MadeGraph}
-use Rattle.tiler.specs.Graphs.{graphOf, judgeGraph, Makes}
+use Rattle.tiler.specs.Graphs.{Graph, nodeListOf, judgeGraph, Makes}
+
+-- the cutting that the node list with the number m of a graph gives: "the set of pieces that its steps mark"
+unfoldable pub markedPiecesOf : Graph → ℕ → ℕ → Bool
+unfolding holds stepPiece nodeListOf
+markedPiecesOf g m = markedPieces (map (λ v. getD (g .nodes) v 0) (nodeListOf g m))
 
 -- ---- a graph in lent words: its nodes and its edges
 
 -- how many nodes there are, and how many edges, those past the room counting as one; no room where the nodes pass it
 unfoldable pub growthOf : ℕ → ℕ → List ℕ × List (ℕ × ℕ) → Growth
-growthOf room edgeRoom g = cond (leb (length (g .0)) room) (G.Size (length (g .0)) (min (length (g .1)) (suc edgeRoom))) G.NoRoom
+growthOf room edgeLimit g = cond (leb (length (g .0)) room) (G.Size (length (g .0)) (min (length (g .1)) (suc edgeLimit))) G.NoRoom
 
 abbrev pub nodesIn : Growth → ℕ
 nodesIn (G.Size n e) = n
@@ -38,15 +44,15 @@ pub record HoldsEdges (room : ℕ) (ws : List ℕ) (n : ℕ) (es : List (ℕ × 
   pub edges : length es ≤ room → listOf (edgeAt ws) (length es) ≡ es
 
 -- the words and the state of a graph that has become g
-pub record HoldsGraph (room edgeRoom : ℕ) (ns es : List ℕ) (growth : Growth) (g : List ℕ × List (ℕ × ℕ)) : Type 0 where
-  pub state : growth ≡ growthOf room edgeRoom g
+pub record HoldsGraph (room edgeLimit : ℕ) (ns es : List ℕ) (growth : Growth) (g : List ℕ × List (ℕ × ℕ)) : Type 0 where
+  pub state : growth ≡ growthOf room edgeLimit g
   pub nodes : length (g .0) ≤ room → listOf (setAt ns) (length (g .0)) ≡ g .0
-  pub edges : length (g .0) ≤ room → length (g .1) ≤ edgeRoom → listOf (edgeAt es) (length (g .1)) ≡ g .1
+  pub edges : length (g .0) ≤ room → length (g .1) ≤ edgeLimit → listOf (edgeAt es) (length (g .1)) ≡ g .1
 
 -- what some children more do to a graph, whatever the graph was: its nodes stay within the room, and words and state are those of what is made of it
 abbrev pub AddsToGraph : ℕ → ℕ → List ℕ → List ℕ → Growth → List ℕ → List ℕ → Growth → (List ℕ × List (ℕ × ℕ) → List ℕ × List (ℕ × ℕ)) → Type 0
-AddsToGraph room edgeRoom ns es growth ns′ es′ r add =
-    (nodesIn r ≤ room) × ((g : List ℕ × List (ℕ × ℕ)) → HoldsGraph room edgeRoom ns es growth g → HoldsGraph room edgeRoom ns′ es′ r (add g))
+AddsToGraph room edgeLimit ns es growth ns′ es′ r add =
+    (nodesIn r ≤ room) × ((g : List ℕ × List (ℕ × ℕ)) → HoldsGraph room edgeLimit ns es growth g → HoldsGraph room edgeLimit ns′ es′ r (add g))
 
 -- ---- path counts by a pass over the edges
 
@@ -82,7 +88,12 @@ pub record Finishes (b : Board) (nodes edges : List ℕ) (n e : ℕ) (nodes′ e
 
 -- ---- the graph of a board and tiles that are not refused, in the words that are lent
 
+-- the graph of a start, by its setting
+unfoldable pub graphIn : {P : Type 0} → Setting ℕ P → ℕ → Graph
+unfolding layers edgesOf fullNode
+graphIn S s = record { nodes = nodesOf S s; counts = counts (entriesOf S s); edges = graphEdges S s; complete = fullNode (S .full) (nodesOf S s) }
+
 abbrev pub MakesGraph : RectangularBoard → Tiles → List ℕ → List ℕ → List ℕ → List ℕ → List ℕ → List ℕ → MadeGraph → Type 0
 MakesGraph b ts nodes counts edges nodes′ counts′ edges′ r =
-    Makes (judgeGraph (nodeRoom (length nodes) (length counts)) (edgeRoom (length edges)) (graphOf (settingOf b ts) (startOf b)))
+    Makes (judgeGraph (nodeRoom (length nodes) (length counts)) (edgeRoom (length edges)) (graphIn (settingOf b ts) (startOf b)))
     (length nodes) (length counts) (length edges) nodes′ counts′ edges′ r

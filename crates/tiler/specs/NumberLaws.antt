@@ -9,31 +9,33 @@ use Prim.Native.Nat.{ℕ, _+_, _≤_, _<_, min, _/_}
 use native.Mathlib.Omega.{arith}
 use lib.Dec.{lit<}
 use lib.ListN.{length, getD, length-map}
-use Rattle.cells.specs.Words.{Sound}
+use Rattle.cells.specs.Set.{Sound}
 use Rattle.cells.specs.WordLaws.{number-lt}
 use Rattle.cells.specs.ArrayLaws.{getD-any, length-listOf, getD-listOf}
-use Rattle.cells.specs.Lists.{setAt, setsIn}
+use Rattle.cells.specs.Lists.{setAt}
+use Rattle.cells.specs.ListLaws.{setsIn}
 use Rattle.cells.specs.MemberLaws.{map-ext}
 use Rattle.tiles.specs.declared.Tiles.{Tiles}
 use Rattle.refusal.specs.Refusal.{given, valueOr}
-use Rattle.tiles.specs.Stored.{pathsIn}
+use Rattle.tiles.specs.Paths.{pathsIn}
 use Rattle.board.specs.declared.RectangularBoard.{RectangularBoard}
 use Rattle.board.specs.Board.{boardOf}
 use Rattle.rectangle.specs.Board.{freeCount}
-use Rattle.covers.specs.Cuttings.{Numbering, Setting}
-use Rattle.covers.specs.Counts.{Chain, tiling, fullNode, atNode, nodeListTo, nodesOf, pathCountOf, graphEdges, graphCount, tilingOf, cuttingAt}
+use Rattle.covers.specs.Counts.{Numbering, Chain, nodeListTo, fullNode, atNode, nodeList}
+use Rattle.covers.specs.Setting.{Setting, nodesOf, pathCountOf, graphEdges, graphCount, tilingOf, cuttingAt}
 use Rattle.covers.specs.Theorems.{full-counts-none}
 use Rattle.covers.specs.NumberingLaws.{renumber}
 use Rattle.covers.specs.CountLaws.{tiling-length}
 use Rattle.covers.specs.WalkLaws.{tiling-below, tiling-chain}
 use Rattle.path_count.specs.PathCounts.{countLimit}
-use Rattle.graph.specs.Result.{completeNode, countFromGraph, markedBy, markedPieces}
-use Rattle.numbered_tilings.specs.Tilings.{nodeList}
+use Rattle.graph.specs.Graph.{completeNode, countFromGraph, markedPieces, markedPiecesIn}
+use Rattle.numbered_tilings.specs.Tilings.{nodeListIn}
 use Rattle.tiler.specs.declared.MadeGraph.{MadeGraph}
 use Rattle.expansion.specs.Boards.{setting, settingOf, startOf}
-use Rattle.tiler.specs.Graphs.{Graph, graphOf, nodeListOf, cuttingOf, generateGraph, GeneratesGraph, pathCountAt, countOfGraph}
-use Rattle.expansion.specs.Cuttings.{IsCutting, HasFreeCell, AllEdgeJoined}
-use Rattle.expansion.specs.Plots.{stepOf}
+use Rattle.tiler.specs.Inner.{graphIn, markedPiecesOf}
+use Rattle.tiler.specs.Graphs.{Graph, nodeListOf, generateGraph, GeneratesGraph, pathCountAt, countOfGraph}
+use Rattle.expansion.specs.Plots.{IsCutting, HasFreeCell, AllEdgeJoined}
+use Rattle.expansion.specs.Parts.{stepOf}
 use Rattle.expansion.specs.AcceptedLaws.{accepted-free}
 use Rattle.expansion.specs.CuttingLaws.{cuttings-numbered}
 use Rattle.tiler.specs.GivenLaws.{plot-accepted, graph-is, graph-laws, graph-steps, graph-start, nodes-are, graph-sums, graph-count, graph-stored, words-count}
@@ -70,9 +72,9 @@ module _ (b : RectangularBoard) (fixed : Sound (b .fixed)) (laid : Sound (b .lai
           go none q l = absurd (omega arith)
           go (some v) q l = (v, q, full-node-is-full b fixed laid ts nodeWords countWords edgeWords g made v q .1, l)
 
-      list-to : (v : ℕ) → g .complete ≡ some v → tiling (g .edges) (pathCountAt (g .counts)) v m ≡ nodeListOf g m
+      list-to : (v : ℕ) → g .complete ≡ some v → nodeListTo (g .edges) (pathCountAt (g .counts)) v m ≡ nodeListOf g m
       unfolding nodeListOf atNode
-      list-to v q = ap (λ (o : Option ℕ). nodeListTo (g .edges) (pathCountAt (g .counts)) o m) (sym q)
+      list-to v q = ap (λ (o : Option ℕ). nodeList (g .edges) (pathCountAt (g .counts)) o m) (sym q)
 
       -- is a chain of edges from node 0 to the full node,
       pub list-chain : (v : ℕ) × (g .complete ≡ some v) × Chain (λ p c. Mem (p, c) (g .edges)) 0 v (nodeListOf g m)
@@ -92,8 +94,8 @@ module _ (b : RectangularBoard) (fixed : Sound (b .fixed)) (laid : Sound (b .lai
           (subst (Mem v) (sym (list-to (f .0) (f .1))) i)
 
       -- and there is at most one more than there are free cells
-      list-is : nodeListOf g m ≡ nodeListTo (graphEdges S start) (pathCountOf S start) (fullNode (S .full) (nodesOf S start)) m
-      unfolding nodeListOf graphOf
+      list-is : nodeListOf g m ≡ nodeList (graphEdges S start) (pathCountOf S start) (fullNode (S .full) (nodesOf S start)) m
+      unfolding nodeListOf graphIn
       list-is = ap (λ (k : Graph). nodeListOf k m) (sym (graph-is b fixed laid ts nodeWords countWords edgeWords g made))
 
       counted : m < graphCount S start
@@ -119,7 +121,7 @@ module _ (b : RectangularBoard) (fixed : Sound (b .fixed)) (laid : Sound (b .lai
             tiling-length S (graph-laws b fixed laid ts nodeWords countWords edgeWords g made) (stepOf (pathsIn ts)) (graph-steps b fixed laid ts nodeWords countWords edgeWords g made) start
                 (graph-start b fixed laid ts nodeWords countWords edgeWords g made) counted-not-full m counted,
             ap length list-is,
-            length-map (nodeListTo (graphEdges S start) (pathCountOf S start) (fullNode (S .full) (nodesOf S start)) m) (λ v. getD (nodesOf S start) v start),
+            length-map (nodeList (graphEdges S start) (pathCountOf S start) (fullNode (S .full) (nodesOf S start)) m) (λ v. getD (nodesOf S start) v start),
             accepted-free b ts (plot-accepted b fixed laid ts nodeWords countWords edgeWords g made) (number-lt (b .fixed) fixed) (number-lt (b .laid) laid),
           )
 
@@ -130,13 +132,13 @@ module _ (b : RectangularBoard) (fixed : Sound (b .fixed)) (laid : Sound (b .lai
           (λ v i. getD-any (g .nodes) v 0 start (list-below v i) ∙ ap (λ (ns : List ℕ). getD ns v start) (nodes-are b fixed laid ts nodeWords countWords edgeWords g made))
           ∙ ap (map (λ v. getD (nodesOf S start) v start)) list-is
 
-      cutting-is : cuttingOf g m ≡ cuttingAt S start m
-      unfolding cuttingOf setting
-      cutting-is = ap markedBy boards-are
+      cutting-is : markedPiecesOf g m ≡ cuttingAt S start m
+      unfolding markedPiecesOf setting
+      cutting-is = ap markedPieces boards-are
 
     -- under demand 3's conditions the numbers below the count number the cuttings
     pub lists-number-cuttings : HasFreeCell (boardOf b) → AllEdgeJoined (pathsIn ts)
-        → Numbering (IsCutting (boardOf b) (pathsIn ts)) (countOfGraph g) (cuttingOf g)
+        → Numbering (IsCutting (boardOf b) (pathsIn ts)) (countOfGraph g) (markedPiecesOf g)
     lists-number-cuttings free joined =
         renumber (sym (graph-count b fixed laid ts nodeWords countWords edgeWords g made)) cutting-is
         (cuttings-numbered b fixed laid ts (plot-accepted b fixed laid ts nodeWords countWords edgeWords g made) free joined)
@@ -154,12 +156,12 @@ module _ (b : RectangularBoard) (fixed : Sound (b .fixed)) (laid : Sound (b .lai
     words-count-small = subst (λ (n : ℕ). n < countLimit) (sym count-read) (graph-count-small (length nodes) (length counts) (length edges) g e)
 
     -- a node list,
-    pub list-same : (m : ℕ) → nodeList (r .graph) counts′ edges′ m ≡ nodeListOf g m
-    unfolding nodeList nodeListOf valueOr
+    pub list-same : (m : ℕ) → nodeListIn (r .graph) counts′ edges′ m ≡ nodeListOf g m
+    unfolding nodeListIn nodeListOf valueOr
     list-same m =
         let w = words-are-the-graph b fixed laid ts nodes counts edges nodes′ counts′ edges′ r made g e in
-        ap₂ (λ (ds : List (ℕ × ℕ)) (count : ℕ → ℕ). nodeListTo ds count (completeNode (r .graph .complete)) m) (w .2) (fun-ext (w .1))
-        ∙ ap (λ (o : Option ℕ). nodeListTo (g .edges) (pathCountAt (g .counts)) o m)
+        ap₂ (λ (ds : List (ℕ × ℕ)) (count : ℕ → ℕ). nodeList ds count (completeNode (r .graph .complete)) m) (w .2) (fun-ext (w .1))
+        ∙ ap (λ (o : Option ℕ). nodeList (g .edges) (pathCountAt (g .counts)) o m)
         (graph-stored b fixed laid ts nodes counts edges nodes′ counts′ edges′ r made g e .complete)
 
     -- the board of a node,
@@ -175,20 +177,20 @@ module _ (b : RectangularBoard) (fixed : Sound (b .fixed)) (laid : Sound (b .lai
       below = subst (λ (n : ℕ). m < n) count-read h
 
       -- and the pieces that the steps of a list mark
-      marked-same : markedPieces nodes′ (nodeList (r .graph) counts′ edges′ m) ≡ cuttingOf g m
-      unfolding markedPieces cuttingOf
+      marked-same : markedPiecesIn nodes′ (nodeListIn (r .graph) counts′ edges′ m) ≡ markedPiecesOf g m
+      unfolding markedPiecesIn markedPiecesOf
       marked-same =
-          ap (λ (vs : List ℕ). markedBy (map (setAt nodes′) vs)) (list-same m)
-          ∙ ap markedBy
+          ap (λ (vs : List ℕ). markedPieces (map (setAt nodes′) vs)) (list-same m)
+          ∙ ap markedPieces
           (map-ext (setAt nodes′) (λ v. getD (g .nodes) v 0) (nodeListOf g m) (λ v i. node-at v (list-below (length nodes) (length counts) (length edges) g e m below v i)))
 
       -- a node list has at most one node more than there are free cells
-      pub words-length : length (nodeList (r .graph) counts′ edges′ m) ≤ freeCount (boardOf b) + 1
+      pub words-length : length (nodeListIn (r .graph) counts′ edges′ m) ≤ freeCount (boardOf b) + 1
       words-length =
           subst (λ (vs : List ℕ). length vs ≤ freeCount (boardOf b) + 1) (sym (list-same m)) (list-length (length nodes) (length counts) (length edges) g e m below)
 
     -- the numbers below the count number the cuttings
     pub words-cuttings : HasFreeCell (boardOf b) → AllEdgeJoined (pathsIn ts)
         → Numbering (IsCutting (boardOf b) (pathsIn ts)) (countFromGraph (completeNode (r .graph .complete)) counts′)
-        (λ m. markedPieces nodes′ (nodeList (r .graph) counts′ edges′ m))
+        (λ m. markedPiecesIn nodes′ (nodeListIn (r .graph) counts′ edges′ m))
     words-cuttings free joined = renumber (sym count-read) marked-same (lists-number-cuttings (length nodes) (length counts) (length edges) g e free joined)

@@ -10,31 +10,32 @@ use mathlib.Core.Option.{none, some}
 use Prim.Native.Nat.{ℕ, _<_}
 use lib.Dec.{eqb}
 use lib.ListN.{length, getD}
-use Rattle.cells.specs.Firsts.{Once, firsts}
-use Rattle.cells.specs.Lists.{setsIn}
-use Rattle.graph.specs.Graph.{edgesIn}
-use Rattle.cells.specs.Words.{Sound}
+use Rattle.cells.specs.FirstsLaws.{Once}
+use Rattle.cells.specs.Lists.{firsts}
+use Rattle.cells.specs.ListLaws.{setsIn}
+use Rattle.graph.specs.Graph.{edgesIn, completeNode, countFromGraph}
+use Rattle.cells.specs.Set.{Sound}
 use Rattle.cells.specs.WordLaws.{number-lt}
 use Rattle.tiles.specs.declared.Tiles.{Tiles}
 use Rattle.refusal.specs.Refusal.{given, verdictNumber}
-use Rattle.tiles.specs.Stored.{pathsIn}
+use Rattle.tiles.specs.Paths.{pathsIn}
 use Rattle.board.specs.declared.RectangularBoard.{RectangularBoard}
 use Rattle.board.specs.Board.{boardOf}
 use Rattle.rectangle.specs.Board.{boardAt, isFull}
 use Rattle.children.specs.Children.{childrenAt}
-use Rattle.covers.specs.Cuttings.{Exactly, childBoards, Laws, EqualSteps}
-use Rattle.covers.specs.Counts.{ChildSequence, counts, graphCount, graphEdges, nodesOf, pathCountOf}
+use Rattle.covers.specs.Counts.{Exactly, ChildSequence, counts}
+use Rattle.covers.specs.Setting.{childBoards, Laws, EqualSteps, graphCount, graphEdges, nodesOf, pathCountOf}
 use Rattle.covers.specs.Theorems.{nodes-are-reached, nodes-by-first-finding, graph-edges-are-children, graph-edges-once, graph-tilings, full-counts-none, none-reached-counts-none, count-is-child-sequences}
 use Rattle.covers.specs.SettingLaws.{start-node}
 use Rattle.tiler.specs.declared.MadeGraph.{MadeGraph}
-use Rattle.expansion.specs.Boards.{setting, settingOf, startOf}
-use Rattle.graph.specs.Result.{completeNode, countFromGraph}
+use Rattle.expansion.specs.Boards.{setting, settingOf, startOf, Accepted}
 use Rattle.path_count.specs.PathCounts.{countIn, countLimit}
 use Rattle.numbered_tilings.specs.Tilings.{badGraph}
 use Rattle.numbered_tilings.specs.TilingLaws.{sound-not-bad}
 use Rattle.layers.specs.LayerCounts.{countTilings}
-use Rattle.tiler.specs.Graphs.{Graph, graphOf, generateGraph, GeneratesGraph, pathCountAt, countOfGraph}
-use Rattle.expansion.specs.Plots.{Accepted, stepOf}
+use Rattle.tiler.specs.Inner.{graphIn}
+use Rattle.tiler.specs.Graphs.{Graph, generateGraph, GeneratesGraph, pathCountAt, countOfGraph}
+use Rattle.expansion.specs.Parts.{stepOf}
 use Rattle.expansion.specs.SettingLaws.{same-children}
 use Rattle.expansion.specs.AcceptedLaws.{accepted-laws, accepted-steps, accepted-at, start-accepted}
 use Rattle.layers.specs.CountLaws.{layers-count}
@@ -58,7 +59,7 @@ module _ (b : RectangularBoard) (fixed : Sound (b .fixed)) (laid : Sound (b .lai
     ok : settingOf b ts .Ok (startOf b)
     ok = graph-start b fixed laid ts nodeWords countWords edgeWords g made
 
-    is : graphOf (settingOf b ts) (startOf b) ≡ g
+    is : graphIn (settingOf b ts) (startOf b) ≡ g
     is = graph-is b fixed laid ts nodeWords countWords edgeWords g made
 
     nodes-is : g .nodes ≡ nodesOf (settingOf b ts) (startOf b)
@@ -82,7 +83,7 @@ module _ (b : RectangularBoard) (fixed : Sound (b .fixed)) (laid : Sound (b .lai
     -- "Edges are (parent, child)": there is one from a node to each child of its board, and no other.
     pub edges-are-children : (p c : ℕ) → Mem (p, c) (g .edges)
         ↔ ((p < length (g .nodes)) × (c < length (g .nodes)) × Mem (getD (g .nodes) c (startOf b)) (childrenAt (boardOf b) (pathsIn ts) (getD (g .nodes) p (startOf b))))
-    unfolding graphOf
+    unfolding graphIn
     edges-are-children p c =
         subst (λ (k : Graph). Mem (p, c) (k .edges)
         ↔ ((p < length (k .nodes)) × (c < length (k .nodes)) × Mem (getD (k .nodes) c (startOf b)) (childrenAt (boardOf b) (pathsIn ts) (getD (k .nodes) p (startOf b))))) is
@@ -93,7 +94,7 @@ module _ (b : RectangularBoard) (fixed : Sound (b .fixed)) (laid : Sound (b .lai
 
     -- "Beside each node stands its path count", and "A board's path count is the number of child sequences that reach it".
     pub path-count-is-number-of-sequences : (v : ℕ) → v < length (g .nodes) → Exactly (pathCountAt (g .counts) v) (Reaches (getD (g .nodes) v (startOf b)))
-    unfolding graphOf
+    unfolding graphIn
     path-count-is-number-of-sequences v h =
         subst (λ (k : Graph). Exactly (pathCountAt (k .counts) v) (Reaches (getD (k .nodes) v (startOf b)))) is
         (subst (λ (ch : ℕ → List ℕ). Exactly (pathCountOf (settingOf b ts) (startOf b) v) (ChildSequence ch (startOf b) (getD (nodesOf (settingOf b ts) (startOf b)) v (startOf b)))) (same-children (boardOf b) (pathsIn ts))
@@ -105,21 +106,21 @@ module _ (b : RectangularBoard) (fixed : Sound (b .fixed)) (laid : Sound (b .lai
 
     -- The full node is a node behind node 0, and full.
     pub full-node-is-full : (v : ℕ) → g .complete ≡ some v → (0 < v) × (v < length (g .nodes)) × So (isFull (boardAt (boardOf b) (getD (g .nodes) v (startOf b))))
-    unfolding graphOf setting
+    unfolding graphIn setting
     full-node-is-full v e =
         subst (λ (k : Graph). (0 < v) × (v < length (k .nodes)) × So (isFull (boardAt (boardOf b) (getD (k .nodes) v (startOf b))))) is
         (node-behind (λ n. isFull (boardAt (boardOf b) n)) (nodesOf (settingOf b ts) (startOf b)) v (startOf b) (ap (λ (k : Graph). k .complete) is ∙ e))
 
     -- With none, no full board is reached but the start itself.
     pub no-full-node : g .complete ≡ none → (t : ℕ) → Mem t (g .nodes) → So (isFull (boardAt (boardOf b) t)) → t ≡ startOf b
-    unfolding graphOf setting
+    unfolding graphIn setting
     no-full-node e t m full =
         only-start (λ n. isFull (boardAt (boardOf b) n)) (startOf b) (nodesOf (settingOf b ts) (startOf b)) (start-node (settingOf b ts) laws (startOf b) ok)
         (ap (λ (k : Graph). k .complete) is ∙ e) t (subst (Mem t) nodes-is m) full
 
     -- Each edge stands once.
     pub edges-once : Once (g .edges)
-    unfolding graphOf
+    unfolding graphIn
     edges-once = subst (λ (k : Graph). Once (k .edges)) is (graph-edges-once (settingOf b ts) laws (startOf b) ok (stepOf (pathsIn ts)) steps)
 
   -- ---- 2. The words and the result that `generate_graph` leaves, where it does not refuse

@@ -18,20 +18,21 @@ ghost use mathlib.Core.List.{List, [], _∷_, _++_};
 ghost use Prim.Native.Nat.{ℕ, _+_, _*_, _-_, _≤_, _<_};
 ghost use lib.Dec.{eqb};
 ghost use lib.ListN.{length};
-ghost use Rattle.cells.specs.Words.{number};
-ghost use Rattle.cells.specs.Arrays.{listOf};
-ghost use Rattle.cells.specs.Lists.{setAt, firstFrom};
+ghost use Rattle.cells.specs.Set.{number};
+ghost use Rattle.cells.specs.Lists.{listOf, setAt};
+ghost use Rattle.cells.specs.Parts.{firstFrom};
 ghost use Rattle.refusal.specs.Refusal.{refusalNumber, refused};
+ghost use Rattle.tiles.specs.Paths.{pathsIn};
+ghost use Rattle.fit.specs.Parts.{mostChildren};
 ghost use Rattle.board.specs.Board.{boardOf};
 ghost use Rattle.rectangle.specs.Board.{boardAt, isFull};
-ghost use Rattle.covers.specs.Cuttings.{childBoards};
-ghost use Rattle.covers.specs.Counts.{nodesOf, graphEdges};
+ghost use Rattle.covers.specs.Setting.{childBoards, nodesOf, graphEdges};
 ghost use Rattle.covers.specs.FindingLaws.{addChild, addChildren};
-ghost use Rattle.path_count.specs.PathCounts.{countRoom, countIn, countWords, AddsCount};
-ghost use Rattle.graph.specs.Graph.{edgeAt};
-ghost use Rattle.expansion.specs.Boards.{From, settingOf, startOf};
-ghost use Rattle.expansion.specs.Plots.{Accepted};
-ghost use Rattle.graph.specs.Result.{completeNode};
+ghost use Rattle.path_count.specs.PathCounts.{countRoom, countIn};
+ghost use Rattle.path_count.specs.Parts.{AddsCount};
+ghost use Rattle.path_count.specs.Inner.{countWords};
+ghost use Rattle.graph.specs.Graph.{edgeAt, completeNode};
+ghost use Rattle.expansion.specs.Boards.{From, settingOf, startOf, Accepted};
 ghost use Rattle.tiler.specs.Graphs.{Makes};
 ghost use Rattle.tiler.specs.Inner.{nodesIn, HoldsEdges, HoldsGraph, AddsToGraph, MakesGraph, EndsBelow, firstCount, PassesEdges, Finishes};
 
@@ -126,7 +127,7 @@ fn expand_node(
     edge_room: usize,
     i: usize,
 ) -> Growth
-    requires { ⌜ Accepted board tiles × From (boardOf board) (setAt (now nodes) i) × (8448 ≤ length (now children)) × (nodesIn growth ≤ «node_room») × (4 * «node_room» ≤ length (now nodes)) × (2 * «edge_room» ≤ length (now edges)) ⌝ }
+    requires { ⌜ Accepted board tiles × From (boardOf board) (setAt (now nodes) i) × (4 * mostChildren (pathsIn tiles) ≤ length (now children)) × (nodesIn growth ≤ «node_room») × (4 * «node_room» ≤ length (now nodes)) × (2 * «edge_room» ≤ length (now edges)) ⌝ }
     ensures { λ r. ⌜ AddsToGraph «node_room» «edge_room» (now (nodes .entry)) (now (edges .entry)) growth (now (nodes .exit)) (now (edges .exit)) r (addChildren eqb i (childBoards (settingOf board tiles) (setAt (now (nodes .entry)) i))) ⌝ }
 {
     let n = expansion::expand(board, tiles, list::get(nodes, i), children);
@@ -153,7 +154,7 @@ fn build(
     node_room: usize,
     edge_room: usize,
 ) -> Growth
-    requires { ⌜ Accepted board tiles × (8448 ≤ length (now children)) × (0 < «node_room») × (4 * «node_room» ≤ length (now nodes)) × (2 * «edge_room» ≤ length (now edges)) × (setAt (now nodes) 0 ≡ startOf board) ⌝ }
+    requires { ⌜ Accepted board tiles × (4 * mostChildren (pathsIn tiles) ≤ length (now children)) × (0 < «node_room») × (4 * «node_room» ≤ length (now nodes)) × (2 * «edge_room» ≤ length (now edges)) × (setAt (now nodes) 0 ≡ startOf board) ⌝ }
     ensures { λ r. ⌜ (nodesIn r ≤ «node_room») × HoldsGraph «node_room» «edge_room» (now (nodes .exit)) (now (edges .exit)) r (nodesOf (settingOf board tiles) (startOf board), graphEdges (settingOf board tiles) (startOf board)) ⌝ }
 {
     let mut growth = Growth::Size(1, 0);
@@ -194,12 +195,13 @@ fn grown(
     }
     list::put(nodes, 0, board.marks());
     let mut children = [0u64; 8448];
+    let end = expansion::child_words(tiles);
     build(
         board,
         tiles,
         nodes,
         edges,
-        &mut children,
+        &mut children[..end],
         node_room,
         edge_room,
     )

@@ -10,8 +10,7 @@ use lib.Dec.{eqb, leb}
 use lib.ListN.{length, getD, drop}
 use lib.Seq.{drop-cons, drop-length}
 use Rattle.tile.specs.Path.{Path}
-use Rattle.tiles.specs.Paths.{samePath}
-use Rattle.tiles.specs.Stored.{overlay}
+use Rattle.tiles.specs.Paths.{samePath, overlay}
 
 -- ---- two paths are the same: the test of them is the test of what is left of them
 

@@ -5,12 +5,11 @@ use Prim.Native.Nat.{ℕ, zero, suc, _<_}
 use native.Mathlib.Omega.{arith}
 use borrow.Author.Tests.{eq-eqb, ne-eqb}
 use lib.Dec.{eqb}
-use Rattle.cells.specs.Arrays.{listOf}
+use Rattle.cells.specs.Lists.{listOf}
 use Rattle.cells.specs.ArrayLaws.{any-listOf, none-listOf}
 use Rattle.tiles.specs.declared.Tiles.{Tiles}
 use Rattle.tile.specs.Path.{Path, cellCount}
-use Rattle.tiles.specs.Paths.{sharedCount, equalCounts}
-use Rattle.tiles.specs.Stored.{pathAt, pathsIn}
+use Rattle.tiles.specs.Paths.{sharedCount, equalCounts, pathAt, pathsIn}
 
 -- ---- the first tile
 

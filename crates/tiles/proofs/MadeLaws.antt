@@ -9,7 +9,7 @@ use native.Mathlib.Decide.{ℕ-discrete}
 use native.Mathlib.Omega.{arith}
 use lib.ListN.{length, getD}
 use lib.Seq.{getD-append-add}
-use Rattle.cells.specs.Firsts.{holds, addNew, addFirsts, firsts}
+use Rattle.cells.specs.Lists.{holds, addNew, addFirsts, firsts}
 use Rattle.cells.specs.FirstsLaws.{addNew-old, addNew-new, addFirsts-append, length-addFirsts}
 use Rattle.cells.specs.ArrayLaws.{length-listOf, getD-snoc}
 use Rattle.tile.specs.declared.Tile.{Tile}
@@ -18,10 +18,8 @@ use Rattle.tiles.specs.declared.Tiles.{Tiles}
 use Rattle.tiles.specs.declared.MadeTiles.{MadeTiles}
 use Rattle.direction.specs.declared.Axis.the-variants as A
 use Rattle.refusal.specs.Refusal.{Answer, refused, given, refusalOf, valueOr, mapAnswer, verdictNumber}
-use Rattle.tile.specs.Path.{Path, codesOk, rotated, reflected}
-use Rattle.tiles.specs.Paths.{turns, samePath, orbit}
-use Rattle.tile.specs.Stored.{pathIn, readTile, readPath, tileOf, MakesTile}
-use Rattle.tiles.specs.Stored.{pathAt, pathsIn, tilesOf, appended, MakesTiles, AddsTile}
+use Rattle.tile.specs.Path.{Path, codesOk, rotated, reflected, pathIn, readTile, readPath, tileOf, MakesTile}
+use Rattle.tiles.specs.Paths.{turns, samePath, orbit, pathAt, pathsIn, tilesOf, appended, MakesTiles, AddsTile}
 use Rattle.tile.specs.Inner.{CleanTile}
 use Rattle.tiles.specs.Inner.{Clean, Short}
 use Rattle.tiles.specs.OrbitLaws.{length-turns, turns-all}

@@ -1,5 +1,5 @@
 -- Laws of tiles that all cover equally many cells: the test tells them (`equalCounts-iff`), their shared number is each tile's, and what
--- `readEqualTiles` gives is stored paths that all cover equally many. Rests on `Paths`, `Stored` and `ReadLaws`. Assumes nothing.
+-- `readEqualTiles` gives is stored paths that all cover equally many. Rests on `Paths` and `ReadLaws`. Assumes nothing.
 use mathlib.Core.Path.{_≡_, refl, sym, ap, _∙_}
 use mathlib.Core.Logic.{_↔_}
 use mathlib.Core.Bool.{Bool, true, false, So, not, false≢true}
@@ -7,13 +7,12 @@ use mathlib.Core.List.{List, [], _∷_, List·Memᴰ as Mem, List·Memᴰ·head 
 use Prim.Native.Nat.{ℕ, _≤_}
 use borrow.Author.Tests.{eqb-true, eqb-false, not-true}
 use lib.Dec.{eqb}
-use Rattle.cells.specs.Firsts.{any}
+use Rattle.cells.specs.Lists.{any}
 use Rattle.cells.specs.FirstsLaws.{any-true, any-some}
 use Rattle.tiles.specs.declared.Tiles.{Tiles}
 use Rattle.refusal.specs.Refusal.{Answer, refused, given, refusalOf, valueOr}
 use Rattle.tile.specs.Path.{Path, cellCount}
-use Rattle.tiles.specs.Paths.{EqualCounts, sharedCount, equalCounts}
-use Rattle.tiles.specs.Stored.{pathsIn, readTiles, readEqualTiles}
+use Rattle.tiles.specs.Paths.{EqualCounts, sharedCount, equalCounts, pathsIn, readTiles, readEqualTiles}
 use Rattle.refusal.specs.RefusalLaws.{clash, refused-given}
 use Rattle.tiles.specs.ReadLaws.{readTiles-sound}
 

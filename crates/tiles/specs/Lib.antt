@@ -1,6 +1,5 @@
--- Tiles together. `Paths` and `Stored` are what a reader must believe; `Inner` serves private contracts only; the rest are laws.
+-- Tiles together. `Paths` is what a reader must believe; `Inner` serves private contracts only; the rest are laws.
 pub mod Paths
-pub mod Stored
 pub mod Inner
 pub mod OrbitLaws
 pub mod ReadLaws

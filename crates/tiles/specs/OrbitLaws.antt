@@ -9,8 +9,8 @@ use native.Mathlib.Omega.{arith}
 use borrow.Author.Tests.{eq-eqb, eqb-true}
 use lib.Dec.{eqb}
 use lib.ListN.{length, length-append, length-map}
-use Rattle.cells.specs.Firsts.{Once, Tells, holds, addFirsts, firsts}
-use Rattle.cells.specs.FirstsLaws.{holds-iff, mem-firsts, once-firsts, addFirsts-append, addFirsts-old, addFirsts-new, length-addFirsts}
+use Rattle.cells.specs.FirstsLaws.{Once, holds-iff, mem-firsts, once-firsts, addFirsts-append, addFirsts-old, addFirsts-new, length-addFirsts, Tells}
+use Rattle.cells.specs.Lists.{holds, addFirsts, firsts}
 use Rattle.direction.specs.declared.Axis.{Axis}
 use Rattle.direction.specs.declared.Axis.the-variants as A
 use Rattle.direction.specs.Direction.{rotate, reflect}

@@ -1,5 +1,5 @@
 -- Laws of reading tiles: what `readTiles` answers, that what it gives is stored paths in range, and that each of the tiles is read as its path and
--- its cells are counted. Rests on `Stored`, the laws of one tile and the laws of arrays. Assumes nothing.
+-- its cells are counted. Rests on `Paths`, the laws of one tile and the laws of arrays. Assumes nothing.
 use mathlib.Core.Path.{_≡_, refl, sym, ap, _∙_, subst}
 use mathlib.Core.Bool.{Bool, true, false, So, and-eq-true-iff}
 use mathlib.Core.List.{List, [], List·Memᴰ as Mem}
@@ -10,14 +10,14 @@ use borrow.Author.Tests.{le-leb, lt-leb, leb-true}
 use lib.Dec.{leb}
 use lib.ListN.{length, getD, take, drop, length-take, length-drop}
 use lib.Seq.{ext-getD, getD-take, getD-drop, length-take-le}
-use Rattle.cells.specs.Arrays.{listOf, allBelow}
+use Rattle.cells.specs.Lists.{listOf, allBelow}
 use Rattle.cells.specs.ArrayLaws.{length-listOf, getD-listOf, allBelow-at}
 use Rattle.tile.specs.declared.Tile.{Tile}
 use Rattle.tiles.specs.declared.Tiles.{Tiles}
 use Rattle.refusal.specs.Refusal.{refused, given, refusalOf, valueOr, refusalNumber, mapAnswer}
-use Rattle.tile.specs.Path.{Path, codesOk, cellCount, isPath}
-use Rattle.tile.specs.Stored.{pathIn, readTile, cellCountAnswer}
-use Rattle.tiles.specs.Stored.{pathAt, soundAt, pathsIn, readTiles, Storable, tileAt}
+use Rattle.tile.specs.Path.{Path, codesOk, cellCount, isPath, pathIn, readTile, cellCountAnswer}
+use Rattle.tiles.specs.Paths.{pathAt, soundAt, pathsIn, readTiles, tileAt}
+use Rattle.tiles.specs.Inner.{Storable}
 use Rattle.refusal.specs.RefusalLaws.{clash, refused-given, given-inj}
 use Rattle.cells.specs.MemberLaws.{mem-listOf}
 use Rattle.refusal.specs.declared.Refusal.{Refusal}

@@ -1,8 +1,8 @@
 -- Laws of stored tiles: what is stored can be read back; a collection with one tile more, and one tile of it; a single tile among them is told by the
--- lengths; an orbit is stored so that every call accepts it. Rests on `Stored`, `ReadLaws`, `OrbitLaws` and the laws of arrays. Assumes nothing.
+-- lengths; an orbit is stored so that every call accepts it. Rests on `Paths`, `ReadLaws`, `OrbitLaws` and the laws of arrays. Assumes nothing.
 use mathlib.Core.Path.{_≡_, refl, sym, ap, ap₂, _∙_, subst}
 use mathlib.Core.Bool.{true, false, So, and-false}
-use mathlib.Core.List.{List, [], _∷_, _++_}
+use mathlib.Core.List.{List, [], _∷_, _++_, map, flatMap}
 use Prim.Native.Nat.{ℕ, zero, suc, _+_, _-_, _*_, _/_, _%_, _≤_, _<_}
 use native.Mathlib.Decide.{ℕ-discrete, decLt}
 use native.Mathlib.Omega.{arith}
@@ -10,30 +10,52 @@ use borrow.Author.Tests.{lt-ltb, le-ltb, le-leb, lt-leb}
 use lib.Dec.{leb}
 use lib.ListN.{length, getD, take, drop, set, length-take, length-append, length-drop, length-set, List·getD-eq-default}
 use lib.Seq.{ext-getD, getD-take, getD-drop, length-take-le, getD-append-seam, getD-set-same, getD-set-other}
-use Rattle.cells.specs.Arrays.{listOf, allBelow}
-use Rattle.cells.specs.ArrayLaws.{length-listOf, getD-listOf, listOf-ext, listOf-eta, listOf-getD, any-listOf, none-listOf, allBelow-all, getD-snoc}
+use Rattle.cells.specs.Lists.{listOf, padded, allBelow}
+use Rattle.cells.specs.ArrayLaws.{padded-block, length-listOf, getD-listOf, listOf-ext, listOf-eta, listOf-getD, any-listOf, none-listOf, allBelow-all, getD-snoc}
 use Rattle.cells.specs.FirstsLaws.{mem-getD}
 use Rattle.tile.specs.declared.Tile.{Tile}
 use Rattle.tiles.specs.declared.Tiles.{Tiles}
 use Rattle.refusal.specs.Refusal.{refused, given}
-use Rattle.tile.specs.Path.{Path, codesOk, isSingle}
-use Rattle.tiles.specs.Paths.{containsSingle, orbit}
-use Rattle.tile.specs.Stored.{pathIn, tileOf}
-use Rattle.tiles.specs.Stored.{pathAt, soundAt, pathsIn, readTiles, Storable, tilesOf, overlay, appended, withTile, tileAt}
+use Rattle.tile.specs.Path.{Path, codesOk, isSingle, pathIn, tileOf}
+use Rattle.tiles.specs.Paths.{containsSingle, orbit, pathAt, soundAt, pathsIn, readTiles, tilesOf, overlay, appended, withTile, tileAt}
+use Rattle.tiles.specs.Inner.{Storable, Clean, Short}
 use Rattle.tile.specs.Inner.{CleanTile}
-use Rattle.tiles.specs.Inner.{Clean, Short}
 use Rattle.tiles.specs.OrbitLaws.{orbit-length-le, orbit-length-path, orbit-codesOk}
 use Rattle.tiles.specs.ReadLaws.{sound-path, readTiles-given}
 
 -- ---- a list of tiles
+
+-- tiles as they are stored, by the places of their lengths and codes
+unfoldable pub tilesAt : List Path → Tiles
+unfolding listOf
+tilesAt ps = record { count = length ps; lens = listOf (λ i. length (getD ps i [])) 64; codes = listOf (λ k. getD (getD ps (k / 32) []) (k % 32) 0) 2048 }
+
+pub tilesOf-at : (ps : List Path) → tilesOf ps ≡ tilesAt ps
+unfolding tilesOf tilesAt
+tilesOf-at ps =
+    λ m. record {
+      count = length ps;
+      lens = listOf-ext (λ i. getD (map length ps) i 0) (λ i. length (getD ps i [])) 64 (λ i h. lens-at ps i) m;
+      codes = listOf-ext (λ k. getD (flatMap (λ (p : Path). padded p 32) ps) k 0) (λ k. getD (getD ps (k / 32) []) (k % 32) 0) 2048 (λ k h. code-at k) m;
+    }
+  where
+    lens-at : (qs : List Path) (i : ℕ) → getD (map length qs) i 0 ≡ length (getD qs i [])
+    lens-at [] i = refl
+    lens-at (q ∷ qs) zero = refl
+    lens-at (q ∷ qs) (suc i) = lens-at qs i
+
+    code-at : (k : ℕ) → getD (flatMap (λ (p : Path). padded p 32) ps) k 0 ≡ getD (getD ps (k / 32) []) (k % 32) 0
+    code-at k =
+        let e : 32 * (k / 32) + k % 32 ≡ k = omega arith in
+        ap (λ (i : ℕ). getD (flatMap (λ (p : Path). padded p 32) ps) i 0) (sym e) ∙ padded-block ps (k / 32) (k % 32) (omega arith)
 
 pub count-tilesOf : (ps : List Path) → tilesOf ps .count ≡ length ps
 unfolding tilesOf
 count-tilesOf ps = refl
 
 lens-tilesOf : (ps : List Path) → tilesOf ps .lens ≡ listOf (λ i. length (getD ps i [])) 64
-unfolding tilesOf
-lens-tilesOf ps = refl
+unfolding tilesAt
+lens-tilesOf ps = ap (λ (ts : Tiles). ts .lens) (tilesOf-at ps)
 
 module _ (ps : List Path) (short : Short ps) where
   lenOf : ℕ → ℕ
@@ -43,9 +65,10 @@ module _ (ps : List Path) (short : Short ps) where
   codeOf k = getD (getD ps (k / 32) []) (k % 32) 0
 
   pub pathAt-tilesOf : (i : ℕ) → i < 64 → pathAt (tilesOf ps .lens) (tilesOf ps .codes) i ≡ getD ps i []
-  unfolding tilesOf lenOf codeOf
+  unfolding tilesAt lenOf codeOf
   pathAt-tilesOf i h =
-      ap (λ (n : ℕ). take n (drop (32 * i) (listOf codeOf 2048))) (getD-listOf lenOf 64 i 0 h) ∙ ext-getD 0 (take (lenOf i) (drop (32 * i) (listOf codeOf 2048))) (getD ps i []) long each
+      ap (λ (ts : Tiles). pathAt (ts .lens) (ts .codes) i) (tilesOf-at ps)
+      ∙ ap (λ (n : ℕ). take n (drop (32 * i) (listOf codeOf 2048))) (getD-listOf lenOf 64 i 0 h) ∙ ext-getD 0 (take (lenOf i) (drop (32 * i) (listOf codeOf 2048))) (getD ps i []) long each
     where
       long : length (take (lenOf i) (drop (32 * i) (listOf codeOf 2048))) ≡ length (getD ps i [])
       long = length-take-le (lenOf i) (drop (32 * i) (listOf codeOf 2048)) (omega (arith, short i, length-drop (32 * i) (listOf codeOf 2048), length-listOf codeOf 2048))
@@ -162,10 +185,11 @@ module _ (ps : List Path) (p : Path) (few : length ps < 64) where
       go k h (no e) = outside k h e (decLt k (32 * length ps))
 
   pub appended-tilesOf : appended (tilesOf ps) (tileOf p) ≡ tilesOf (ps ++ p ∷ [])
-  unfolding tilesOf tileOf
+  unfolding tilesAt tileOf
   appended-tilesOf =
       let n : length ps + 1 ≡ length (ps ++ p ∷ []) = sym (length-append ps (p ∷ [])) in
-      λ i. record { count = n i; lens = lens-snoc i; codes = codes-snoc i }
+      let e : appended (tilesAt ps) (tileOf p) ≡ tilesAt (ps ++ p ∷ []) = λ i. record { count = n i; lens = lens-snoc i; codes = codes-snoc i } in
+      ap (λ (ts : Tiles). appended ts (tileOf p)) (tilesOf-at ps) ∙ e ∙ sym (tilesOf-at (ps ++ p ∷ []))
 
   pub withTile-tilesOf : withTile (tilesOf ps) (tileOf p) ≡ given (tilesOf (ps ++ p ∷ []))
   withTile-tilesOf =
@@ -173,8 +197,9 @@ module _ (ps : List Path) (p : Path) (few : length ps < 64) where
 
 -- zeros store no tiles
 pub stores-none : (lens codes : List ℕ) → lens ≡ listOf (λ i. 0) 64 → codes ≡ listOf (λ k. 0) 2048 → record { count = 0; lens = lens; codes = codes } ≡ tilesOf []
-unfolding tilesOf
-stores-none lens codes e q = λ i. record { count = 0; lens = e i; codes = q i }
+unfolding tilesAt
+stores-none lens codes e q =
+    let k : record { count = 0; lens = lens; codes = codes } ≡ tilesAt [] = λ i. record { count = 0; lens = e i; codes = q i } in k ∙ sym (tilesOf-at [])
 
 -- ---- one tile of them
 
@@ -192,9 +217,10 @@ tileAt-past ts i h k = λ m. record { len = sym (List·getD-eq-default (ts .lens
     zero-at j l = let past : length (ts .codes) ≤ 32 * i + j = omega arith in sym (List·getD-eq-default (ts .codes) 0 past)
 
 pub tileAt-tilesOf : (ps : List Path) (i : ℕ) → i < 64 → tileAt (tilesOf ps) i ≡ tileOf (getD ps i [])
-unfolding tileAt tilesOf tileOf
+unfolding tileAt tilesAt tileOf
 tileAt-tilesOf ps i h =
-    λ m. record { len = getD-listOf (λ j. length (getD ps j [])) 64 i 0 h m; codes = codes m }
+    let e : tileAt (tilesAt ps) i ≡ tileOf (getD ps i []) = λ m. record { len = getD-listOf (λ j. length (getD ps j [])) 64 i 0 h m; codes = codes m } in
+    ap (λ (ts : Tiles). tileAt ts i) (tilesOf-at ps) ∙ e
   where
     code : ℕ → ℕ
     code k = getD (getD ps (k / 32) []) (k % 32) 0

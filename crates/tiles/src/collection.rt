@@ -9,15 +9,11 @@ ghost use mathlib.Core.Bool.{So, _&&_};
 ghost use Prim.Native.Nat.{_+_, _≤_, _<_};
 ghost use lib.Dec.{leb};
 ghost use lib.ListN.{length, getD, take, drop};
-ghost use Rattle.cells.specs.Arrays.{listOf, allBelow};
-ghost use Rattle.cells.specs.Firsts.{holds, addNew, addFirsts};
+ghost use Rattle.cells.specs.Lists.{listOf, allBelow, holds, addNew, addFirsts};
 ghost use Rattle.refusal.specs.Refusal.{given};
-ghost use Rattle.tile.specs.Path.{codesOk, isPath, cellCount};
-ghost use Rattle.tile.specs.Stored.{pathIn};
+ghost use Rattle.tile.specs.Path.{codesOk, isPath, cellCount, pathIn};
 ghost use Rattle.tile.specs.Inner.{CleanTile};
-ghost use Rattle.tiles.specs.Paths.{containsSingle, sharedCount, equalCounts, samePath, turns};
-ghost use Rattle.tiles.specs.Stored.{pathAt, pathsIn, soundAt, readTiles, tilesOf, overlay};
-ghost use Rattle.tiles.specs.Stored.{appended as Stored·appended};
+ghost use Rattle.tiles.specs.Paths.{containsSingle, sharedCount, equalCounts, samePath, turns, pathAt, pathsIn, soundAt, readTiles, tilesOf, overlay, appended as Stored·appended};
 ghost use Rattle.tiles.specs.Inner.{Clean};
 
 // Whether len codes from a place on are a path.

@@ -3,8 +3,7 @@
 //
 // The struct holds any numbers; a call that is handed one tests it and refuses, 6 (over 64 tiles)
 // before 5 (a path over 32 or a code over 7), so that nothing is asked of a caller. Only `with_tile`
-// and `get` take a tile as it stands. What each call answers is a definition of specs/: Paths.antt
-// for lists of paths, Stored.antt for how they are stored.
+// and `get` take a tile as it stands. What each call answers is a definition of specs/Paths.antt.
 use direction::Axis;
 use refusal::Refusal;
 use refusal::Verdict;
@@ -13,9 +12,8 @@ use tile::Tile;
 ghost use mathlib.Core.Path.{_≡_};
 ghost use mathlib.Core.List.{[]};
 ghost use Rattle.refusal.specs.Refusal.{mapAnswer, refusalOf, verdictNumber};
-ghost use Rattle.tile.specs.Stored.{readTile, cellCountAnswer};
-ghost use Rattle.tiles.specs.Paths.{sharedCount, containsSingle, orbit};
-ghost use Rattle.tiles.specs.Stored.{readTiles, readEqualTiles, tilesOf, tileAt, MakesTiles, AddsTile, containsAnswer};
+ghost use Rattle.tile.specs.Path.{readTile, cellCountAnswer};
+ghost use Rattle.tiles.specs.Paths.{sharedCount, containsSingle, orbit, readTiles, readEqualTiles, tilesOf, tileAt, MakesTiles, AddsTile, containsAnswer};
 
 mod collection;
 

@@ -1,7 +1,7 @@
 -- `graph::count_tilings_from_graph` meets its contract: the count of the full node is read, with none it is 0.
 -- Assumes nothing.
 use Rattle.covers.specs.Counts.{atNode}
-use Rattle.graph.specs.Result.{countFromGraph}
+use Rattle.graph.specs.Graph.{countFromGraph}
 use borrow.Author.Needs.{needs}
 use native.Mathlib.Omega.{arith}
 use Rattle.graph.proofs.count_tilings_from_graph.Statement.{statement}

@@ -6,8 +6,8 @@ use Rattle.cells.specs.ArrayLaws.{Filled, filled-step}
 use native.Mathlib.Omega.{arith}
 use mathlib.Core.Path.{ap, _∙_}
 use mathlib.Core.List.{List}
-use Rattle.cells.specs.Words.{Sound}
-use Rattle.graph.specs.Graph.{numbersFor}
+use Rattle.cells.specs.Set.{Sound}
+use Rattle.cells.specs.Lists.{padded}
 use Rattle.host_words.specs.Inner.{structWords}
 use Rattle.host_words.specs.LayoutLaws.{board-words}
 use Rattle.host_words.proofs.OutputLaws.{written-start, numbers-end}
@@ -48,7 +48,7 @@ returns c =
     let start = c .before .before .before in
     let words = start .args .words .now in
     numbers-end (structWords (start .args .board)) words _ _ inv (omega (arith, inv .long))
-    ∙ ap (λ (ns : List ℕ). numbersFor ns (length words)) (board-words (start .args .board) (fixed start) (laid start))
+    ∙ ap (λ (ns : List ℕ). padded ns (length words)) (board-words (start .args .board) (fixed start) (laid start))
 
 pub put-board-spec : {M : Type 1} → statement M
 put-board-spec =

@@ -1,5 +1,5 @@
 -- `layers::count_tilings` meets its contract: the layers are counted, and then cleared; that the count is the number of cuttings follows. Assumes nothing.
-use Rattle.cells.specs.Words.{Sound}
+use Rattle.cells.specs.Set.{Sound}
 use Rattle.expansion.specs.ExpansionLaws.{both}
 use Rattle.layers.specs.CountLaws.{counts-cuttings}
 use Rattle.layers.proofs.StartLaws.{cleared-zeros}

@@ -1,6 +1,6 @@
 -- `numbered_tilings::tiling_by_number` meets its contract: the answer is judged, then the list is written if it is given, and the words behind it are cleared; that
 -- a list is a chain of edges follows. Assumes nothing.
-use Rattle.numbered_tilings.proofs.WalkLoops.{gives-none, gives-list, told-writable, with-chain}
+use Rattle.numbered_tilings.proofs.WalkLoops.{gives-none, gives-list, told-writable}
 use Rattle.path_count.specs.PathCounts.{countValue}
 use borrow.Author.Needs.{needs}
 use Rattle.numbered_tilings.proofs.tiling_by_number.Statement.{statement}
@@ -9,8 +9,8 @@ use Rattle.numbered_tilings.proofs.tiling_by_number.Tie as tie
 returns : tie.Need-returns
 returns c =
     let other = c .before .before .before .before in
-    with-chain _ _ _ _ _ _ _ _
-    (gives-none _ _ _ _ _ _ _ (other .before .before .judged .ensures) _ (other .enum-told .given .1) _ (c .before .before .clear-from .ensures))
+    let args = other .before .before .before .before .before .before .before .args in
+    gives-none (args .graph) (args .nodes .now) (args .counts .now) (args .edges .now) (countValue (args .m)) (args .output .now) _ (other .before .before .judged .ensures) _ (other .enum-told .given .1) _ (c .before .before .clear-from .ensures)
 
 write-list-requires : tie.Need-write-list-requires
 write-list-requires c κs =
@@ -24,9 +24,9 @@ returns-2 c =
     let wrote = c .before .before .before .before .before .before in
     let full = wrote .before .before in
     let known = full .before .before in
-    with-chain _ _ _ _ _ _ _ _
-    (gives-list _ _ _ _ _ _ _ (known .before .before .judged .ensures) _ (known .answer .given .1) _ (full .last-node .ensures) _ _
-    (wrote .write-list .kept .1 .1 .1 .1 .1 .1 .0) (wrote .write-list .ensures) (c .before .before .clear-from2 .ensures))
+    let args = known .before .before .before .before .before .before .before .args in
+    gives-list (args .graph) (args .nodes .now) (args .counts .now) (args .edges .now) (countValue (args .m)) (args .output .now) _ (known .before .before .judged .ensures) _ (known .answer .given .1) _ (full .last-node .ensures) _ _
+    (wrote .write-list .kept .1 .1 .1 .1 .1 .1 .0) (wrote .write-list .ensures) (c .before .before .clear-from2 .ensures)
 
 pub tiling-by-number-spec : {M : Type 1} → statement M
 tiling-by-number-spec =

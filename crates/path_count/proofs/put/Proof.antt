@@ -2,7 +2,8 @@
 -- Assumes nothing.
 use mathlib.Core.Path.{sym}
 use lib.Seq.{set-out}
-use Rattle.path_count.specs.PathCounts.{countValue, withCount}
+use Rattle.path_count.specs.PathCounts.{countValue}
+use Rattle.path_count.specs.Parts.{withCount}
 use borrow.Author.Needs.{needs}
 use Rattle.path_count.proofs.put.Statement.{statement}
 use Rattle.path_count.proofs.put.Tie as tie

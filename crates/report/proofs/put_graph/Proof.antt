@@ -1,7 +1,7 @@
 -- `report::put_graph` meets its contract: the graph that the code makes is the plot's, and so is its refusal. Assumes nothing.
 use mathlib.Core.Path.{refl, sym, ap}
 use lib.ListN.{replicate}
-use Rattle.cells.specs.Words.{Sound}
+use Rattle.cells.specs.Set.{Sound}
 use Rattle.report.specs.Report.{graphLines}
 use Rattle.report.specs.TextLaws.{puts-within, puts-as}
 use Rattle.report.specs.HoldsLaws.{counts-lent}

@@ -4,7 +4,7 @@ use mathlib.Core.Path.{_≡_, refl, sym, _∙_}
 use mathlib.Core.List.{flatMap}
 use Prim.Native.Nat.{_-_, _≤_}
 use lib.ListN.{length}
-use Rattle.cells.specs.Arrays.{listFrom, listOf}
+use Rattle.cells.specs.Lists.{listFrom, listOf}
 use Rattle.path_count.specs.PathCounts.{countValue}
 use Rattle.tiler.specs.Graphs.{Graph, countOfGraph}
 use Rattle.report.specs.Report.{tilingLine}

@@ -1,6 +1,6 @@
 -- `single_tiling::search` meets its contract: the boards that the walk found stand in front, and zeros behind them.
 -- Assumes nothing.
-use Rattle.cells.specs.Words.{Sound}
+use Rattle.cells.specs.Set.{Sound}
 use Rattle.single_tiling.proofs.SearchLaws.{boards-few, gets-boards, gets-nothing}
 use native.Mathlib.Omega.{arith}
 use borrow.Author.Needs.{needs}

@@ -3,7 +3,7 @@
 use mathlib.Core.Path.{sym, subst}
 use Prim.Native.Nat.{ℕ, _≤_}
 use borrow.Author.Tests.{not-true}
-use Rattle.cells.specs.Words.{Sound}
+use Rattle.cells.specs.Set.{Sound}
 use Rattle.rectangle.specs.FreeLaws.{free-le}
 use Rattle.single_tiling.proofs.SearchLaws.{searched-held, walk-full, walk-no-sum, walk-first}
 use borrow.Author.Needs.{needs}

@@ -1,6 +1,6 @@
 -- `tiler::generate_graph` meets its contract: board and tiles are judged, and the graph is made of those that are not refused; that it numbers the
 -- cuttings follows. Assumes nothing.
-use Rattle.cells.specs.Words.{Sound}
+use Rattle.cells.specs.Set.{Sound}
 use Rattle.tiler.specs.CuttingTheorems.{graph-numbers-cuttings}
 use Rattle.expansion.specs.ExpansionLaws.{judged-size, judged-refused, both}
 use Rattle.tiler.proofs.FinishLaws.{generates-made, generates-refused}

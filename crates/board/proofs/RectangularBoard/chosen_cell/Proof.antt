@@ -4,10 +4,11 @@ use mathlib.Core.Path.{_≡_, sym, ap, _∙_}
 use mathlib.Core.Bool.{true}
 use Prim.Native.Nat.{ℕ}
 use borrow.Author.Needs.{needs}
-use Rattle.cells.specs.Words.{number}
+use Rattle.cells.specs.Set.{number}
 use Rattle.refusal.specs.Refusal.{mapAnswer}
 use Rattle.rectangle.specs.Board.{valid}
-use Rattle.choice.specs.Choice.{chosenCount, chosenFor}
+use Rattle.choice.specs.Choice.{chosenCount}
+use Rattle.choice.specs.Parts.{chosenFor}
 use Rattle.choice.specs.ChosenLaws.{chosenFor-is}
 use Rattle.board.specs.Board.{boardOf}
 use Rattle.board.specs.BoardLaws.{readBoard-given, check-accepted, check-refused}

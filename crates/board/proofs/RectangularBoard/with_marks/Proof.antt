@@ -3,9 +3,9 @@
 use mathlib.Core.Path.{sym, ap, _∙_, subst}
 use Prim.Native.Nat.{ℕ, _-_, _^_, _<_}
 use borrow.Author.Needs.{needs}
-use Rattle.cells.specs.Set.{Within}
+use Rattle.cells.specs.BitLaws.{Within}
 use Rattle.cells.specs.SetLaws.{within-union}
-use Rattle.cells.specs.Words.{number}
+use Rattle.cells.specs.Set.{number}
 use Rattle.cells.specs.WordLaws.{number-lt}
 use Rattle.board.proofs.MadeLaws.{with-parts}
 use Rattle.board.proofs.RectangularBoard.with_marks.Statement.{statement}

@@ -4,8 +4,7 @@ use mathlib.Core.Path.{_≡_, _∙_}
 use Prim.Native.Nat.{_-_, _≤_}
 use borrow.Author.Needs.{needs}
 use native.Mathlib.Omega.{arith}
-use Rattle.cells.specs.Set.{fromBits}
-use Rattle.cells.specs.Words.{number}
+use Rattle.cells.specs.Set.{fromBits, number}
 use Rattle.cells.specs.ListLaws.{value-none}
 use Rattle.board.specs.Board.{shapeMark}
 use Rattle.board.proofs.ShapeLaws.{bits, filled-none, filled-more, filled-all}

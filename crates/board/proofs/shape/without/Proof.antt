@@ -2,7 +2,7 @@
 -- difference (`number-without`).
 -- Assumes nothing.
 use borrow.Author.Needs.{needs}
-use Rattle.cells.specs.Words.{Sound}
+use Rattle.cells.specs.Set.{Sound}
 use Rattle.board.proofs.WithoutLaws.{word-le, number-without}
 use Rattle.board.proofs.shape.without.Statement.{statement}
 use Rattle.board.proofs.shape.without.Tie as tie

@@ -1,7 +1,7 @@
 -- `cells::Cells::equal` meets its contract: word by word (`eqb-word`, `eqb-last`).
 -- Assumes nothing.
 use borrow.Author.Needs.{needs}
-use Rattle.cells.specs.Words.{Sound}
+use Rattle.cells.specs.Set.{Sound}
 use Rattle.cells.specs.WordLaws.{eqb-word, eqb-last}
 use Rattle.cells.proofs.Cells.equal.Statement.{statement}
 use Rattle.cells.proofs.Cells.equal.Tie as tie

@@ -1,7 +1,7 @@
 -- `cells::Cells::has_cell` meets its contract: the cell is looked up in its word (`hasCell-word`).
 -- Assumes nothing.
 use borrow.Author.Needs.{needs}
-use Rattle.cells.specs.Words.{Sound}
+use Rattle.cells.specs.Set.{Sound}
 use Rattle.cells.specs.WordLaws.{hasCell-past, hasCell-word}
 use Rattle.cells.proofs.Match.{rest-le}
 use Rattle.cells.proofs.Cells.has_cell.Statement.{statement}

@@ -1,7 +1,7 @@
 -- `cells::Cells::shares_cell` meets its contract: word by word (`sharesCell-word`, `sharesCell-last`).
 -- Assumes nothing.
 use borrow.Author.Needs.{needs}
-use Rattle.cells.specs.Words.{Sound}
+use Rattle.cells.specs.Set.{Sound}
 use Rattle.cells.specs.WordLaws.{sharesCell-word, sharesCell-last}
 use Rattle.cells.proofs.Cells.shares_cell.Statement.{statement}
 use Rattle.cells.proofs.Cells.shares_cell.Tie as tie

@@ -1,7 +1,7 @@
 -- `cells::Cells::union` meets its contract: word by word (`number-or`).
 -- Assumes nothing.
 use borrow.Author.Needs.{needs}
-use Rattle.cells.specs.Words.{Sound}
+use Rattle.cells.specs.Set.{Sound}
 use Rattle.cells.specs.WordLaws.{number-or}
 use Rattle.cells.proofs.Cells.union.Statement.{statement}
 use Rattle.cells.proofs.Cells.union.Tie as tie

@@ -3,7 +3,7 @@
 use borrow.Author.Needs.{needs}
 use mathlib.Core.Path.{refl}
 use lib.Dec.{lit<}
-use Rattle.cells.specs.Words.{Sound}
+use Rattle.cells.specs.Set.{Sound}
 use Rattle.cells.specs.WordLaws.{number-set, withCell-none}
 use Rattle.cells.proofs.Match.{rest-le}
 use Rattle.cells.proofs.Cells.with_cell.Statement.{statement}

@@ -4,7 +4,7 @@ use mathlib.Core.Path.{_≡_}
 use mathlib.Core.Bool.{false}
 use Prim.Native.Nat.{ℕ, _-_, _≤_, _<_}
 use lib.Dec.{eqb}
-use Rattle.cells.specs.Words.{number}
+use Rattle.cells.specs.Set.{number}
 use Rattle.cells.specs.Lists.{setAt}
 use Rattle.cells.proofs.ListLoops.{looked-at}
 use Rattle.cells.specs.SearchLaws.{missed-more, set-found, set-missed}

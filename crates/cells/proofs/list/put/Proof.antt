@@ -2,7 +2,7 @@
 -- Assumes nothing.
 use mathlib.Core.Path.{sym}
 use lib.ListN.{length-set}
-use Rattle.cells.specs.Words.{Sound}
+use Rattle.cells.specs.Set.{Sound}
 use Rattle.cells.specs.ListLaws.{withSet-none}
 use Rattle.cells.proofs.ListLoops.{withSet-words}
 use borrow.Author.Needs.{needs}

@@ -33,7 +33,7 @@ returns-2 c =
     let t = told (c .before .before .before .before .before .before .before .before .before) in
     let f = c .before .before .before .before .before .before .before .found .given .1 in
     kept-all _ _ _ _ (found-cell _ _ t _ _ f)
-    (found-pruned _ (c .before .before .before .before .before .before .before .before .before .before .before .before .pre .0) _ _ (found-cell _ _ t _ _ f) (found-count _ _ t _ _ f) _ _ (c .before .before .before .before .before .is-pruned .ensures) ∙ c .before .before .before .before .if1 .left) _ _
+    (found-pruned _ (c .before .before .before .before .before .before .before .before .before .before .before .before .pre .0) _ _ (found-cell _ _ t _ _ f) (found-count _ _ t _ _ f) _ _ (c .before .before .before .before .before .is-pruned .ensures) ∙ c .before .before .before .before .if1 .left) _
     (c .before .before .add-tiles .ensures)
 
 returns-3 : tie.Need-returns-3

@@ -4,10 +4,9 @@ use mathlib.Core.Path.{_≡_, sym, _∙_}
 use mathlib.Core.Bool.{true, false}
 use borrow.Author.Needs.{needs}
 use native.Mathlib.Omega.{arith}
-use Rattle.direction.specs.Position.{shift}
-use Rattle.direction.specs.Direction.{step}
+use Rattle.direction.specs.Direction.{shift, step}
 use Rattle.rectangle.specs.Board.{inside, positionOf}
-use Rattle.rectangle.specs.Place.{placeAnswer, placeIf}
+use Rattle.rectangle.specs.Parts.{placeAnswer, placeIf}
 use Rattle.rectangle.specs.PlaceLaws.{place-placed}
 use Rattle.choice.proofs.ChoiceLaws.{beside-step, beside-nowhere, beside-place}
 use Rattle.choice.specs.Choice.{one}

@@ -4,7 +4,7 @@ use Prim.Native.Nat.{ℕ, _-_, _≤_}
 use lib.ListN.{length-replicate, getD-replicate}
 use borrow.Author.Needs.{needs}
 use native.Mathlib.Omega.{arith}
-use Rattle.cells.specs.Words.{number}
+use Rattle.cells.specs.Set.{number}
 use Rattle.cells.specs.ArrayLaws.{Filled, filled-start, filled-step, filled-end}
 use Rattle.choice.specs.Choice.{neighbourCount}
 use Rattle.choice.proofs.counts.neighbour_counts.Statement.{statement}

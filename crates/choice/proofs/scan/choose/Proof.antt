@@ -5,7 +5,7 @@ use mathlib.Core.Option.{none}
 use Prim.Native.Nat.{_-_, _≤_}
 use borrow.Author.Needs.{needs}
 use native.Mathlib.Omega.{arith}
-use Rattle.cells.specs.Words.{number}
+use Rattle.cells.specs.Set.{number}
 use Rattle.choice.specs.Choice.{columns, bestOf}
 use Rattle.choice.specs.Inner.{foundOf, arrayCount, openIn}
 use Rattle.choice.proofs.ChoiceLaws.{columns-none, columns-more, columns-all}

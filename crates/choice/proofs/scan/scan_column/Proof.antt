@@ -3,8 +3,8 @@
 use Prim.Native.Nat.{_+_, _-_, _*_, _≤_}
 use borrow.Author.Needs.{needs}
 use native.Mathlib.Omega.{arith}
-use Rattle.cells.specs.Words.{number}
-use Rattle.cells.specs.Arrays.{listOf}
+use Rattle.cells.specs.Set.{number}
+use Rattle.cells.specs.Lists.{listOf}
 use Rattle.choice.proofs.ChoiceLaws.{Scanned, scanned-none, scanned-more, scanned-all}
 use Rattle.choice.specs.Inner.{arrayCount, openIn}
 use Rattle.choice.proofs.scan.scan_column.Statement.{statement}

@@ -4,10 +4,9 @@ use mathlib.Core.Path.{_≡_, sym, _∙_}
 use lib.IntN.{pos}
 use borrow.Author.Needs.{needs}
 use native.Mathlib.Omega.{arith}
-use Rattle.direction.specs.Position.{at, shift}
-use Rattle.direction.specs.Direction.{step}
+use Rattle.direction.specs.Direction.{at, shift, step}
 use Rattle.rectangle.specs.Board.{inside}
-use Rattle.rectangle.specs.Place.{placeAnswer, placeIf}
+use Rattle.rectangle.specs.Parts.{placeAnswer, placeIf}
 use Rattle.rectangle.specs.PlaceLaws.{place-placed}
 use Rattle.fit.proofs.WalkLaws.{walk-step, free-nowhere, free-marked, free-open}
 use Rattle.fit.proofs.walk.free_step.Statement.{statement}

@@ -6,11 +6,10 @@ use lib.IntN.{pos}
 use lib.ListN.{length}
 use borrow.Author.Needs.{needs}
 use native.Mathlib.Omega.{arith}
-use Rattle.cells.specs.Words.{number}
-use Rattle.direction.specs.Position.{at}
+use Rattle.cells.specs.Set.{number}
+use Rattle.direction.specs.Direction.{at}
 use Rattle.tile.specs.PathLaws.{codesOk-at}
-use Rattle.rectangle.specs.Board.{freeIn}
-use Rattle.rectangle.specs.Place.{placeAnswer}
+use Rattle.rectangle.specs.Parts.{freeIn, placeAnswer}
 use Rattle.fit.specs.Fit.{cover}
 use Rattle.fit.specs.Inner.{back}
 use Rattle.fit.proofs.WalkLaws.{Walking, freeIn-placed, walk-stops, walk-goes, walk-ends, back-next, back-none}

@@ -1,7 +1,7 @@
 -- `graph::rooms::edge_room` meets its contract: by definition.
 -- Assumes nothing.
 use borrow.Author.Needs.{needs}
-use Rattle.graph.specs.Rooms.{edgeRoom}
+use Rattle.graph.specs.Graph.{edgeRoom}
 use Rattle.graph.proofs.rooms.edge_room.Statement.{statement}
 use Rattle.graph.proofs.rooms.edge_room.Tie as tie
 

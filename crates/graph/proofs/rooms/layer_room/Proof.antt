@@ -3,7 +3,7 @@
 use mathlib.Core.Path.{ap, ap₂, _∙_}
 use Prim.Native.Nat.{min}
 use borrow.Author.Needs.{needs}
-use Rattle.graph.specs.Rooms.{roomOf, layerRoom}
+use Rattle.graph.specs.Graph.{roomOf, layerRoom}
 use Rattle.graph.proofs.rooms.layer_room.Statement.{statement}
 use Rattle.graph.proofs.rooms.layer_room.Tie as tie
 

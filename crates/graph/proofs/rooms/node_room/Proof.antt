@@ -3,7 +3,7 @@
 use mathlib.Core.Path.{ap, _∙_}
 use Prim.Native.Nat.{min}
 use borrow.Author.Needs.{needs}
-use Rattle.graph.specs.Rooms.{roomOf, nodeRoom}
+use Rattle.graph.specs.Graph.{roomOf, nodeRoom}
 use Rattle.graph.proofs.rooms.node_room.Statement.{statement}
 use Rattle.graph.proofs.rooms.node_room.Tie as tie
 

@@ -1,7 +1,7 @@
 -- `graph::rooms::room` meets its contract: by definition.
 -- Assumes nothing.
 use borrow.Author.Needs.{needs}
-use Rattle.graph.specs.Rooms.{roomOf}
+use Rattle.graph.specs.Graph.{roomOf}
 use Rattle.graph.proofs.rooms.room.Statement.{statement}
 use Rattle.graph.proofs.rooms.room.Tie as tie
 

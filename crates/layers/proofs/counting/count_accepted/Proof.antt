@@ -2,7 +2,7 @@
 use lib.Dec.{lit<}
 use Prim.Native.Nat.{_^_, _<_}
 use native.Mathlib.Omega.{arith}
-use Rattle.cells.specs.Words.{number}
+use Rattle.cells.specs.Set.{number}
 use Rattle.cells.specs.WordLaws.{number-lt}
 use Rattle.graph.specs.RoomLaws.{layer-room}
 use Rattle.path_count.specs.PathCountLaws.{word-count}
@@ -43,11 +43,9 @@ run-requires c κs =
     let f = m .before .before .before .before in
     let s = f .before .before .before .before .before .before .before in
     let w = layer-room _ _ _ _ _ (f .before .before .layer-room .ensures) in (
-      s .pre .0,
-      s .pre .1,
+      (s .pre .0, s .pre .1),
       (omega (arith, w .0, m .start .kept .1 .0), room-kept _ _ _ (w .1) (m .start .kept .1 .1 .0)),
       (w .2, w .3),
-      positive _ (f .before .if1 .left),
       start-ready _ _ (s .pre .0) (small-fixed s) (small-laid s) _ (f .free-cells .ensures) _ _ (f .before .before .layer-room .ensures) (f .before .if1 .left)
           _ (m .start .ensures),
     )

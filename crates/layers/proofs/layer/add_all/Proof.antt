@@ -5,8 +5,7 @@ use mathlib.Core.List.{List}
 use Prim.Native.Nat.{ℕ, _-_, _≤_}
 use native.Mathlib.Omega.{arith}
 use lib.ListN.{length}
-use Rattle.cells.specs.Arrays.{listOf}
-use Rattle.cells.specs.Lists.{setAt}
+use Rattle.cells.specs.Lists.{listOf, setAt}
 use Rattle.covers.specs.Counts.{Entry}
 use Rattle.layers.specs.Inner.{boardsIn, HoldsLayer, addEach}
 use Rattle.layers.proofs.LayerLaws.{room-kept, each-none, each-more, each-all}

@@ -3,7 +3,7 @@
 use mathlib.Core.Path.{ap}
 use Prim.Native.Nat.{_^_, _<_}
 use native.Mathlib.Omega.{arith}
-use Rattle.cells.specs.Words.{number}
+use Rattle.cells.specs.Set.{number}
 use Rattle.cells.specs.WordLaws.{number-lt}
 use Rattle.layers.specs.Inner.{boardsIn}
 use Rattle.layers.proofs.LayerLaws.{add-no-room, add-past, add-new, add-large, add-old}

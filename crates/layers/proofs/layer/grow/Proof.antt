@@ -1,77 +1,34 @@
--- `layers::layer::grow` meets its contract: the boards give their paths in order.
+-- `layers::layer::grow` meets its contract: the part of the array that is lent holds the children of any board.
 -- Assumes nothing.
-use mathlib.Core.Path.{_≡_, refl, sym, _∙_}
-use Prim.Native.Nat.{_-_, _≤_}
-use native.Mathlib.Omega.{arith}
-use lib.ListN.{length}
-use Rattle.expansion.specs.Boards.{settingOf}
-use Rattle.layers.specs.Inner.{entriesIn, boardsIn, HoldsLayer, nextOf}
-use Rattle.layers.proofs.LayerLaws.{room-kept, grown-none, grown-more, grown-all}
+use mathlib.Core.Path.{refl}
+use Rattle.expansion.specs.ExpansionLaws.{child-words, child-part}
 use borrow.Author.Needs.{needs}
 use Rattle.layers.proofs.layer.grow.Statement.{statement}
 use Rattle.layers.proofs.layer.grow.Tie as tie
 
-abbrev Inv-loop : tie.InvT-loop
-Inv-loop board tiles boards counts n nextBoards₀ nextCounts₀ room children₀ state₀ i₀ nextBoards nextCounts children state i =
-    (i ≤ n) × (boardsIn state ≤ room) × (length nextBoards ≡ length nextBoards₀) × (length nextCounts ≡ length nextCounts₀) × (length children ≡ 8448)
-    × HoldsLayer room nextBoards nextCounts state (nextOf (settingOf board tiles) (entriesIn boards counts i))
+array-borrow-prefix-children : tie.Need-array-borrow-prefix-children
+array-borrow-prefix-children c = let w = c .before .before in child-words _ _ (w .before .before .before .before .before .pre .0) _ (w .child-words .ensures) .1
 
-abbrev μ-loop : tie.MeasureT-loop
-μ-loop board tiles boards counts n nextBoards₀ nextCounts₀ room children₀ state₀ i₀ nextBoards nextCounts children state i = n - i
+slice-aggregate-grow-all : tie.Need-slice-aggregate-grow-all
+slice-aggregate-grow-all c = let w = c .before .before .before in child-part _ _ (w .before .before .before .before .before .pre .0) _ (w .child-words .ensures) _ refl .0
 
-loop-holds : tie.Need-loop-holds Inv-loop μ-loop
-loop-holds c = (omega arith, omega arith, refl, refl, refl, grown-none _ _ _ _ _ _ _)
+grow-all-requires : tie.Need-grow-all-requires
+grow-all-requires c κs =
+    let w = c .before .before .before in
+    let p = w .before .before .before .before .before .pre in
+    (p .0, p .1, child-part _ _ (p .0) _ (w .child-words .ensures) _ refl .1, p .2)
 
-slice-aggregate-grow-by : tie.Need-slice-aggregate-grow-by Inv-loop μ-loop
-slice-aggregate-grow-by c = sym (c .before .before .before .before .loop .inv .4)
-
-grow-by-requires : tie.Need-grow-by-requires Inv-loop μ-loop
-grow-by-requires c κs =
-    let i = c .before .before .before .loop-test .taken in
-    let l = c .before .before .before .before .loop in
-    let p = c .before .before .before .before .before .before .before .before .before .pre in (
-      p .0,
-      p .1 _ i,
-      omega (arith, l .inv .4),
-      l .inv .1,
-      (omega (arith, p .2 .0, l .inv .2), room-kept _ _ _ (p .2 .1) (l .inv .3)),
-    )
-
-loop-again : tie.Need-loop-again Inv-loop μ-loop
-loop-again c =
-    let d = c .before .before .before .before .before .grow-by in
-    let l = c .before .before .before .before .before .before .before .before .before .before .loop in (
-      omega arith,
-      d .ensures .0,
-      d .kept .1 .1 .1 .1 .1 .0 ∙ l .inv .2,
-      d .kept .1 .1 .1 .1 .1 .1 .0 ∙ l .inv .3,
-      d .kept .1 .1 .1 .1 .1 .1 .1 .0 ∙ l .inv .4,
-      grown-more _ _ _ _ _ _ _ _ _ (d .ensures .1 _ (l .inv .5)),
-    )
-
-same-length : tie.Need-same-length Inv-loop μ-loop
-same-length c = c .before .loop .inv .2
-
-same-length-2 : tie.Need-same-length-2 Inv-loop μ-loop
-same-length-2 c = c .before .loop .inv .3
-
-returns : tie.Need-returns Inv-loop μ-loop
-returns c =
-    let l = c .before .loop in
-    (l .inv .1, grown-all _ _ _ _ _ _ _ _ _ _ (l .inv .0) (c .loop-test .left) (l .inv .5))
+returns : tie.Need-returns
+returns c = c .before .before .before .before .before .grow-all .ensures
 
 pub grow-spec : {M : Type 1} → statement M
 grow-spec =
     tie.close
     (tie.spec
-    Inv-loop
-    μ-loop
-    loop-holds
-    slice-aggregate-grow-by
-    grow-by-requires
+    (λ c κs. search needs)
+    array-borrow-prefix-children
+    slice-aggregate-grow-all
+    grow-all-requires
     (λ c. search needs)
     (λ c. search needs)
-    loop-again
-    same-length
-    same-length-2
     returns)

@@ -2,7 +2,7 @@
 -- Assumes nothing.
 use mathlib.Core.Path.{sym, ap, _∙_, subst}
 use Rattle.board.specs.Board.{boardOf}
-use Rattle.covers.specs.Cuttings.{childBoards}
+use Rattle.covers.specs.Setting.{childBoards}
 use Rattle.expansion.specs.Boards.{From, settingOf}
 use Rattle.expansion.specs.ExpansionLaws.{expanded-children}
 use Rattle.layers.proofs.LayerLaws.{grown-by}

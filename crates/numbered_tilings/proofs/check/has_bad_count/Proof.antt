@@ -4,7 +4,7 @@ use mathlib.Core.Path.{_≡_, sym, _∙_}
 use mathlib.Core.Bool.{false}
 use Prim.Native.Nat.{ℕ, _-_, _≤_, _<_}
 use borrow.Author.Count.{below-more}
-use Rattle.cells.specs.Arrays.{listOf}
+use Rattle.cells.specs.Lists.{listOf}
 use Rattle.cells.specs.ArrayLaws.{any-listOf, none-listOf}
 use Rattle.graph.specs.Graph.{edgeAt}
 use Rattle.path_count.specs.PathCounts.{countIn}

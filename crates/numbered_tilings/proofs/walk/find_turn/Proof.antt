@@ -2,7 +2,7 @@
 -- Assumes nothing.
 use mathlib.Core.Path.{_≡_, sym, _∙_}
 use Prim.Native.Nat.{_-_, _≤_}
-use Rattle.cells.specs.Arrays.{listOf}
+use Rattle.cells.specs.Lists.{listOf}
 use Rattle.covers.specs.Counts.{parentsOf, turn}
 use Rattle.graph.specs.Graph.{edgeAt}
 use Rattle.path_count.specs.PathCounts.{countValue, countIn}

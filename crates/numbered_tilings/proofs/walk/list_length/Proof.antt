@@ -1,6 +1,6 @@
 -- `numbered_tilings::walk::list_length` meets its contract: each step back goes to an earlier node whose list is one shorter, until node 0, whose list has one.
 -- Assumes nothing.
-use Rattle.cells.specs.Arrays.{listOf}
+use Rattle.cells.specs.Lists.{listOf}
 use Rattle.graph.specs.Graph.{edgeAt}
 use Rattle.path_count.specs.PathCounts.{countValue, countIn}
 use Rattle.numbered_tilings.proofs.WalkLoops.{Back, Measured, steps-back, measured-start, measured-next, measured-end}

@@ -2,7 +2,7 @@
 -- Assumes nothing.
 use Prim.Native.Nat.{_<_}
 use lib.ListN.{length, length-set}
-use Rattle.cells.specs.Arrays.{listOf}
+use Rattle.cells.specs.Lists.{listOf}
 use Rattle.graph.specs.Graph.{edgeAt}
 use Rattle.path_count.specs.PathCounts.{countValue, countIn}
 use Rattle.numbered_tilings.proofs.WalkLoops.{Back, Backfilled, tiling-some, steps-back, place-lent, place-later, backfilled-start, backfilled-next, backfilled-end}

@@ -1,7 +1,8 @@
 -- `path_count::PathCount::plus` meets its contract: a sum that wraps is smaller than what was added to.
 -- Assumes nothing.
 use Rattle.path_count.proofs.Sums.{sum-wraps, sum-fits}
-use Rattle.path_count.specs.PathCounts.{countValue, sumAnswer}
+use Rattle.path_count.specs.PathCounts.{countValue}
+use Rattle.path_count.specs.Parts.{sumAnswer}
 use borrow.Author.Needs.{needs}
 use Rattle.path_count.proofs.PathCount.plus.Statement.{statement}
 use Rattle.path_count.proofs.PathCount.plus.Tie as tie

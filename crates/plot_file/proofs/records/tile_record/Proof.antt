@@ -1,6 +1,6 @@
 -- `plot_file::records::tile_record` meets its contract: the body decides, and then the room (`reads-tiles`).
 -- Assumes nothing.
-use Rattle.tile.specs.Stored.{pathIn}
+use Rattle.tile.specs.Path.{pathIn}
 use Rattle.plot_file.specs.ReadLaws.{tileBody-refused}
 use Rattle.plot_file.proofs.StepLaws.{body-path, body-not, reads-refused, reads-tiles}
 use Rattle.plot_file.proofs.TilesLaws.{for-clean}

@@ -4,8 +4,8 @@ use mathlib.Core.Path.{_≡_, refl, sym, _∙_}
 use mathlib.Core.List.{[]}
 use Prim.Native.Nat.{ℕ, _+_, _-_, _≤_, _<_}
 use native.Mathlib.Omega.{arith}
-use Rattle.cells.specs.Words.{Sound}
-use Rattle.tiles.specs.Stored.{pathsIn}
+use Rattle.cells.specs.Set.{Sound}
+use Rattle.tiles.specs.Paths.{pathsIn}
 use Rattle.board.specs.Board.{boardOf}
 use Rattle.rectangle.specs.Board.{marks, freeCount}
 use Rattle.single_tiling.specs.Inner.{tilesFrom}

@@ -3,7 +3,7 @@
 use mathlib.Core.Path.{refl, sym, ap, _∙_}
 use mathlib.Core.Logic.{inl, inr}
 use borrow.Author.Needs.{needs}
-use Rattle.fit.specs.Fit.{fitPieces}
+use Rattle.fit.specs.Parts.{fitPieces}
 use Rattle.single_tiling.proofs.PlaceLaws.{same-piece}
 use Rattle.single_tiling.proofs.descent.new_fit.Statement.{statement}
 use Rattle.single_tiling.proofs.descent.new_fit.Tie as tie

@@ -7,7 +7,7 @@ use native.Mathlib.Omega.{arith}
 use borrow.Author.Needs.{needs}
 use lib.ListN.{length, getD}
 use Rattle.tile.specs.Path.{cellCount}
-use Rattle.tiles.specs.Stored.{pathsIn}
+use Rattle.tiles.specs.Paths.{pathsIn}
 use Rattle.single_tiling.proofs.SumSteps.{fill-more}
 use Rattle.single_tiling.proofs.sums.cell_counts.Statement.{statement}
 use Rattle.single_tiling.proofs.sums.cell_counts.Tie as tie

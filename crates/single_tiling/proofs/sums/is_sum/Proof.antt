@@ -6,7 +6,7 @@ use Prim.Native.Nat.{_+_, _-_, _≤_, _<_}
 use native.Mathlib.Omega.{arith}
 use borrow.Author.Needs.{needs}
 use lib.ListN.{length, getD, set, replicate}
-use Rattle.cells.specs.Arrays.{listOf}
+use Rattle.cells.specs.Lists.{listOf}
 use Rattle.single_tiling.specs.SumLaws.{Marked, marked-start}
 use Rattle.single_tiling.proofs.SumSteps.{table-set, table-skip, listed-positive, sum-found}
 use Rattle.single_tiling.proofs.sums.is_sum.Statement.{statement}

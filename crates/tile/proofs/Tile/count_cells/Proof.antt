@@ -1,12 +1,10 @@
 -- `tile::Tile::count_cells` meets its contract: a tile that is accepted is counted.
 -- Assumes nothing.
 use mathlib.Core.Path.{_≡_, ap, sym, _∙_}
-use Rattle.refusal.specs.Refusal.{mapAnswer}
+use Rattle.refusal.specs.Refusal.{mapAnswer, given}
 use lib.ListN.{length}
 use lib.Seq.{length-take-le}
-use Rattle.refusal.specs.Refusal.{given}
-use Rattle.tile.specs.Path.{cellCount}
-use Rattle.tile.specs.Stored.{pathIn}
+use Rattle.tile.specs.Path.{cellCount, pathIn}
 use Rattle.tile.specs.StoredLaws.{check-accepted, check-refused, readTile-given}
 use native.Mathlib.Omega.{arith}
 use borrow.Author.Needs.{needs}

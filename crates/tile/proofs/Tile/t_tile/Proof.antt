@@ -4,7 +4,7 @@ use mathlib.Core.Path.{ap, _∙_}
 use mathlib.Core.List.{List}
 use Prim.Native.Nat.{ℕ, _+_, _*_}
 use lib.ListN.{getD, set}
-use Rattle.cells.specs.Arrays.{listOf}
+use Rattle.cells.specs.Lists.{listOf}
 use Rattle.tile.specs.Inner.{run}
 use Rattle.tile.proofs.CodeLaws.{stores}
 use Rattle.tile.proofs.MadeLaws.{makes-refused, makes-given, tTile-zero, tTile-long, tTile-given, length-tPath, codes-tPath}

@@ -6,7 +6,7 @@ use Prim.Native.Nat.{_+_, _≤_, _-_}
 use lib.Dec.{eqb, lit≤}
 use lib.ListN.{length, drop}
 use lib.Seq.{length-take-le}
-use Rattle.cells.specs.Firsts.{addFirsts}
+use Rattle.cells.specs.Lists.{addFirsts}
 use Rattle.tile.specs.Inner.{keysAfter, keysIn, Near}
 use Rattle.tile.specs.PathLaws.{codesOk-at}
 use Rattle.tile.proofs.KeyLaws.{near-first, near-step, cellCount-keys, addFirsts-step, addFirsts-end}

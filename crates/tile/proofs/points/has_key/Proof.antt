@@ -4,7 +4,7 @@ use mathlib.Core.Path.{_≡_, refl, sym, _∙_}
 use Prim.Native.Nat.{_≤_, _-_}
 use lib.Dec.{eqb}
 use lib.ListN.{length, drop}
-use Rattle.cells.specs.Firsts.{holds}
+use Rattle.cells.specs.Lists.{holds}
 use Rattle.cells.specs.FirstsLaws.{any-miss, any-hit, any-end}
 use borrow.Author.Tests.{eq-eqb, ne-eqb}
 use borrow.Author.Needs.{needs}

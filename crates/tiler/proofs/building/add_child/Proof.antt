@@ -2,7 +2,7 @@
 -- an edge is added.
 -- Assumes nothing.
 use Prim.Native.Nat.{_^_, _<_}
-use Rattle.cells.specs.Words.{number}
+use Rattle.cells.specs.Set.{number}
 use Rattle.cells.specs.WordLaws.{number-lt}
 use Rattle.tiler.proofs.BuildLaws.{child-no-room, child-old, child-over, child-put, size-within}
 use native.Mathlib.Omega.{arith}

@@ -5,8 +5,7 @@ use mathlib.Core.List.{List}
 use Prim.Native.Nat.{ℕ, _-_, _≤_}
 use lib.Dec.{eqb}
 use lib.ListN.{length}
-use Rattle.cells.specs.Arrays.{listOf}
-use Rattle.cells.specs.Lists.{setAt}
+use Rattle.cells.specs.Lists.{listOf, setAt}
 use Rattle.covers.specs.FindingLaws.{addChildren}
 use Rattle.tiler.specs.Inner.{nodesIn, HoldsGraph}
 use Rattle.tiler.proofs.BuildLaws.{children-none, children-more, children-all}

@@ -3,9 +3,9 @@
 use mathlib.Core.Path.{_≡_, refl}
 use Prim.Native.Nat.{_-_, _^_, _≤_, _<_}
 use lib.ListN.{length}
-use Rattle.cells.specs.Words.{number}
+use Rattle.cells.specs.Set.{number}
 use Rattle.cells.specs.WordLaws.{number-lt}
-use Rattle.covers.specs.Counts.{nodesOf}
+use Rattle.covers.specs.Setting.{nodesOf}
 use Rattle.expansion.specs.Boards.{settingOf, startOf}
 use Rattle.tiler.specs.Inner.{nodesIn, HoldsGraph}
 use Rattle.tiler.proofs.BuildLaws.{foundGraph, build-start, build-node, build-more, build-below, build-end}

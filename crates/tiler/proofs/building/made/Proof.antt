@@ -2,7 +2,7 @@
 -- Assumes nothing.
 use native.Mathlib.Nat.{le-of-eq}
 use borrow.Author.Tests.{not-true, not-false}
-use Rattle.cells.specs.Words.{Sound}
+use Rattle.cells.specs.Set.{Sound}
 use Rattle.graph.specs.RoomLaws.{node-room, edge-room}
 use Rattle.tiler.proofs.FinishLaws.{count-asks, finish-asks, made-no-room, made-no-room-for-edges, made-large, made-finished}
 use borrow.Author.Needs.{needs}

@@ -3,7 +3,7 @@
 use mathlib.Core.Path.{_≡_, refl}
 use Prim.Native.Nat.{_-_, _≤_}
 use lib.ListN.{length}
-use Rattle.cells.specs.Arrays.{listOf}
+use Rattle.cells.specs.Lists.{listOf}
 use Rattle.graph.specs.Graph.{edgeAt}
 use Rattle.tiler.proofs.PassingLaws.{Passing, pass-none, pass-more, pass-large, pass-done}
 use borrow.Author.Needs.{needs}

@@ -4,8 +4,7 @@ use mathlib.Core.Path.{_≡_, ap, sym, _∙_}
 use Prim.Native.Nat.{_≤_}
 use Rattle.refusal.specs.declared.Verdict.the-variants as Verdicts
 use Rattle.refusal.specs.Refusal.{given, verdictNumber, mapAnswer}
-use Rattle.tiles.specs.Paths.{containsSingle}
-use Rattle.tiles.specs.Stored.{pathsIn, readTiles}
+use Rattle.tiles.specs.Paths.{containsSingle, pathsIn, readTiles}
 use Rattle.refusal.specs.RefusalLaws.{refused-of}
 use Rattle.tiles.specs.ReadLaws.{readTiles-accepted}
 use borrow.Author.Needs.{needs}

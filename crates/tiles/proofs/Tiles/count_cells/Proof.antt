@@ -3,8 +3,7 @@
 use mathlib.Core.Path.{_≡_, ap, sym, _∙_}
 use Rattle.refusal.specs.declared.Verdict.the-variants as Verdicts
 use Rattle.refusal.specs.Refusal.{given, verdictNumber, mapAnswer}
-use Rattle.tiles.specs.Paths.{sharedCount}
-use Rattle.tiles.specs.Stored.{pathsIn, readTiles}
+use Rattle.tiles.specs.Paths.{sharedCount, pathsIn, readTiles}
 use Rattle.refusal.specs.RefusalLaws.{refused-of}
 use Rattle.tiles.specs.ReadLaws.{readTiles-accepted}
 use Rattle.tiles.specs.EqualLaws.{readEqualTiles-refused, readEqualTiles-equal, readEqualTiles-unequal}

@@ -7,8 +7,7 @@ use lib.ListN.{length}
 use lib.Seq.{length-take-le}
 use Rattle.direction.specs.declared.Axis.the-variants as A
 use Rattle.refusal.specs.Refusal.{mapAnswer}
-use Rattle.tile.specs.Path.{codesOk, reflected}
-use Rattle.tile.specs.Stored.{pathIn, tileOf}
+use Rattle.tile.specs.Path.{codesOk, reflected, pathIn, tileOf}
 use Rattle.tile.specs.StoredLaws.{length-pathIn, check-accepted, check-refused, readTile-given}
 use Rattle.tiles.specs.Paths.{orbit}
 use Rattle.tiles.proofs.MadeLaws.{made-of-path, made-of-tile, orbit-starts, orbit-goes-on, orbit-is, makes-no-tiles, makes-tiles}

@@ -4,7 +4,7 @@ use mathlib.Core.Path.{_≡_, sym, _∙_}
 use Prim.Native.Nat.{ℕ, _≤_, _<_, _-_}
 use borrow.Author.Count.{below-none, below-more}
 use Rattle.tile.specs.Path.{cellCount}
-use Rattle.tiles.specs.Stored.{pathAt}
+use Rattle.tiles.specs.Paths.{pathAt}
 use Rattle.tiles.proofs.CountLaws.{equalCounts-fails, equalCounts-all}
 use native.Mathlib.Omega.{arith}
 use borrow.Author.Needs.{needs}

@@ -5,9 +5,9 @@ use mathlib.Core.Bool.{true}
 use Prim.Native.Nat.{_≤_, _-_}
 use borrow.Author.Tests.{not-true, not-false}
 use lib.ListN.{length}
-use Rattle.cells.specs.Arrays.{allBelow}
+use Rattle.cells.specs.Lists.{allBelow}
 use Rattle.cells.specs.ArrayLaws.{allBelow-none, allBelow-more, allBelow-fails}
-use Rattle.tiles.specs.Stored.{soundAt}
+use Rattle.tiles.specs.Paths.{soundAt}
 use native.Mathlib.Omega.{arith}
 use borrow.Author.Needs.{needs}
 use Rattle.tiles.proofs.collection.all_sound.Statement.{statement}

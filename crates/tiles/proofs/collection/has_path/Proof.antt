@@ -5,10 +5,9 @@ use mathlib.Core.Bool.{false}
 use Prim.Native.Nat.{ℕ, _≤_, _<_, _-_}
 use borrow.Author.Count.{below-none, below-more}
 use lib.ListN.{length}
-use Rattle.cells.specs.Firsts.{holds}
+use Rattle.cells.specs.Lists.{holds}
 use Rattle.cells.specs.ArrayLaws.{any-listOf, none-listOf}
-use Rattle.tiles.specs.Paths.{samePath}
-use Rattle.tiles.specs.Stored.{pathAt}
+use Rattle.tiles.specs.Paths.{samePath, pathAt}
 use native.Mathlib.Omega.{arith}
 use borrow.Author.Needs.{needs}
 use Rattle.tiles.proofs.collection.has_path.Statement.{statement}

@@ -4,7 +4,7 @@ use mathlib.Core.Path.{refl}
 use Prim.Native.Nat.{_+_, _≤_, _-_}
 use lib.ListN.{getD}
 use Rattle.cells.specs.ArrayLaws.{Filled, filled-start, filled-step-from, filled-end}
-use Rattle.tiles.specs.Stored.{overlay}
+use Rattle.tiles.specs.Paths.{overlay}
 use Rattle.tiles.proofs.CodeLaws.{overlay-inside, overlay-before, overlay-behind}
 use native.Mathlib.Omega.{arith}
 use borrow.Author.Needs.{needs}

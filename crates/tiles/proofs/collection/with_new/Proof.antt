@@ -4,9 +4,8 @@ use mathlib.Core.Path.{_≡_, ap, sym, _∙_}
 use lib.ListN.{length}
 use lib.Seq.{length-take-le}
 use Rattle.cells.specs.FirstsLaws.{addNew-old, addNew-new}
-use Rattle.tiles.specs.Paths.{samePath}
-use Rattle.tile.specs.Stored.{pathIn}
-use Rattle.tiles.specs.Stored.{pathsIn, tilesOf}
+use Rattle.tiles.specs.Paths.{samePath, pathsIn, tilesOf}
+use Rattle.tile.specs.Path.{pathIn}
 use Rattle.tiles.specs.StoredLaws.{appended-clean}
 use native.Mathlib.Omega.{arith}
 use borrow.Author.Needs.{needs}

@@ -1,8 +1,8 @@
 -- `tiles::collection::with_turns` meets its contract: the turns are collected in order (`Collected`).
 -- Assumes nothing.
 use Prim.Native.Nat.{_≤_, _-_}
-use Rattle.tile.specs.Stored.{pathIn}
-use Rattle.tiles.specs.Stored.{pathsIn}
+use Rattle.tile.specs.Path.{pathIn}
+use Rattle.tiles.specs.Paths.{pathsIn}
 use Rattle.tiles.proofs.MadeLaws.{Collected, collected-start, collected-step, collected-end}
 use native.Mathlib.Omega.{arith}
 use borrow.Author.Needs.{needs}

@@ -1,0 +1,37 @@
+-- 01's numbers by computation, and the answers of refusals and values. Assumes nothing.
+use mathlib.Core.Path.{_≡_, refl}
+use mathlib.Core.List.{[], _∷_, map}
+use Prim.Native.Nat.{ℕ, _+_}
+use lib.Dec.{leb}
+use mathlib.Core.Bool.{cond}
+use Rattle.refusal.specs.declared.Refusal.the-variants as R
+use Rattle.refusal.specs.declared.Verdict.the-variants as Verdicts
+use Rattle.refusal.specs.Refusal.{Answer, refused, given, mapAnswer, bindAnswer, refusalOf, valueOr, refusalNumber, verdictNumber}
+
+-- 1, the mark is cut or missing; 2, unknown mark; 3, a record in the wrong place; 4, board size or marks; 5, a path over 32 or a code over 7; 6, over 64 tiles;
+-- 7, different numbers of cells; 8, no room; 9, a path count of 2^64 or more; 10, no room for edges; 11, a graph that is none; 12, no full node or m not below its count
+numbers : map refusalNumber (R.Cut ∷ R.UnknownMark ∷ R.Misplaced ∷ R.BadBoard ∷ R.BadTile ∷ R.TooManyTiles ∷ R.UnequalTiles ∷ R.NoRoom ∷ R.CountTooLarge ∷ R.NoRoomForEdges ∷ R.BadGraph ∷ R.NoSuchTiling ∷ [])
+    ≡ 1 ∷ 2 ∷ 3 ∷ 4 ∷ 5 ∷ 6 ∷ 7 ∷ 8 ∷ 9 ∷ 10 ∷ 11 ∷ 12 ∷ []
+numbers = refl
+
+-- a verdict's number is 0 for accepted, else the refusal's
+verdicts : (verdictNumber Verdicts.Accepted ≡ 0) × (verdictNumber (Verdicts.Refused R.BadGraph) ≡ 11)
+verdicts = (refl, refl)
+
+-- the number of an answer and its value
+answers : map (refusalOf {A = ℕ}) (refused 4 ∷ given 7 ∷ []) ≡ 4 ∷ 0 ∷ []
+unfolding refusalOf
+answers = refl
+
+values : map (valueOr {A = ℕ} 9) (refused 4 ∷ given 7 ∷ []) ≡ 9 ∷ 7 ∷ []
+unfolding valueOr
+values = refl
+
+-- a refusal stays; a value is put through, or answered to
+mapped : map (mapAnswer (λ n. n + 1)) (refused 4 ∷ given 7 ∷ []) ≡ refused 4 ∷ given 8 ∷ []
+unfolding mapAnswer
+mapped = refl
+
+bound : map (λ (a : Answer ℕ). bindAnswer a (λ n. cond (leb n 7) (given (n + 1)) (refused 6))) (refused 4 ∷ given 7 ∷ given 8 ∷ []) ≡ refused 4 ∷ given 8 ∷ refused 6 ∷ []
+unfolding bindAnswer
+bound = refl
