@@ -69,14 +69,16 @@ accepted = (refl, refl)
 
 -- ---- the answers of the code
 
--- a board that is made, and "a 0 by 0 board" with the refusal's number
+-- a board that is made
 made : MakesBoard (newBoard 3 2) (record { verdict = Verdicts.Accepted; board = ofMarks 3 2 (word 0) (word 0) })
 unfolding newBoard refusalOf valueOr number
 made = record { verdict = refl; board = refl }
 
+-- a refusal hands back "a 0 by 0 board"
 made-refused : MakesBoard (newBoard 17 2) (record { verdict = Verdicts.Refused R.BadBoard; board = ofMarks 0 0 (word 0) (word 0) })
 unfolding newBoard refusalOf valueOr number
 made-refused = record { verdict = refl; board = refl }
 
+-- a number or a test, or the refusal's number
 answers : (freeCellsAnswer (F.Number 3) ≡ given 3) × (freeCellsAnswer (F.Refused R.BadBoard) ≡ refused 4) × (allMarkedAnswer (M.Is true) ≡ given true) × (allMarkedAnswer (M.Refused R.BadBoard) ≡ refused 4)
 answers = (refl, refl, refl, refl)

@@ -84,17 +84,19 @@ output : wordsFor (3 ∷ 65537 ∷ []) 10 ≡ 3 ∷ 0 ∷ 0 ∷ 0 ∷ 65537 ∷ 
 unfolding wordsFor
 output = refl
 
--- what `place_tile` leaves in words that held 7: one child of 2 by 1, zeros behind; after refusal 8 zeros
+-- the one tile Right, and a set of no cells
 right : Tiles
 right = tilesOf ((3 ∷ []) ∷ [])
 
 no-cells : Cells
 no-cells = record { w0 = 0; w1 = 0; w2 = 0; w3 = 0 }
 
+-- what `place_tile` leaves in words that held 7: one child of 2 by 1, zeros behind
 left : PlacesTiles (ofMarks 2 1 no-cells no-cells) right (7 ∷ 7 ∷ 7 ∷ 7 ∷ 7 ∷ []) (3 ∷ 0 ∷ 0 ∷ 0 ∷ 0 ∷ []) (C.Number 1)
 unfolding placeTile wordsFor mapAnswer valueOr number right tilesOf no-cells step
 left = record { answer = refl; words = refl }
 
+-- after refusal 8 zeros
 left-refused : PlacesTiles (ofMarks 2 1 no-cells no-cells) right (7 ∷ 7 ∷ 7 ∷ []) (0 ∷ 0 ∷ 0 ∷ []) (C.Refused R.NoRoom)
 unfolding placeTile wordsFor mapAnswer valueOr number right tilesOf no-cells step
 left-refused = record { answer = refl; words = refl }

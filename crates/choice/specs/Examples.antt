@@ -36,7 +36,7 @@ outer-wide : map (countOf (board 16 4 0 0)) (45 ∷ 30 ∷ 17 ∷ 47 ∷ []) ≡
 unfolding neighbourCount
 outer-wide = refl
 
--- beside the laid mark (1, 2): above it, below, left and right of it; by a corner 0; the cell itself 0
+-- beside the laid mark (1, 2): above it, below, left and right of it; diagonally 0; the cell itself 0
 edge-neighbours : map (countOf (board 5 4 0 (2 ^ 18))) (2 ∷ 34 ∷ 17 ∷ 19 ∷ 33 ∷ 35 ∷ 18 ∷ []) ≡ 2 ∷ 1 ∷ 1 ∷ 1 ∷ 0 ∷ 0 ∷ 0 ∷ []
 unfolding neighbourCount
 edge-neighbours = refl

@@ -14,11 +14,12 @@ rooms-held : (layerRoom 9 3 16 3 ≡ 2) × (layerRoom 16 3 16 1 ≡ 1) × (nodeR
 unfolding layerRoom nodeRoom edgeRoom
 rooms-held = (refl, refl, refl, refl, refl)
 
--- each of the four parts of a layer's room can be the least, and each of the two of a node's; the limit of each kind of room is 16,777,216
+-- each of the four parts of a layer's room can be the least, and each of the two of a node's
 least-parts : layerRoom 15 9 40 9 ∷ layerRoom 40 3 40 9 ∷ layerRoom 40 9 15 9 ∷ layerRoom 40 9 40 3 ∷ nodeRoom 15 9 ∷ nodeRoom 40 3 ∷ edgeRoom 6 ∷ [] ≡ 3 ∷ 3 ∷ 3 ∷ 3 ∷ 3 ∷ 3 ∷ 3 ∷ []
 unfolding layerRoom nodeRoom edgeRoom
 least-parts = refl
 
+-- the limit of each kind of room is 16,777,216
 room-limits : layerRoom 67108863 16777216 67108868 16777217 ∷ layerRoom 67108868 16777217 67108868 16777217 ∷ nodeRoom 67108868 16777217 ∷ edgeRoom 33554431 ∷ edgeRoom 33554434 ∷ [] ≡ 16777215 ∷ 16777216 ∷ 16777216 ∷ 16777215 ∷ 16777216 ∷ []
 unfolding layerRoom nodeRoom edgeRoom
 room-limits = refl
@@ -58,11 +59,12 @@ given-children : (getEdges (0 ∷ 1 ∷ 0 ∷ 2 ∷ 1 ∷ 3 ∷ 4 ∷ []) 1 0 2 
 unfolding getEdges
 given-children = (refl, refl, refl)
 
--- what `get_edges` leaves in words that held 7: node 0's two children, zeros behind; after refusal 8 zeros
+-- what `get_edges` leaves in words that held 7: node 0's two children, zeros behind
 left : GetsEdges (0 ∷ 1 ∷ 0 ∷ 2 ∷ 1 ∷ 3 ∷ []) 3 0 (7 ∷ 7 ∷ 7 ∷ []) (1 ∷ 2 ∷ 0 ∷ []) (E.Number 2)
 unfolding getEdges mapAnswer valueOr padded
 left = record { answer = refl; words = refl }
 
+-- after refusal 8 zeros
 left-refused : GetsEdges (0 ∷ 1 ∷ 0 ∷ 2 ∷ 1 ∷ 3 ∷ []) 3 0 (7 ∷ []) (0 ∷ []) (E.Refused R.NoRoom)
 unfolding getEdges mapAnswer valueOr padded
 left-refused = record { answer = refl; words = refl }

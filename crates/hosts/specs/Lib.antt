@@ -1,5 +1,5 @@
--- What the exported functions mean for a host. `Theorems` is the page to read; `Examples` computes small inputs and shows that its conditions can be met. The
--- others hold laws.
+-- What the exported functions mean for a host. `Theorems` is the page to read; `Examples` computes small inputs and shows that its conditions can be met, and
+-- `WordExamples` has the words and bytes of a host, place by place. The others hold laws.
 pub mod ReturnLaws
 pub mod RefusedLaws
 pub mod ReadBackLaws

@@ -1,22 +1,30 @@
 -- Examples: what the words and bytes of a host stand for, each at its place, and what is left in lent ones that held 7. Assumes nothing.
-use mathlib.Core.Path.{_≡_, refl}
-use mathlib.Core.List.{List, [], _∷_, _++_, map}
+use mathlib.Core.Path.{_≡_, refl, subst}
+use mathlib.Core.List.{List, [], _∷_, _++_, map, List·Memᴰ·head as here}
 use mathlib.Core.Option.{none, some}
 use Prim.Native.Nat.{ℕ, _+_, _*_, _^_}
-use lib.ListN.{length, replicate, take}
+use lib.Dec.{lit<}
+use lib.ListN.{length, getD, replicate, take}
 use Rattle.cells.specs.declared.Cells.{Cells}
-use Rattle.cells.specs.Set.{wordsBelow}
+use Rattle.cells.specs.Set.{wordsBelow, number}
 use Rattle.cells.specs.Lists.{listOf, padded, wordsFor}
-use Rattle.refusal.specs.Refusal.{refused, given, mapAnswer, refusalOf, valueOr}
+use Rattle.refusal.specs.Refusal.{Answer, refused, given, mapAnswer, refusalOf, valueOr}
+use Rattle.refusal.specs.RefusalLaws.{given-inj, refused-given}
+use Rattle.tile.specs.Path.{Path}
 use Rattle.board.specs.Board.{ofMarks}
+use Rattle.rectangle.specs.Board.{Board, marks, isFull}
+use Rattle.direction.specs.Direction.{step}
+use Rattle.children.specs.Children.{children}
+use Rattle.covers.specs.Counts.{atNode}
+use Rattle.single_tiling.specs.SingleTiling.{IsTiling, numberFound, boardsFound}
 use Rattle.graph.specs.declared.Complete.the-variants as N
 use Rattle.graph.specs.Graph.{edgesFor}
 use Rattle.path_count.specs.PathCounts.{countsFor}
 use Rattle.host_words.specs.Layout.{boardIn, boardWords, resultIn, resultWords, plotShape, unless, AnswersList}
 use Rattle.host_tiles.specs.TileBytes.{tileIn, tilesIn, bytesFor, storedByte, structBytes}
-use Rattle.host_plots.specs.Calls.{orbitShape, fileShape, AnswersPlot}
-use Rattle.host_counts.specs.Calls.{AnswersCount, AnswersGraph}
-use Rattle.host_tilings.specs.Calls.{tilingShape}
+use Rattle.host_plots.specs.Calls.{orbitShape, fileShape, placed, AnswersPlot}
+use Rattle.host_counts.specs.Calls.{counted, generated, AnswersCount, AnswersGraph}
+use Rattle.host_tilings.specs.Calls.{tilingShape, searched, AnswersSingle}
 
 abbrev lent : ℕ → List ℕ
 lent n = replicate n 7
@@ -43,12 +51,14 @@ result-in : resultIn (5 ∷ 6 ∷ 1 ∷ 3 ∷ []) ∷ resultIn (5 ∷ 6 ∷ 0 �
 unfolding resultIn
 result-in = refl
 
+-- the same words, with zeros for no full node
 result-out : (resultWords 5 6 (some 3) ≡ 5 ∷ 6 ∷ 1 ∷ 3 ∷ []) × (resultWords 5 6 none ≡ 5 ∷ 6 ∷ 0 ∷ 0 ∷ [])
 unfolding resultWords
 result-out = (refl, refl)
 
 -- ---- tiles: 33 bytes a tile, its length and 32 codes
 
+-- a length byte, then 32 codes; bytes that are not there are 0
 tile-in : (tileIn (2 ∷ 3 ∷ 1 ∷ []) ≡ record { len = 2; codes = 3 ∷ 1 ∷ replicate 30 0 }) × (tileIn [] ≡ record { len = 0; codes = replicate 32 0 })
 unfolding listOf
 tile-in = (refl, refl)
@@ -58,9 +68,13 @@ abbrev bytes : List ℕ
 bytes = 2 ∷ 3 ∷ 1 ∷ replicate 29 9 ++ 6 ∷ 1 ∷ 5 ∷ replicate 31 0 ++ 4 ∷ []
 
 tiles-in : (tilesIn bytes .count ≡ 2) × (take 4 (tilesIn bytes .lens) ≡ 2 ∷ 1 ∷ 4 ∷ 0 ∷ []) × (take 35 (tilesIn bytes .codes) ≡ 3 ∷ 1 ∷ replicate 29 9 ++ 6 ∷ 5 ∷ 0 ∷ 0 ∷ [])
-    × (length (tilesIn bytes .lens) ≡ 64) × (length (tilesIn bytes .codes) ≡ 2048)
+    × (getD (tilesIn bytes .codes) 64 7 ≡ 0) × (length (tilesIn bytes .lens) ≡ 64) × (length (tilesIn bytes .codes) ≡ 2048)
 unfolding listOf
-tiles-in = (refl, refl, refl, refl, refl)
+tiles-in = (refl, refl, refl, refl, refl, refl)
+
+-- 65 bytes are one tile and no second
+one-tile-in : tilesIn (replicate 65 0) .count ≡ 1
+one-tile-in = refl
 
 -- zeros behind a path and behind the last tile
 tiles-out : bytesFor ((3 ∷ 1 ∷ []) ∷ (5 ∷ []) ∷ []) 68 ≡ 2 ∷ 3 ∷ 1 ∷ replicate 30 0 ++ 1 ∷ 5 ∷ replicate 31 0 ++ 0 ∷ 0 ∷ []
@@ -68,10 +82,16 @@ unfolding bytesFor
 tiles-out = refl
 
 -- the bytes of lengths and codes: of a length the low byte; 0 behind them
-stored-bytes : map (storedByte (258 ∷ 1 ∷ []) (3 ∷ 1 ∷ replicate 29 0 ++ 6 ∷ 5 ∷ [])) (0 ∷ 1 ∷ 2 ∷ 32 ∷ 33 ∷ 34 ∷ 35 ∷ 66 ∷ []) ≡ 2 ∷ 3 ∷ 1 ∷ 6 ∷ 1 ∷ 5 ∷ 0 ∷ 0 ∷ []
+stored-bytes : map (storedByte (258 ∷ 1 ∷ []) (3 ∷ 1 ∷ replicate 29 0 ++ 6 ∷ 5 ∷ replicate 31 0 ++ 4 ∷ [])) (0 ∷ 1 ∷ 2 ∷ 32 ∷ 33 ∷ 34 ∷ 35 ∷ 66 ∷ 67 ∷ 68 ∷ []) ≡ 2 ∷ 3 ∷ 1 ∷ 6 ∷ 1 ∷ 5 ∷ 0 ∷ 0 ∷ 4 ∷ 0 ∷ []
 unfolding storedByte
 stored-bytes = refl
 
+-- the length of tile 32 stands at 32 × 33
+later-byte : storedByte (replicate 32 1 ++ 2 ∷ []) [] 1056 ≡ 2
+unfolding storedByte
+later-byte = refl
+
+-- lengths and codes of a struct, whatever its number of tiles
 struct-bytes : structBytes (record { count = 9; lens = 1 ∷ []; codes = 5 ∷ [] }) 3 ≡ 1 ∷ 5 ∷ 0 ∷ []
 unfolding structBytes
 struct-bytes = refl
@@ -102,23 +122,43 @@ unfolding tilingShape
 tiling-shapes = refl
 
 -- a refusal of a shape is told first
-shapes-first : unless 0 (given 3) ∷ unless 5 (given 3) ∷ unless 0 (refused 6) ∷ unless 5 (refused 6) ∷ [] ≡ given 3 ∷ refused 5 ∷ refused 6 ∷ refused 5 ∷ []
+shapes-first : map (λ (p : ℕ × Answer ℕ). unless (p .0) (p .1)) ((0, given 3) ∷ (5, given 3) ∷ (0, refused 6) ∷ (5, refused 6) ∷ []) ≡ given 3 ∷ refused 5 ∷ refused 6 ∷ refused 5 ∷ []
 unfolding unless
 shapes-first = refl
 
+-- ---- width before height: Right covers 2 by 1, and not 1 by 2
+
+abbrev twoByOne : Board
+twoByOne = record { width = 2; height = 1; fixed = 0; laid = 0 }
+
+abbrev right : List Path
+right = (3 ∷ []) ∷ []
+
+-- the bytes of Right
+abbrev rightBytes : List ℕ
+rightBytes = 1 ∷ 3 ∷ replicate 31 0
+
+-- 4 words hold its child, one board a layer is enough to count it, 12 words hold the boards of one tiling and 11 do not
+wide-board : (placed 2 1 (replicate 8 0) rightBytes 4 1 ≡ given (3 ∷ [])) × (counted 2 1 (replicate 8 0) rightBytes 1 2 ≡ given 1)
+    × (generated 2 1 (replicate 8 0) rightBytes 8 2 2 4 ≡ given (record { nodes = 0 ∷ 3 ∷ []; counts = 1 ∷ 1 ∷ []; edges = (0, 1) ∷ []; complete = some 1 }))
+    × (searched 2 1 (replicate 8 0) rightBytes 12 1 ≡ given (twoByOne, right)) × (searched 2 1 (replicate 8 0) rightBytes 11 1 ≡ refused 8)
+unfolding placed counted generated searched step listOf number
+wide-board = (refl, refl, refl, refl, refl)
+
 -- ---- what is left
 
--- two sets in nine words, their number in two; and zeros after a refusal
+-- two sets in nine words, their number in two
 list-left : AnswersList wordsFor (given (3 ∷ 5 ∷ [])) (lent 9) (lent 2) (3 ∷ 0 ∷ 0 ∷ 0 ∷ 5 ∷ 0 ∷ 0 ∷ 0 ∷ 0 ∷ []) (2 ∷ 0 ∷ []) 0
 unfolding mapAnswer refusalOf valueOr wordsFor padded
 list-left = record { answered = record { number = refl; words = refl }; outLeft = refl }
 
+-- zeros after a refusal
 list-refused : AnswersList wordsFor (refused 8) (lent 3) (lent 2) (0 ∷ 0 ∷ 0 ∷ []) (0 ∷ 0 ∷ []) 8
 unfolding mapAnswer refusalOf valueOr wordsFor padded
 list-refused = record { answered = record { number = refl; words = refl }; outLeft = refl }
 
--- a count in two words, low and high; the lent layers are zero
-count-left : AnswersCount (given (2 ^ 64 - 1)) (lent 1) (lent 2) (lent 3) (lent 4) (lent 3) (0 ∷ []) (0 ∷ 0 ∷ []) (0 ∷ 0 ∷ 0 ∷ []) (0 ∷ 0 ∷ 0 ∷ 0 ∷ []) (18446744073709551615 ∷ 0 ∷ 0 ∷ []) 0
+-- two words of a number, low and high, and no more; the lent layers are zero
+count-left : AnswersCount (given (2 ^ 128 + 3 * 2 ^ 64 + 5)) (lent 1) (lent 2) (lent 3) (lent 4) (lent 3) (0 ∷ []) (0 ∷ 0 ∷ []) (0 ∷ 0 ∷ 0 ∷ []) (0 ∷ 0 ∷ 0 ∷ 0 ∷ []) (5 ∷ 3 ∷ 0 ∷ []) 0
 unfolding mapAnswer refusalOf valueOr wordsBelow padded
 count-left = record { answered = record { number = refl; words = refl }; zeroBoardsA = refl; zeroCountsA = refl; zeroBoardsB = refl; zeroCountsB = refl }
 
@@ -128,6 +168,7 @@ graph-left : AnswersGraph (given (record { nodes = 0 ∷ 1 ∷ 3 ∷ []; counts 
 unfolding mapAnswer refusalOf valueOr wordsFor countsFor edgesFor resultWords padded
 graph-left = record { answered = record { number = refl; words = refl }; nodesLeft = refl; countsLeft = refl; edgesLeft = refl }
 
+-- zeros after a refusal
 graph-refused : AnswersGraph (refused 10) (lent 2) (lent 1) (lent 3) (lent 4) (0 ∷ 0 ∷ []) (0 ∷ []) (0 ∷ 0 ∷ 0 ∷ []) (0 ∷ 0 ∷ 0 ∷ 0 ∷ []) 10
 unfolding mapAnswer refusalOf valueOr wordsFor countsFor edgesFor resultWords padded
 graph-refused = record { answered = record { number = refl; words = refl }; nodesLeft = refl; countsLeft = refl; edgesLeft = refl }
@@ -142,3 +183,23 @@ plot-left = record { answered = record { number = refl; words = refl }; boardLef
 plot-refused : AnswersPlot (refused 3) (lent 10) (lent 3) (lent 1) (replicate 10 0) (0 ∷ 0 ∷ 0 ∷ []) (0 ∷ []) 3
 unfolding mapAnswer refusalOf valueOr boardWords bytesFor padded
 plot-refused = record { answered = record { number = refl; words = refl }; boardLeft = refl; tilesLeft = refl }
+
+-- 2 by 1 has the tiling of one piece
+two-tiling : IsTiling twoByOne right (0 ∷ 3 ∷ [])
+unfolding children isFull marks step
+two-tiling = record { last = 3; sequence = (refl, (here refl, refl)); full = refl; pieces = lit< tt }
+
+-- its boards in nine words, their number in two
+single-left : AnswersSingle (given (twoByOne, right)) (lent 9) (lent 2) (0 ∷ 0 ∷ 0 ∷ 0 ∷ 3 ∷ 0 ∷ 0 ∷ 0 ∷ 0 ∷ []) (2 ∷ 0 ∷ []) 0
+unfolding mapAnswer refusalOf valueOr numberFound boardsFound atNode wordsFor padded
+single-left = record {
+  found = some (0 ∷ 3 ∷ []);
+  tiling = λ p e. subst (λ (q : Board × List Path). IsTiling (q .0) (q .1) (0 ∷ 3 ∷ [])) (given-inj (twoByOne, right) p e) two-tiling;
+  answered = record { number = refl; words = refl };
+  outLeft = refl;
+}
+
+-- zeros after a refusal
+single-refused : AnswersSingle (refused 8) (lent 3) (lent 2) (0 ∷ 0 ∷ 0 ∷ []) (0 ∷ 0 ∷ []) 8
+unfolding mapAnswer refusalOf valueOr wordsFor padded
+single-refused = record { found = none; tiling = λ p e. absurd (refused-given 8 p e); answered = record { number = refl; words = refl }; outLeft = refl }

@@ -16,7 +16,7 @@ use Rattle.path_count.specs.PathCounts.{countValue, countsFor}
 use Rattle.graph.specs.declared.Complete.the-variants as N
 use Rattle.graph.specs.Graph.{layerRoom, nodeRoom, edgeRoom, edgesFor}
 use Rattle.layers.specs.declared.Count.the-variants as C
-use Rattle.layers.specs.LayerCounts.{CountsTilings}
+use Rattle.layers.specs.LayerCounts.{countAnswer, CountsTilings}
 use Rattle.tiler.specs.Graphs.{Graph, judgeGraph, graphFor, generateGraph, pathCountAt, countOfGraph, nodeListOf, Makes, GeneratesGraph}
 use Rattle.known_plots.specs.KnownPlots.{D as dominoes}
 use Rattle.known_plots.specs.Examples.{rectangle, twoByTwo, two-by-two-plot, two-by-two-graph, two-by-two-counted}
@@ -30,6 +30,10 @@ lent n = replicate n 7
 counted : CountsTilings (rectangle 2 2) (tilesOf dominoes) (lent 8) (lent 3) (lent 9) (lent 2) (replicate 8 0) (replicate 3 0) (replicate 9 0) (replicate 2 0) (C.Number (record { word = 2 }))
 unfolding layerRoom countValue
 counted = record { answer = sym two-by-two-counted; zeroBoardsA = refl; zeroCountsA = refl; zeroBoardsB = refl; zeroCountsB = refl }
+
+-- a refused count has its number
+count-refused : countAnswer (C.Refused R.CountTooLarge) ≡ refused 9
+count-refused = refl
 
 -- ---- `generate_graph`
 
@@ -54,10 +58,11 @@ made-refused : Makes (refused 10) 3 2 1 (0 ∷ 0 ∷ 0 ∷ []) (0 ∷ 0 ∷ []) 
 unfolding refusalOf valueOr wordsFor countsFor edgesFor padded
 made-refused = record { verdict = refl; nodeNumber = refl; edgeNumber = refl; complete = refl; nodes = refl; counts = refl; edges = refl }
 
--- a graph of three nodes, two counts and one edge: each stands in its own words and is told by its own number
+-- a graph of three nodes, two counts and one edge
 abbrev small : Graph
 small = record { nodes = 0 ∷ 1 ∷ 3 ∷ []; counts = 1 ∷ 7 ∷ []; edges = (0, 1) ∷ []; complete = some 1 }
 
+-- each stands in its own words and is told by its own number
 made-small : Makes (given small) 13 4 3 (0 ∷ 0 ∷ 0 ∷ 0 ∷ 1 ∷ 0 ∷ 0 ∷ 0 ∷ 3 ∷ 0 ∷ 0 ∷ 0 ∷ 0 ∷ []) (1 ∷ 7 ∷ 0 ∷ 0 ∷ []) (0 ∷ 1 ∷ 0 ∷ [])
     (record { verdict = Verdicts.Accepted; graph = record { nodes = 3; edges = 1; complete = N.Node 1 } })
 unfolding refusalOf valueOr wordsFor countsFor edgesFor padded

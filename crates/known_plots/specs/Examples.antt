@@ -130,6 +130,15 @@ earliest-layer : judgeLayers twoLayers 1 1 ≡ refused 9
 unfolding judgeLayers twoLayers
 earliest-layer = refl
 
+-- each layer is judged, the last too: layer 0 has one board, layer 1 two
+unfoldable oneThenTwo : ℕ → List (Entry ℕ)
+oneThenTwo zero = (0, 1) ∷ []
+oneThenTwo (suc n) = (1, 1) ∷ (2, 1) ∷ []
+
+last-layer : judgeLayers oneThenTwo 1 0 ∷ judgeLayers oneThenTwo 1 1 ∷ judgeLayers oneThenTwo 2 1 ∷ [] ≡ given ((0, 1) ∷ []) ∷ refused 8 ∷ given ((1, 1) ∷ (2, 1) ∷ []) ∷ []
+unfolding judgeLayers oneThenTwo
+last-layer = refl
+
 edges-before-counts : judgeGraph 2 0 (record { nodes = 0 ∷ 1 ∷ []; counts = 1 ∷ 2 ^ 64 ∷ []; edges = (0, 1) ∷ []; complete = none }) ≡ refused 10
 unfolding judgeGraph
 edges-before-counts = refl

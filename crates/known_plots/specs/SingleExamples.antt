@@ -12,6 +12,7 @@ use Rattle.cells.specs.ListLaws.{setsIn}
 use Rattle.cells.specs.Lists.{wordsFor}
 use Rattle.cells.specs.Set.{number}
 use Rattle.refusal.specs.Refusal.{Answer, refused, given, mapAnswer, bindAnswer, valueOr}
+use Rattle.refusal.specs.declared.Refusal.the-variants as R
 use Rattle.refusal.specs.RefusalLaws.{given-inj}
 use Rattle.direction.specs.Direction.{step}
 use Rattle.tiles.specs.declared.Tiles.{Tiles}
@@ -100,6 +101,15 @@ no-room = rw right-read
 two-read : readSearch (rectangle 2 1) (tilesOf right) 3 ≡ given (board 2 1 0 0, right)
 unfolding readSearch readBoard bindAnswer freeCount number
 two-read = rw right-read
+
+-- what the answers of the code stand for
+answers : singleAnswer (S.Boards 2) ∷ singleAnswer S.Nothing ∷ singleAnswer (S.Refused R.BadTile) ∷ [] ≡ given (some 2) ∷ given none ∷ refused 5 ∷ []
+answers = refl
+
+-- what was found, and how many boards: nothing, and three
+found : (boardsFound none ≡ []) × (numberFound none ≡ none) × (boardsFound (some (0 ∷ 3 ∷ 7 ∷ [])) ≡ 0 ∷ 3 ∷ 7 ∷ []) × (numberFound (some (0 ∷ 3 ∷ 7 ∷ [])) ≡ some 3)
+unfolding boardsFound numberFound
+found = (refl, refl, refl, refl)
 
 -- ---- the conditions of the theorems can be met: the 2 by 1 board and Right, with room for three boards
 

@@ -48,11 +48,12 @@ no-full-node : tilingByNumber (record { nodes = 4; edges = 4; complete = N.Nothi
 unfolding tilingByNumber
 no-full-node = refl
 
--- what `tiling_by_number` leaves in words that held 7: the list, zeros behind; after refusal 8 zeros. The node words are 16, whatever they hold
+-- what `tiling_by_number` leaves in words that held 7: the list, zeros behind. The node words are 16, whatever they hold
 left : GivesTiling result (replicate 16 9) resultCounts resultEdges 1 (7 ∷ 7 ∷ 7 ∷ 7 ∷ []) (0 ∷ 2 ∷ 3 ∷ 0 ∷ []) (T.Length 3)
 unfolding tilingByNumber mapAnswer valueOr padded
 left = record { answer = refl; words = refl }
 
+-- after refusal 8 zeros
 left-refused : GivesTiling result (replicate 16 9) resultCounts resultEdges 1 (7 ∷ 7 ∷ []) (0 ∷ 0 ∷ []) (T.Refused R.NoRoom)
 unfolding tilingByNumber mapAnswer valueOr padded
 left-refused = record { answer = refl; words = refl }

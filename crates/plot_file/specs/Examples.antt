@@ -109,15 +109,18 @@ byte-after-end : plotIn (behind (ascii "EN" ++ 0 ∷ [])) ≡ refused 3
 unfolding plotIn
 byte-after-end = refl
 
--- ---- the answer of the code: board and tiles; "A refusal hands back a 0 by 0 board and no tiles"
+-- ---- the answer of the code
 
+-- no marks
 abbrev none : Cells
 none = record { w0 = 0; w1 = 0; w2 = 0; w3 = 0 }
 
+-- board and tiles, and no refusal
 read : ReadsPlot (plotIn (behind (ascii "TI" ++ 0 ∷ ascii "EN"))) (record { verdict = Verdicts.Accepted; board = ofMarks 1 1 none none; tiles = tilesOf ([] ∷ []) })
 unfolding plotIn refusalOf valueOr number
 read = record { verdict = refl; board = refl; tiles = refl }
 
+-- "A refusal hands back a 0 by 0 board and no tiles"
 read-refused : ReadsPlot (plotIn (behind (ascii "EN" ++ 0 ∷ []))) (record { verdict = Verdicts.Refused R.Misplaced; board = ofMarks 0 0 none none; tiles = tilesOf [] })
 unfolding plotIn refusalOf valueOr number
 read-refused = record { verdict = refl; board = refl; tiles = refl }

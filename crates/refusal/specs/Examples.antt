@@ -18,20 +18,22 @@ numbers = refl
 verdicts : (verdictNumber Verdicts.Accepted ≡ 0) × (verdictNumber (Verdicts.Refused R.BadGraph) ≡ 11)
 verdicts = (refl, refl)
 
--- the number of an answer and its value
+-- the number of an answer, 0 for a value
 answers : map (refusalOf {A = ℕ}) (refused 4 ∷ given 7 ∷ []) ≡ 4 ∷ 0 ∷ []
 unfolding refusalOf
 answers = refl
 
+-- the value of an answer, another for a refusal
 values : map (valueOr {A = ℕ} 9) (refused 4 ∷ given 7 ∷ []) ≡ 9 ∷ 7 ∷ []
 unfolding valueOr
 values = refl
 
--- a refusal stays; a value is put through, or answered to
+-- a refusal stays, a value is put through
 mapped : map (mapAnswer (λ n. n + 1)) (refused 4 ∷ given 7 ∷ []) ≡ refused 4 ∷ given 8 ∷ []
 unfolding mapAnswer
 mapped = refl
 
+-- a refusal stays, a value is answered to
 bound : map (λ (a : Answer ℕ). bindAnswer a (λ n. cond (leb n 7) (given (n + 1)) (refused 6))) (refused 4 ∷ given 7 ∷ given 8 ∷ []) ≡ refused 4 ∷ given 8 ∷ refused 6 ∷ []
 unfolding bindAnswer
 bound = refl

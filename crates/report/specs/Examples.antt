@@ -75,12 +75,14 @@ rooms : (plot : Plot) → (plotLayers plot ≡ withEqualTiles plot (layerCountFo
 unfolding plotLayers plotGraph
 rooms plot = (refl, refl)
 
--- ---- what `write_report` leaves in bytes that held 7: the text, zeros behind; as much as there is room for
+-- ---- what `write_report` leaves in bytes that held 7
 
+-- the text, zeros behind
 left : WritesReport [] (replicate 12 7) (ascii "refused 1\n" ++ 0 ∷ 0 ∷ []) 10
 unfolding report ascii padded
 left = record { bytes = refl; number = refl }
 
+-- as much as there is room for
 left-cut : WritesReport [] (replicate 3 7) (ascii "ref") 3
 unfolding report ascii padded
 left-cut = record { bytes = refl; number = refl }

@@ -1,8 +1,9 @@
 -- Examples of the definitions, by computation. Codes: 0 Up, 1 Down, 2 Left, 3 Right, 4 UpLeft, 5 UpRight, 6 DownRight, 7 DownLeft.
 use mathlib.Core.Path.{_≡_, refl}
 use mathlib.Core.Bool.{true, false}
-use mathlib.Core.List.{[], _∷_}
-use Prim.Native.Nat.{ℕ}
+use mathlib.Core.List.{[], _∷_, map}
+use Prim.Native.Nat.{ℕ, _≤_}
+use native.Mathlib.Omega.{arith}
 use lib.IntN.{pos, negsuc}
 use lib.ListN.{length, replicate}
 use Rattle.direction.specs.declared.Axis.the-variants as A
@@ -17,6 +18,12 @@ use Rattle.tile.specs.Path.{Path, isPath, points, cells, cellCount, isSi
 use Rattle.tile.specs.EdgeTest.{edgeJoined, edgeJoined-iff}
 
 -- ---- directions
+
+-- Up, Down, Left, Right, UpLeft, UpRight, DownRight, DownLeft: row step and column step
+eight-steps : map step (0 ∷ 1 ∷ 2 ∷ 3 ∷ 4 ∷ 5 ∷ 6 ∷ 7 ∷ [])
+    ≡ at (negsuc 0) (pos 0) ∷ at (pos 1) (pos 0) ∷ at (pos 0) (negsuc 0) ∷ at (pos 0) (pos 1) ∷ at (negsuc 0) (negsuc 0) ∷ at (negsuc 0) (pos 1) ∷ at (pos 1) (pos 1) ∷ at (pos 1) (negsuc 0) ∷ []
+unfolding step
+eight-steps = refl
 
 up-left : step 4 ≡ at (negsuc 0) (negsuc 0)
 unfolding step
@@ -135,6 +142,11 @@ t-joined : EdgeJoined (tPath 1)
 unfolding edgeJoined cellCount tPath step
 t-joined = edgeJoined-iff (tPath 1) .0 refl
 
+-- a single tile is, since it has no second cell
+single-joined : EdgeJoined []
+unfolding cellCount
+single-joined h p m = let few : 2 ≤ 1 = h in absurd (omega (arith, few))
+
 diagonal-not-joined : edgeJoined (4 ∷ []) ≡ false
 unfolding edgeJoined cellCount step
 diagonal-not-joined = refl
@@ -149,11 +161,12 @@ stored-nine : readTile (tileOf (9 ∷ [])) ≡ refused 5
 unfolding readTile tileOf
 stored-nine = refl
 
--- 32 codes are stored, zeros behind the path; and 32 are read
+-- 32 codes are stored, zeros behind the path
 stored-codes : tileOf (3 ∷ 7 ∷ []) ≡ record { len = 2; codes = 3 ∷ 7 ∷ replicate 30 0 }
 unfolding tileOf
 stored-codes = refl
 
+-- 32 codes are read
 longest-read : readTile (record { len = 32; codes = replicate 32 7 }) ≡ given (replicate 32 7)
 unfolding readTile
 longest-read = refl
@@ -165,15 +178,17 @@ length-over = refl
 
 -- ---- the answers of the code
 
--- a tile that is made; and the empty path with the refusal's number
+-- a tile that is made
 made : MakesTile (lTile 2) (record { verdict = Verdicts.Accepted; tile = tileOf (2 ∷ 0 ∷ []) })
 unfolding lTile refusalOf valueOr
 made = record { verdict = refl; tile = refl }
 
+-- the empty path, and the refusal's number
 made-refused : MakesTile (lTile 0) (record { verdict = Verdicts.Refused R.BadTile; tile = record { len = 0; codes = replicate 32 0 } })
 unfolding lTile refusalOf valueOr tileOf
 made-refused = record { verdict = refl; tile = refl }
 
+-- an offset, a code or a number, or the refusal's number
 answers : (offsetAnswer (O.By (pos 1) (negsuc 0)) ≡ given (at (pos 1) (negsuc 0))) × (offsetAnswer (O.Refused R.BadTile) ≡ refused 5) × (codeAnswer (Codes.Is 3) ≡ given 3) × (codeAnswer (Codes.Refused R.BadTile) ≡ refused 5)
     × (cellCountAnswer (C.Is 3) ≡ given 3) × (cellCountAnswer (C.Refused R.BadTile) ≡ refused 5)
 answers = (refl, refl, refl, refl, refl, refl)

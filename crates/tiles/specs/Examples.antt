@@ -131,11 +131,12 @@ second-told = (refl, refl)
 
 -- ---- the answers of the code
 
--- "Refusal 5 gives no tiles", and neither does a 65th tile
+-- "Refusal 5 gives no tiles"
 made-refused : MakesTiles (refused 5) (record { verdict = Verdicts.Refused R.BadTile; tiles = tilesOf [] })
 unfolding refusalOf valueOr
 made-refused = record { verdict = refl; tiles = refl }
 
+-- neither does a 65th tile
 added-refused : AddsTile (record { count = 64; lens = []; codes = [] }) (tileOf []) (record { verdict = Verdicts.Refused R.TooManyTiles; tiles = tilesOf [] })
 unfolding withTile refusalOf valueOr
 added-refused = record { verdict = refl; tiles = refl }
