@@ -1,9 +1,11 @@
--- Definitions: lists given by their elements, and with zeros behind; first appearances kept; lists of sets in lent words, four words a set (01: "A board in
+-- Definitions: lists given by their elements, and with zeros behind; the bytes of a text; first appearances kept; lists of sets in lent words, four words a set (01: "A board in
 -- an output, layer or node is four words"). 01 asks for first appearances of an orbit's tiles, of a board's pieces ("the first of equal pieces is kept") and
 -- of the boards of a layer ("distinct children"). Assumes nothing.
 use mathlib.Core.Bool.{Bool, true, _&&_, false, _||_, cond}
 use mathlib.Core.List.{List, [], _∷_, _++_, flatMap}
 use Prim.Native.Nat.{ℕ, zero, suc, _+_, _*_, _/_}
+use Prim.Native.Char.{code}
+use Prim.Native.String.{String, [] as []ˢ, _∷_ as _∷ˢ_}
 use lib.ListN.{getD, length}
 use lib.Dec.{ltb}
 use Rattle.cells.specs.Set.{value, wordsOf}
@@ -22,6 +24,11 @@ listOf f n = listFrom f 0 n
 unfoldable pub padded : List ℕ → ℕ → List ℕ
 unfolding listOf
 padded ns count = listOf (λ k. getD ns k 0) count
+
+-- the bytes of a text of ASCII characters
+unfoldable pub ascii : String → List ℕ
+ascii []ˢ = []
+ascii (c ∷ˢ text) = code c ∷ ascii text
 
 -- p holds of every number below n
 unfoldable pub allBelow : (ℕ → Bool) → ℕ → Bool

@@ -1,7 +1,7 @@
 // The calls of the lower crates for hosts in C or Rust. A slice is a pointer and a length; the host
 // lends every word. Each function returns 0 or the number of the refusal, and nothing is asked of a
 // caller but what a slice is (include/cuttings.h). Each is the call of the same name of `host_plots`,
-// `host_counts` or `host_tilings`, with its contract; what it returns and leaves in the lent words is a
+// `host_counts`, `host_tilings` or `host_records`, with its contract; what it returns and leaves in the lent words is a
 // definition of that crate's specs/Calls.antt.
 //
 // A board is width, height and 8 words of marks, fixed then laid; tiles are 33 bytes each, a length
@@ -9,13 +9,16 @@
 // bytes that are not a multiple of 33, or a tile that is not 33; 11, a result that is not four words or
 // whose third word is neither 0 nor 1; 12, a number that is not two words; 8, an answer or an output
 // of fixed size that is too short.
-// After any refusal every lent word and byte is zero.
+// After any refusal every lent word and byte is zero, but that with 13 the first answer word is the place
+// of the earliest broken record.
 ghost use lib.ListN.{length};
 ghost use Rattle.graph.specs.Graph.{layerRoom};
 ghost use Rattle.host_plots.specs.Calls.{placed, orbitFor, readFile, AnswersPlot};
 ghost use Rattle.host_counts.specs.Calls.{counted, AnswersCount, generated, AnswersGraph};
 ghost use Rattle.host_tilings.specs.Calls.{searched, AnswersSingle, numbered};
 ghost use Rattle.host_words.specs.Layout.{AnswersList};
+ghost use Rattle.archive.specs.Archive.{LeavesOutcome};
+ghost use Rattle.host_records.specs.Calls.{recordWritten, recordsCounted, recordFound, currentFound};
 ghost use Rattle.host_tiles.specs.TileBytes.{bytesFor};
 ghost use Rattle.cells.specs.Lists.{padded, wordsFor};
 
@@ -150,4 +153,44 @@ pub extern "C" fn cuttings_read_plot(
         (now (board .entry)) (now (tiles .entry)) (now (answer .entry)) (now (board .exit)) (now (tiles .exit)) (now (answer .exit)) r ⌝ }
 {
     host_plots::read_plot(file, board, tiles, answer)
+}
+
+// One record of an archive file: its 24 bytes, zeros behind.
+#[no_mangle]
+pub extern "C" fn cuttings_write_record(
+    id: u16,
+    year: u16,
+    revision: u16,
+    low: u64,
+    high: u64,
+    out: &mut [u8],
+) -> u64
+    ensures { λ r. ⌜ LeavesOutcome (recordWritten id year revision low high (length (now (out .entry)))) (now (out .entry)) (now (out .exit)) r ⌝ }
+{
+    host_records::write_record(id, year, revision, low, high, out)
+}
+
+// Answer: the number of records of an archive file.
+#[no_mangle]
+pub extern "C" fn cuttings_count_records(file: &[u8], answer: &mut [u64]) -> u64
+    ensures { λ r. ⌜ LeavesOutcome (recordsCounted (now (file .entry)) (length (now (answer .entry)))) (now (answer .entry)) (now (answer .exit)) r ⌝ }
+{
+    host_records::count_records(file, answer)
+}
+
+// The record at a place of an archive file, counted from 0. Answer: id, year, revision, and the
+// count's low word and high word.
+#[no_mangle]
+pub extern "C" fn cuttings_record_at(file: &[u8], place: u64, answer: &mut [u64]) -> u64
+    ensures { λ r. ⌜ LeavesOutcome (recordFound (now (file .entry)) place (length (now (answer .entry)))) (now (answer .entry)) (now (answer .exit)) r ⌝ }
+{
+    host_records::record_at(file, place, answer)
+}
+
+// The record of a plot id that counts. Answer: the same five words.
+#[no_mangle]
+pub extern "C" fn cuttings_current_record(file: &[u8], id: u16, answer: &mut [u64]) -> u64
+    ensures { λ r. ⌜ LeavesOutcome (currentFound (now (file .entry)) id (length (now (answer .entry)))) (now (answer .entry)) (now (answer .exit)) r ⌝ }
+{
+    host_records::current_record(file, id, answer)
 }

@@ -11,7 +11,8 @@ use Rattle.cells.specs.Set.{number}
 use Rattle.board.specs.Board.{ofMarks}
 use Rattle.direction.specs.Direction.{rotate, reflect}
 use Rattle.tiles.specs.Paths.{orbit, tilesOf}
-use Rattle.plot_file.specs.PlotFile.{ascii, plotIn, ReadsPlot}
+use Rattle.cells.specs.Lists.{ascii}
+use Rattle.plot_file.specs.PlotFile.{plotIn, ReadsPlot}
 
 -- 01's example, "hexadecimal 52 42 02 02 4F 52 01 03 45 4E": the 2 by 2 board and the four tiles of the orbit of Right
 worked : plotIn (0x52 ∷ 0x42 ∷ 0x02 ∷ 0x02 ∷ 0x4F ∷ 0x52 ∷ 0x01 ∷ 0x03 ∷ 0x45 ∷ 0x4E ∷ [])

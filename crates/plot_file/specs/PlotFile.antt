@@ -2,12 +2,11 @@
 -- refusals of a record are tried in the order written there: mark, place, body, board or tile. Assumes nothing.
 use mathlib.Core.List.{List, [], _∷_, _++_}
 use Prim.Native.Nat.{ℕ, zero, suc}
-use Prim.Native.Char.{code}
-use Prim.Native.String.{String, [] as []ˢ, _∷_ as _∷ˢ_}
 use mathlib.Core.Path.{_≡_}
 use mathlib.Core.Bool.{Bool, cond, _&&_}
 use lib.Dec.{eqb, leb}
 use lib.ListN.{length, getD, take, drop}
+use Rattle.cells.specs.Lists.{ascii}
 use Rattle.refusal.specs.Refusal.{Answer, refused, given, mapAnswer, bindAnswer, refusalOf, valueOr, verdictNumber}
 use Rattle.tile.specs.Path.{Path, readPath}
 use Rattle.tiles.specs.Paths.{orbit, tilesOf}
@@ -16,11 +15,6 @@ use Rattle.board.specs.Board.{boardOf, newBoard, lBoard, tBoard}
 use Rattle.plot_file.specs.declared.marks.Mark.{Mark}
 use Rattle.plot_file.specs.declared.marks.Mark.the-variants.{RB, LB, TB, TI, OR, EN}
 use Rattle.plot_file.specs.declared.MadePlot.{MadePlot}
-
--- the bytes of a text of ASCII characters
-unfoldable pub ascii : String → List ℕ
-ascii []ˢ = []
-ascii (c ∷ˢ text) = code c ∷ ascii text
 
 -- what a file holds: "board and tiles"
 pub record Plot : Type 0 where

@@ -11,7 +11,8 @@ use Rattle.tile.specs.Path.{Path, codesOk}
 use Rattle.tiles.specs.Paths.{orbit}
 use Rattle.rectangle.specs.Board.{Board}
 use Rattle.board.specs.Board.{newBoard, lBoard, tBoard}
-use Rattle.plot_file.specs.PlotFile.{ascii, Plot}
+use Rattle.cells.specs.Lists.{ascii}
+use Rattle.plot_file.specs.PlotFile.{Plot}
 
 -- "One board record (RB, LB, TB) stands first", of two bytes
 pub data BoardRecord : Type 0 where

@@ -1,5 +1,5 @@
--- Definitions: the refusals by 01's numbers, an answer that is a refusal or a value, and what is left in lent words for one. Every call's answer is read by one of these, so that
--- the contracts speak of 01's numbers and not of the code's names for them. Assumes nothing.
+-- Definitions: the refusals by their numbers, an answer that is a refusal or a value, and what is left in lent words for one. Every call's answer is read by one of these, so that
+-- the contracts speak of the documents' numbers and not of the code's names for them. Assumes nothing.
 use mathlib.Core.Path.{_≡_}
 use mathlib.Core.List.{List, []}
 use Prim.Native.Nat.{ℕ}
@@ -9,7 +9,7 @@ use Rattle.refusal.specs.declared.Refusal.the-variants as R
 use Rattle.refusal.specs.declared.Verdict.{Verdict}
 use Rattle.refusal.specs.declared.Verdict.the-variants as Verdicts
 
--- 01's number of each refusal
+-- the number of each refusal: 1 to 12 are 01's, 13 and 14 those of request 1 of 02
 abbrev pub refusalNumber : Refusal → ℕ
 refusalNumber R.Cut = 1
 refusalNumber R.UnknownMark = 2
@@ -23,8 +23,10 @@ refusalNumber R.CountTooLarge = 9
 refusalNumber R.NoRoomForEdges = 10
 refusalNumber R.BadGraph = 11
 refusalNumber R.NoSuchTiling = 12
+refusalNumber R.BrokenRecord = 13
+refusalNumber R.NoSuchRecord = 14
 
--- what a call answers: refused, with 01's number, or a value
+-- what a call answers: refused, with the refusal's number, or a value
 pub data Answer (A : Type 0) : Type 0 where
   refused : ℕ → Answer A
   given : A → Answer A

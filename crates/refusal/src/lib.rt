@@ -1,10 +1,11 @@
-// The refusals of all crates, by cause. `number` gives the number that document 01 gives each.
+// The refusals of all crates, by cause. `number` gives the number that document 01, or the request
+// that brought the refusal, gives each.
 ghost use mathlib.Core.Path.{_≡_};
 ghost use Rattle.refusal.specs.Refusal.{refusalNumber};
 
 // A plot file: Cut, UnknownMark, Misplaced. Input: BadBoard, BadTile, TooManyTiles, UnequalTiles.
 // Lent words: NoRoom, NoRoomForEdges. A path count past its limit: CountTooLarge. The tiling by
-// number: BadGraph, NoSuchTiling.
+// number: BadGraph, NoSuchTiling. An archive file: BrokenRecord, NoSuchRecord.
 pub enum Refusal {
     Cut,
     UnknownMark,
@@ -18,6 +19,8 @@ pub enum Refusal {
     NoRoomForEdges,
     BadGraph,
     NoSuchTiling,
+    BrokenRecord,
+    NoSuchRecord,
 }
 
 // What a test of some input answers.
@@ -43,6 +46,8 @@ impl Refusal {
             Refusal::NoRoomForEdges => 10,
             Refusal::BadGraph => 11,
             Refusal::NoSuchTiling => 12,
+            Refusal::BrokenRecord => 13,
+            Refusal::NoSuchRecord => 14,
         }
     }
 }

@@ -4,9 +4,9 @@ use mathlib.Core.List.{[], _∷_, _++_, map}
 use mathlib.Core.Option.{some}
 use Prim.Native.Nat.{ℕ}
 use lib.ListN.{replicate}
-use Rattle.cells.specs.Lists.{padded}
+use Rattle.cells.specs.Lists.{padded, ascii}
 use Rattle.direction.specs.Direction.{step, rotate, reflect}
-use Rattle.plot_file.specs.PlotFile.{ascii, Plot}
+use Rattle.plot_file.specs.PlotFile.{Plot}
 use Rattle.layers.specs.LayerCounts.{layerCountFor}
 use Rattle.tiler.specs.Graphs.{Graph, graphFor}
 use Rattle.report.specs.Report.{withEqualTiles, plotLayers, plotGraph, listed, digits, decimal, graphLine, report, WritesReport}

@@ -8,7 +8,7 @@ use native.Mathlib.Nat.{lt-of-lt-of-le, le-trans}
 use native.Mathlib.Omega.{arith}
 use lib.Dec.{lit≤}
 use lib.ListN.{length, length-append}
-use Rattle.cells.specs.Lists.{listOf}
+use Rattle.cells.specs.Lists.{listOf, ascii}
 use Rattle.cells.specs.ArrayLaws.{length-listOf}
 use Rattle.cells.specs.MemberLaws.{mem-listOf}
 use Rattle.refusal.specs.Refusal.{Answer, refused, given}
@@ -17,7 +17,7 @@ use Rattle.rectangle.specs.FreeLaws.{free-le}
 use Rattle.rectangle.specs.BoardLaws.{valid-width, valid-height}
 use Rattle.tiler.specs.Graphs.{Graph, countOfGraph, nodeListOf}
 use Rattle.tiler.specs.NumberLaws.{graph-count-small, list-below}
-use Rattle.plot_file.specs.PlotFile.{ascii, Plot}
+use Rattle.plot_file.specs.PlotFile.{Plot}
 use Rattle.report.specs.Report.{plotLayers, plotGraph, listed, decimal, field, feed, refusedLine, boardLine, tilesLine, layersLine, graphLine, tilingLine, graphLines, plotLines}
 use Rattle.report.specs.DecimalLaws.{decimal-length}
 use Rattle.report.specs.CountLaws.{layers-refusals, graph-refusals}

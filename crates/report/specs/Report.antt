@@ -7,14 +7,14 @@ use Prim.Native.Nat.{ℕ, zero, suc, _+_, _/_, _%_, min}
 use Prim.Native.String.{String}
 use lib.Dec.{ltb}
 use lib.ListN.{length}
-use Rattle.cells.specs.Lists.{listOf, padded}
+use Rattle.cells.specs.Lists.{listOf, padded, ascii}
 use Rattle.refusal.specs.Refusal.{Answer, refused, given}
 use Rattle.tiles.specs.Paths.{equalCounts}
 use Rattle.rectangle.specs.Board.{freeCount}
 use Rattle.graph.specs.Graph.{plotBoards, plotNodes, plotEdges}
 use Rattle.layers.specs.LayerCounts.{layerCountFor}
 use Rattle.tiler.specs.Graphs.{Graph, countOfGraph, graphFor, nodeListOf}
-use Rattle.plot_file.specs.PlotFile.{ascii, Plot, plotIn}
+use Rattle.plot_file.specs.PlotFile.{Plot, plotIn}
 
 -- ---- what is counted
 

@@ -7,7 +7,7 @@ use refusal::Refusal;
 ghost use mathlib.Core.List.{_++_, flatMap};
 ghost use Prim.Native.Nat.{_≤_};
 ghost use lib.ListN.{length};
-ghost use Rattle.plot_file.specs.PlotFile.{ascii};
+ghost use Rattle.cells.specs.Lists.{ascii};
 ghost use Rattle.refusal.specs.Refusal.{refusalNumber};
 ghost use Rattle.path_count.specs.PathCounts.{countValue};
 ghost use Rattle.layers.specs.LayerCounts.{countAnswer};

@@ -2,7 +2,7 @@
 use mathlib.Core.Path.{refl, ap}
 use mathlib.Core.List.{List, _++_, flatMap}
 use Prim.Native.Nat.{ℕ}
-use Rattle.plot_file.specs.PlotFile.{ascii}
+use Rattle.cells.specs.Lists.{ascii}
 use Rattle.report.specs.Report.{field, feed, tilingLine}
 use Rattle.report.specs.TextLaws.{puts-within, puts-as}
 use Rattle.path_count.specs.PathCounts.{countValue}

@@ -5,7 +5,8 @@ use Prim.Native.Nat.{ℕ}
 use lib.ListN.{drop}
 use Rattle.refusal.specs.Refusal.{Answer}
 use Rattle.plot_file.specs.declared.marks.Mark.{Mark}
-use Rattle.plot_file.specs.PlotFile.{ascii, allMarks, letters, spells, markAmong}
+use Rattle.cells.specs.Lists.{ascii}
+use Rattle.plot_file.specs.PlotFile.{allMarks, letters, spells, markAmong}
 use Rattle.plot_file.specs.ReadLaws.{mark-here, mark-later, mark-none}
 use borrow.Author.Needs.{needs}
 use Rattle.plot_file.proofs.marks.mark_of.Statement.{statement}

@@ -1,5 +1,5 @@
 -- `report::lines::put_board` meets its contract: two fields, and a third that ends the line. Assumes nothing.
-use Rattle.plot_file.specs.PlotFile.{ascii}
+use Rattle.cells.specs.Lists.{ascii}
 use Rattle.report.specs.Report.{field}
 use Rattle.report.specs.TextLaws.{puts-inside, puts-append, puts-join}
 use borrow.Author.Needs.{needs}

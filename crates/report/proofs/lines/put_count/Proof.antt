@@ -1,6 +1,6 @@
 -- `report::lines::put_count` meets its contract: the line of the answer that the count is. Assumes nothing.
 use mathlib.Core.Path.{sym, ap}
-use Rattle.plot_file.specs.PlotFile.{ascii}
+use Rattle.cells.specs.Lists.{ascii}
 use Rattle.layers.specs.declared.Count.{Count}
 use Rattle.layers.specs.LayerCounts.{countAnswer}
 use Rattle.report.specs.Report.{field, feed, layersLine}

@@ -1,5 +1,5 @@
 -- `report::lines::put_list` meets its contract: the field, the colon, the nodes, and the line's end. Assumes nothing.
-use Rattle.plot_file.specs.PlotFile.{ascii}
+use Rattle.cells.specs.Lists.{ascii}
 use Rattle.report.specs.Report.{field, feed}
 use Rattle.report.specs.TextLaws.{puts-inside, puts-append}
 use borrow.Author.Needs.{needs}

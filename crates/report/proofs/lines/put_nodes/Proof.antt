@@ -4,7 +4,7 @@ use mathlib.Core.List.{flatMap}
 use Prim.Native.Nat.{_-_, _≤_}
 use lib.ListN.{length, take}
 use lib.Seq.{take-all}
-use Rattle.plot_file.specs.PlotFile.{ascii}
+use Rattle.cells.specs.Lists.{ascii}
 use Rattle.report.specs.Report.{field}
 use Rattle.report.specs.Inner.{Puts}
 use Rattle.report.specs.TextLaws.{puts-none, puts-length, puts-inside, puts-part, puts-as}

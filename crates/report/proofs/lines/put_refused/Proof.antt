@@ -1,5 +1,5 @@
 -- `report::lines::put_refused` meets its contract: the words, and the refusal's number. Assumes nothing.
-use Rattle.plot_file.specs.PlotFile.{ascii}
+use Rattle.cells.specs.Lists.{ascii}
 use Rattle.report.specs.Report.{field, refusedLine}
 use borrow.Author.Needs.{needs}
 use Rattle.report.proofs.lines.put_refused.Statement.{statement}

@@ -1,5 +1,5 @@
 -- `report::lines::put_tiles` meets its contract: one field, which ends the line. Assumes nothing.
-use Rattle.plot_file.specs.PlotFile.{ascii}
+use Rattle.cells.specs.Lists.{ascii}
 use Rattle.report.specs.Report.{field}
 use borrow.Author.Needs.{needs}
 use Rattle.report.proofs.lines.put_tiles.Statement.{statement}

@@ -1,5 +1,5 @@
 -- `report::text::put_last` meets its contract: the field, then a line feed. Assumes nothing.
-use Rattle.plot_file.specs.PlotFile.{ascii}
+use Rattle.cells.specs.Lists.{ascii}
 use Rattle.report.specs.Report.{feed}
 use Rattle.report.specs.TextLaws.{puts-inside, puts-append}
 use borrow.Author.Needs.{needs}

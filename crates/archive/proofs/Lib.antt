@@ -1,0 +1,4 @@
+-- What belongs to no one function's proof.
+pub mod InputLaws
+pub mod OutputLaws
+pub mod ReadingLaws
