@@ -1,4 +1,4 @@
--- What is written into lent bytes: the bytes of a record one by one, and zeros behind. Rests on `Archive`, `ByteLaws` and cells' `ArrayLaws`. Assumes nothing.
+-- What is written into lent bytes: the bytes of a record one by one, and zeros behind. Rests on `Archive` and `ByteLaws`. Assumes nothing.
 use mathlib.Core.Path.{_≡_, refl, sym, ap, _∙_, subst}
 use mathlib.Core.List.{List, [], _++_}
 use Prim.Native.Nat.{ℕ, zero, suc, _+_, _-_, _*_, _/_, _%_, _^_, _≤_, _<_}
@@ -9,20 +9,10 @@ use lib.ListN.{length, getD, List·getD-append, List·getD-eq-default}
 use lib.Pow.{pow-add}
 use lib.Seq.{getD-append-add}
 use borrow.Author.Tests.{le-leb, lt-leb}
-use Rattle.cells.specs.ArrayLaws.{Filled, filled-start, filled-end}
 use Rattle.cells.specs.Lists.{padded, ascii}
 use Rattle.archive.specs.declared.Record.{Record}
 use Rattle.archive.specs.Archive.{bigEndian, countOf, recordBytes, Outcome, answered, refusedBy, outcomeNumber, handedBack, LeavesOutcome, writeRecord}
 use Rattle.archive.specs.ByteLaws.{length-bigEndian, getD-bigEndian, count-bytes}
-
--- ---- loops that fill the bytes
-
-pub written-start : (f : ℕ → ℕ) (ws : List ℕ) → Filled 0 f (λ k. getD ws k 0) (length ws) 0 ws
-written-start f ws = filled-start 0 f (λ k. getD ws k 0) (length ws) 0 ws refl (λ k h. refl) (λ k h. absurd (omega arith))
-
-pub written-end : (ns ws xs : List ℕ) (i : ℕ) → Filled 0 (λ k. getD ns k 0) (λ k. getD ws k 0) (length ws) i xs → length ws ≤ i → xs ≡ padded ns (length ws)
-unfolding padded
-written-end ns ws xs i h e = filled-end 0 (λ k. getD ns k 0) (λ k. getD ws k 0) (length ws) i xs h (λ k a b. absurd (omega arith))
 
 -- ---- the mark and the fields of two bytes
 

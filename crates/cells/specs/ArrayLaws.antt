@@ -211,6 +211,15 @@ padded-none count k = go (decLt k count)
     go (yes h) = getD-padded [] count k h
     go (no h) = List·getD-eq-default (padded [] count) 0 (omega (arith, length-padded [] count))
 
+-- a loop that writes numbers into lent words in order, from the first word to the last: before it,
+pub padded-start : (f : ℕ → ℕ) (ws : List ℕ) → Filled 0 f (λ k. getD ws k 0) (length ws) 0 ws
+padded-start f ws = filled-start 0 f (λ k. getD ws k 0) (length ws) 0 ws refl (λ k h. refl) (λ k h. absurd (omega arith))
+
+-- and behind it
+pub padded-end : (ns ws xs : List ℕ) (i : ℕ) → Filled 0 (λ k. getD ns k 0) (λ k. getD ws k 0) (length ws) i xs → length ws ≤ i → xs ≡ padded ns (length ws)
+unfolding padded
+padded-end ns ws xs i h e = filled-end 0 (λ k. getD ns k 0) (λ k. getD ws k 0) (length ws) i xs h (λ k a b. absurd (omega arith))
+
 -- paths of 32 codes each, one behind the other
 pub padded-block : (ps : List (List ℕ)) (i j : ℕ) → j < 32 → getD (flatMap (λ (p : List ℕ). padded p 32) ps) (32 * i + j) 0 ≡ getD (getD ps i []) j 0
 padded-block ps i j h =

@@ -17,8 +17,8 @@ ghost use Rattle.host_plots.specs.Calls.{placed, orbitFor, readFile, AnswersPlo
 ghost use Rattle.host_counts.specs.Calls.{counted, AnswersCount, generated, AnswersGraph};
 ghost use Rattle.host_tilings.specs.Calls.{searched, AnswersSingle, numbered};
 ghost use Rattle.host_words.specs.Layout.{AnswersList};
-ghost use Rattle.archive.specs.Archive.{LeavesOutcome};
-ghost use Rattle.host_records.specs.Calls.{recordWritten, recordsCounted, recordFound, currentFound};
+ghost use Rattle.archive.specs.Archive.{LeavesOutcome, writeRecord};
+ghost use Rattle.host_records.specs.Calls.{recordFor, recordsCounted, recordFound, currentFound};
 ghost use Rattle.host_tiles.specs.TileBytes.{bytesFor};
 ghost use Rattle.cells.specs.Lists.{padded, wordsFor};
 
@@ -165,7 +165,7 @@ pub extern "C" fn cuttings_write_record(
     high: u64,
     out: &mut [u8],
 ) -> u64
-    ensures { λ r. ⌜ LeavesOutcome (recordWritten id year revision low high (length (now (out .entry)))) (now (out .entry)) (now (out .exit)) r ⌝ }
+    ensures { λ r. ⌜ LeavesOutcome (writeRecord (recordFor id year revision low high) (length (now (out .entry)))) (now (out .entry)) (now (out .exit)) r ⌝ }
 {
     host_records::write_record(id, year, revision, low, high, out)
 }

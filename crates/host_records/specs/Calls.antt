@@ -1,11 +1,12 @@
 -- Definitions: what the four calls of the archive over a host's words return, and what they leave in the lent words, for every input: `LeavesOutcome` of what each
--- answers. 0 or the number of the refusal is returned; with 13 the first answer word is the place of the earliest broken record. Assumes nothing.
+-- answers (`cuttings_write_record` answers `writeRecord` of the record of its five numbers). 0 or the number of the refusal is returned; with 13 the first answer word is the place
+-- of the earliest broken record. Assumes nothing.
 use mathlib.Core.Bool.{cond}
 use mathlib.Core.List.{List, [], _∷_}
 use Prim.Native.Nat.{ℕ}
 use lib.Dec.{leb}
 use Rattle.archive.specs.declared.Record.{Record}
-use Rattle.archive.specs.Archive.{Outcome, refusedBy, mapOutcome, countRecords, recordAt, currentRecord, writeRecord}
+use Rattle.archive.specs.Archive.{Outcome, refusedBy, mapOutcome, countRecords, recordAt, currentRecord}
 
 -- the record of five numbers
 abbrev pub recordFor : ℕ → ℕ → ℕ → ℕ → ℕ → Record
@@ -18,11 +19,6 @@ recordWords r = r .id ∷ r .year ∷ r .revision ∷ r .low ∷ r .high ∷ []
 -- 8, fewer answer words than the call has, before the call's own causes
 unfoldable pub unlessShort : {A : Type 0} → ℕ → ℕ → Outcome A → Outcome A
 unlessShort needed words a = cond (leb needed words) a (refusedBy 8)
-
--- what `cuttings_write_record` answers, with so many bytes lent
-unfoldable pub recordWritten : ℕ → ℕ → ℕ → ℕ → ℕ → ℕ → Outcome (List ℕ)
-unfolding writeRecord
-recordWritten id year revision low high room = writeRecord (recordFor id year revision low high) room
 
 -- what `cuttings_count_records` answers, with so many answer words lent
 unfoldable pub recordsCounted : List ℕ → ℕ → Outcome (List ℕ)

@@ -7,14 +7,14 @@ use archive::RecordCount;
 use refusal::Refusal;
 use refusal::Verdict;
 ghost use lib.ListN.{length};
-ghost use Rattle.archive.specs.Archive.{LeavesOutcome};
-ghost use Rattle.host_records.specs.Calls.{recordWritten, recordsCounted, recordFound, currentFound};
+ghost use Rattle.archive.specs.Archive.{LeavesOutcome, writeRecord};
+ghost use Rattle.host_records.specs.Calls.{recordFor, recordsCounted, recordFound, currentFound};
 
 mod answers;
 
 // Writes the 24 bytes of a record, zeros behind.
 pub fn write_record(id: u16, year: u16, revision: u16, low: u64, high: u64, out: &mut [u8]) -> u64
-    ensures { λ r. ⌜ LeavesOutcome (recordWritten id year revision low high (length (now (out .entry)))) (now (out .entry)) (now (out .exit)) r ⌝ }
+    ensures { λ r. ⌜ LeavesOutcome (writeRecord (recordFor id year revision low high) (length (now (out .entry)))) (now (out .entry)) (now (out .exit)) r ⌝ }
 {
     let record = Record {
         id,

@@ -1,3 +1,2 @@
 -- What belongs to no one function's proof.
 pub mod InputLaws
-pub mod OutputLaws

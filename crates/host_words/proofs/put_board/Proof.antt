@@ -2,7 +2,7 @@
 -- Assumes nothing.
 use Prim.Native.Nat.{ℕ, _-_}
 use lib.ListN.{length, getD}
-use Rattle.cells.specs.ArrayLaws.{Filled, filled-step}
+use Rattle.cells.specs.ArrayLaws.{Filled, filled-step, padded-start, padded-end}
 use native.Mathlib.Omega.{arith}
 use mathlib.Core.Path.{ap, _∙_}
 use mathlib.Core.List.{List}
@@ -10,7 +10,6 @@ use Rattle.cells.specs.Set.{Sound}
 use Rattle.cells.specs.Lists.{padded}
 use Rattle.host_words.specs.Inner.{structWords}
 use Rattle.host_words.specs.LayoutLaws.{board-words}
-use Rattle.host_words.proofs.OutputLaws.{written-start, numbers-end}
 use borrow.Author.Needs.{needs}
 use Rattle.host_words.proofs.put_board.Statement.{statement}
 use Rattle.host_words.proofs.put_board.Tie as tie
@@ -22,7 +21,7 @@ abbrev μ-loop : tie.MeasureT-loop
 μ-loop words₀ board i₀ words i = length words₀ - i
 
 loop-holds : tie.Need-loop-holds Inv-loop μ-loop
-loop-holds c = written-start _ _
+loop-holds c = padded-start _ _
 
 slice-write-words : tie.Need-slice-write-words Inv-loop μ-loop
 slice-write-words c = omega (arith, c .before .before .loop .inv .long)
@@ -47,7 +46,7 @@ returns c =
     let inv = c .before .loop .inv in
     let start = c .before .before .before in
     let words = start .args .words .now in
-    numbers-end (structWords (start .args .board)) words _ _ inv (omega (arith, inv .long))
+    padded-end (structWords (start .args .board)) words _ _ inv (omega (arith, inv .long))
     ∙ ap (λ (ns : List ℕ). padded ns (length words)) (board-words (start .args .board) (fixed start) (laid start))
 
 pub put-board-spec : {M : Type 1} → statement M

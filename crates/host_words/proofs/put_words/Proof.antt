@@ -3,9 +3,8 @@
 use Prim.Native.Nat.{_-_}
 use mathlib.Core.List.{[], _∷_}
 use lib.ListN.{length, getD}
-use Rattle.cells.specs.ArrayLaws.{Filled, filled-step}
+use Rattle.cells.specs.ArrayLaws.{Filled, filled-step, padded-start, padded-end}
 use native.Mathlib.Omega.{arith}
-use Rattle.host_words.proofs.OutputLaws.{written-start, numbers-end}
 use borrow.Author.Needs.{needs}
 use Rattle.host_words.proofs.put_words.Statement.{statement}
 use Rattle.host_words.proofs.put_words.Tie as tie
@@ -17,7 +16,7 @@ abbrev μ-loop : tie.MeasureT-loop
 μ-loop words₀ w0 w1 w2 w3 i₀ words i = length words₀ - i
 
 loop-holds : tie.Need-loop-holds Inv-loop μ-loop
-loop-holds c = written-start _ _
+loop-holds c = padded-start _ _
 
 slice-write-words : tie.Need-slice-write-words Inv-loop μ-loop
 slice-write-words c = omega (arith, c .before .before .loop .inv .long)
@@ -32,7 +31,7 @@ same-length : tie.Need-same-length Inv-loop μ-loop
 same-length c = c .before .loop .inv .long
 
 returns : tie.Need-returns Inv-loop μ-loop
-returns c = let inv = c .before .loop .inv in numbers-end (_ ∷ _ ∷ _ ∷ _ ∷ []) (c .before .before .before .args .words .now) _ _ inv (omega (arith, inv .long))
+returns c = let inv = c .before .loop .inv in padded-end (_ ∷ _ ∷ _ ∷ _ ∷ []) (c .before .before .before .args .words .now) _ _ inv (omega (arith, inv .long))
 
 pub put-words-spec : {M : Type 1} → statement M
 put-words-spec =

@@ -5,8 +5,7 @@ use mathlib.Core.List.{[]}
 use Prim.Native.Nat.{_-_}
 use native.Mathlib.Omega.{arith}
 use lib.ListN.{length, getD}
-use Rattle.cells.specs.ArrayLaws.{Filled, filled-step}
-use Rattle.archive.proofs.OutputLaws.{written-start, written-end}
+use Rattle.cells.specs.ArrayLaws.{Filled, filled-step, padded-start, padded-end}
 use borrow.Author.Needs.{needs}
 use Rattle.archive.proofs.output.clear.Statement.{statement}
 use Rattle.archive.proofs.output.clear.Tie as tie
@@ -20,7 +19,7 @@ abbrev μ-loop : tie.MeasureT-loop
 μ-loop out₀ i₀ out i = length out₀ - i
 
 loop-holds : tie.Need-loop-holds Inv-loop μ-loop
-loop-holds c = written-start _ _
+loop-holds c = padded-start _ _
 
 slice-write-out : tie.Need-slice-write-out Inv-loop μ-loop
 slice-write-out c = omega (arith, c .before .loop .inv .long)
@@ -38,7 +37,7 @@ same-length : tie.Need-same-length Inv-loop μ-loop
 same-length c = c .before .loop .inv .long
 
 returns : tie.Need-returns Inv-loop μ-loop
-returns c = let inv = c .before .loop .inv in written-end [] (c .before .before .args .out .now) _ _ inv (omega (arith, inv .long))
+returns c = let inv = c .before .loop .inv in padded-end [] (c .before .before .args .out .now) _ _ inv (omega (arith, inv .long))
 
 pub clear-spec : {M : Type 1} → statement M
 clear-spec =

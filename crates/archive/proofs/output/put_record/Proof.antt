@@ -3,9 +3,8 @@
 use Prim.Native.Nat.{_-_}
 use native.Mathlib.Omega.{arith}
 use lib.ListN.{length, getD}
-use Rattle.cells.specs.ArrayLaws.{Filled, filled-step}
+use Rattle.cells.specs.ArrayLaws.{Filled, filled-step, padded-start, padded-end}
 use Rattle.archive.specs.Archive.{recordBytes}
-use Rattle.archive.proofs.OutputLaws.{written-start, written-end}
 use borrow.Author.Needs.{needs}
 use Rattle.archive.proofs.output.put_record.Statement.{statement}
 use Rattle.archive.proofs.output.put_record.Tie as tie
@@ -20,7 +19,7 @@ abbrev μ-loop : tie.MeasureT-loop
 μ-loop out₀ «record» i₀ out i = length out₀ - i
 
 loop-holds : tie.Need-loop-holds Inv-loop μ-loop
-loop-holds c = written-start _ _
+loop-holds c = padded-start _ _
 
 record-byte-requires : tie.Need-record-byte-requires Inv-loop μ-loop
 record-byte-requires c κs = search needs
@@ -41,7 +40,7 @@ same-length : tie.Need-same-length Inv-loop μ-loop
 same-length c = c .before .loop .inv .long
 
 returns : tie.Need-returns Inv-loop μ-loop
-returns c = let inv = c .before .loop .inv in written-end (recordBytes _) (c .before .before .before .args .out .now) _ _ inv (omega (arith, inv .long))
+returns c = let inv = c .before .loop .inv in padded-end (recordBytes _) (c .before .before .before .args .out .now) _ _ inv (omega (arith, inv .long))
 
 pub put-record-spec : {M : Type 1} → statement M
 put-record-spec =

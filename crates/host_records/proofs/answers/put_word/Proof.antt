@@ -1,4 +1,62 @@
+-- `host_records::answers::put_word` meets its contract: the word and zeros are written in order.
+-- Assumes nothing.
+use mathlib.Core.List.{[], _∷_}
+use Prim.Native.Nat.{_-_}
+use native.Mathlib.Omega.{arith}
+use lib.ListN.{length, getD}
+use Rattle.cells.specs.ArrayLaws.{Filled, filled-step, padded-start, padded-end}
+use borrow.Author.Needs.{needs}
 use Rattle.host_records.proofs.answers.put_word.Statement.{statement}
+use Rattle.host_records.proofs.answers.put_word.Tie as tie
+use Rattle.host_records.proofs.answers.put_word.Reads as reads
+use Rattle.host_records.proofs.answers.put_word.Lts as lts
+use Rattle.host_records.proofs.answers.first_of.Reads as first-of-reads
+
+abbrev Inv-loop : tie.InvT-loop
+Inv-loop answer₀ word i₀ answer i = Filled 0 (λ k. getD (word ∷ []) k 0) (λ k. getD answer₀ k 0) (length answer₀) i answer
+
+abbrev μ-loop : tie.MeasureT-loop
+μ-loop answer₀ word i₀ answer i = length answer₀ - i
+
+loop-holds : tie.Need-loop-holds Inv-loop μ-loop
+loop-holds c = padded-start _ _
+
+first-of-requires : tie.Need-first-of-requires Inv-loop μ-loop
+first-of-requires c κs = search needs
+
+mul-answer : tie.Need-mul-answer Inv-loop μ-loop
+mul-answer c = search needs
+
+slice-write-answer : tie.Need-slice-write-answer Inv-loop μ-loop
+slice-write-answer c = omega (arith, c .before .before .loop .inv .long)
+
+add-i : tie.Need-add-i Inv-loop μ-loop
+add-i c = search needs
+
+loop-less : tie.Need-loop-less Inv-loop μ-loop
+loop-less c = omega (arith, c .before .before .loop .inv .long)
+
+loop-again : tie.Need-loop-again Inv-loop μ-loop
+loop-again c = filled-step 0 _ _ _ _ _ _ (c .before .before .loop .inv) (omega (arith, c .before .before .loop .inv .long)) (c .first-of .ensures)
+
+same-length : tie.Need-same-length Inv-loop μ-loop
+same-length c = c .before .loop .inv .long
+
+returns : tie.Need-returns Inv-loop μ-loop
+returns c = let inv = c .before .loop .inv in padded-end (_ ∷ []) (c .before .before .before .args .answer .now) _ _ inv (omega (arith, inv .long))
 
 pub put-word-spec : {M : Type 1} → statement M
-put-word-spec = ?
+put-word-spec =
+    tie.close
+    (tie.spec
+    Inv-loop
+    μ-loop
+    loop-holds
+    first-of-requires
+    mul-answer
+    slice-write-answer
+    add-i
+    loop-less
+    loop-again
+    same-length
+    returns)

@@ -1,0 +1,2 @@
+-- What belongs to no one function's proof.
+pub mod AnswerLaws
