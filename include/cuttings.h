@@ -17,15 +17,19 @@
    are Up, Down, Left, Right, UpLeft, UpRight, DownRight, DownLeft. 33 zero bytes are a tile too, the
    one of a single cell: where a call wrote tiles, hand on 33 * answer[0] bytes of them and no more.
    A board in an output, or a node, is four words, both kinds of marks together.
+   An ARCHIVE FILE is a run of records of 24 bytes: the mark TY, plot id, survey year and revision of
+   two bytes each, a count of 16; each number highest byte first. Places are counted from 0.
 
    Each function returns 0, or the number of the refusal. After a refusal every word and byte that was
-   lent for writing is zero. Words and bytes behind what is written are zero. A room for boards,
-   nodes or edges above 16,777,216 counts as that, however many words are lent.
+   lent for writing is zero, but for answer[0] after 13, which is the place of the broken record. Words
+   and bytes behind what is written are zero. A room for boards, nodes or edges above 16,777,216 counts
+   as that, however many words are lent.
 
    Refusals: 1 a mark of the plot file is cut or missing, or a length or body byte; 2 an unknown mark;
    3 a record in a wrong place, or a byte after EN; 4 the board; 5 a tile; 6 over 64 tiles; 7 two
    tiles with different numbers of cells; 8 no room; 9 a path count of 2^64 or more; 10 no room for the
-   edges; 11 words that are no graph's; 12 no such tiling.
+   edges; 11 words that are no graph's; 12 no such tiling; 13 a record of the archive file is cut short
+   or its mark is not TY; 14 no such record.
 
    Slices of a wrong shape are refused before anything else, in this order: 4, marks that are not 8
    words; 5, tiles that are not a multiple of 33 bytes, or a tile that is not 33; 11, a graph that is
@@ -114,6 +118,30 @@ uint64_t cuttings_read_plot(const uint8_t *file, size_t file_len,
                             uint64_t *board, size_t board_len,
                             uint8_t *tiles, size_t tiles_len,
                             uint64_t *answer, size_t answer_len);
+
+/* One record of an archive file, its count as low word and high word: 24 bytes into out.
+   Refusal: 8, out has fewer. Stack: at most 16 KB. */
+uint64_t cuttings_write_record(uint16_t id, uint16_t year, uint16_t revision,
+                               uint64_t low, uint64_t high,
+                               uint8_t *out, size_t out_len);
+
+/* How many records an archive file holds, into answer[0]; the empty file holds none.
+   Refusals: 8, by the shape; 13, of the whole file, answer[0] the place of the earliest broken record.
+   Stack: at most 16 KB. */
+uint64_t cuttings_count_records(const uint8_t *file, size_t file_len,
+                                uint64_t *answer, size_t answer_len);
+
+/* The record at a place of an archive file. answer[0] to answer[4]: plot id, survey year, revision, and
+   the count's low word and high word. Refusals: 8 and 13 as above, whatever the place; 14, the file has
+   no such place. Stack: at most 16 KB. */
+uint64_t cuttings_record_at(const uint8_t *file, size_t file_len, uint64_t place,
+                            uint64_t *answer, size_t answer_len);
+
+/* The current record of a plot id: the one with the highest year, then the highest revision, then the
+   last in the file. The answer is that of cuttings_record_at. Refusals: 8 and 13 as above; 14, no record
+   has the id. Stack: at most 16 KB. */
+uint64_t cuttings_current_record(const uint8_t *file, size_t file_len, uint16_t id,
+                                 uint64_t *answer, size_t answer_len);
 
 #ifdef __cplusplus
 }

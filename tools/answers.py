@@ -1,9 +1,12 @@
-"""What is stored for a command: the oracle's answer, the model's of tilings.py, or 01's refusal.
+"""What is stored for a command: the oracle's answer, that of a model, or 01's refusal.
+
+The models are those of tilings.py, for `tiling`, and of records.py, for the commands on archive files.
 """
 
 import sys
 
 sys.dont_write_bytecode = True
+import records
 import tilings
 from plots import MOST_CODES, MOST_TILES, Plot, stop
 
@@ -59,13 +62,13 @@ def is_for_oracle(command):
     name, number = command.split()[0], refusal(command)
     if name in ("layers", "graph", "tilings", "one"):
         return number is None
-    if name == "tiling":
+    if name == "tiling" or name in records.COMMANDS:
         return False
     return name not in ("full", "children") or number != 4
 
 
 def stored_answer(command, answer):
-    """The answer to store: the oracle's, the model's, or 01's refusal.
+    """The answer to store: the oracle's, a model's, or 01's refusal.
 
     Where ours refuses, the Rust panics or has no limit: it panics for l 0, t 0 and boards with one
     side 0 and the other not, and it takes longer paths, larger boards and more tiles.
@@ -74,6 +77,8 @@ def stored_answer(command, answer):
     number = refusal(command)
     if name == "tiling":
         return tilings.answer(tilings.read(command))
+    if name in records.COMMANDS:
+        return records.answer(command)
     expected = True
     if name in ("l", "t"):
         expected = answer == "panic" if field == "0" else len(answer) == codes_of(name, field)

@@ -1,18 +1,10 @@
-/* The library with one error, for trying what a comparison finds: linked with --wrap, each function
-   stands before the library's own and spoils what it answers. ERROR in the environment is the number of
-   the error; with none or 0 nothing is spoilt. */
-#include <stdlib.h>
-#include <string.h>
-
-#include "cuttings.h"
+/* The library with one error in a call on plots, by broken.h. */
+#include "broken.h"
 
 /* The parameters of a board and tiles, and the same handed on. */
 #define PLOT uint64_t width, uint64_t height, const uint64_t *marks, size_t marks_len, \
              const uint8_t *tiles, size_t tiles_len
 #define PLOT_ON width, height, marks, marks_len, tiles, tiles_len
-#define OUT(name) uint64_t *name, size_t name##_len
-#define IN(name) const uint64_t *name, size_t name##_len
-#define ON(name) name, name##_len
 
 uint64_t __real_cuttings_place_tile(PLOT, OUT(out), OUT(answer));
 uint64_t __real_cuttings_count_tilings(PLOT, OUT(boards_a), OUT(counts_a), OUT(boards_b), OUT(counts_b),
@@ -25,25 +17,6 @@ uint64_t __real_cuttings_orbit(const uint8_t *tile, size_t tile_len, uint8_t *ti
                                OUT(answer));
 uint64_t __real_cuttings_read_plot(const uint8_t *file, size_t file_len, OUT(board), uint8_t *tiles,
                                    size_t tiles_len, OUT(answer));
-
-static int is(int number)
-{
-    const char *text = getenv("ERROR");
-    return text != NULL && atoi(text) == number;
-}
-
-static void exchange(void *a, void *b, size_t bytes)
-{
-    unsigned char kept[64];
-    memcpy(kept, a, bytes);
-    memcpy(a, b, bytes);
-    memcpy(b, kept, bytes);
-}
-
-static void clear(OUT(words))
-{
-    memset(words, 0, 8 * words_len);
-}
 
 uint64_t __wrap_cuttings_place_tile(PLOT, OUT(out), OUT(answer))
 {

@@ -162,6 +162,12 @@ static uint64_t read_plot(const unsigned char *bytes, size_t number, Plot *plot)
 
 /* ---- the calls with slices of a wrong shape */
 
+/* Whether they are tried beside a command. */
+static int has_trials(void)
+{
+    return one_in(4);
+}
+
 /* A length up to a limit that is not the right one. */
 static size_t other_than(size_t right, size_t limit)
 {

@@ -1,13 +1,15 @@
-/* Answers the commands of the programs replay_boards, replay_counts and replay_plots that stand for a call,
-   through the library alone: orbit, children, layers, graph, tilings, tiling, one, plot. The forms stand
-   in ../README.md. Here `children` takes a room too, and no room has a limit but memory. The fields of a
-   command and the printing stand in fields.h, the model of the tiling by number in numbers.h.
+/* Answers the commands of the programs replay_boards, replay_counts, replay_plots and replay_records
+   that stand for a call, through the library alone: orbit, children, layers, graph, tilings, tiling,
+   one, plot, write, records, record, current. The forms stand in ../README.md. Here `children` takes a
+   room too, and no room has a limit but memory. The fields of a command and the printing stand in
+   fields.h, the model of the tiling by number in numbers.h, the last four commands in records.h.
 
-   Beside the answer, every call is held to the definitions of specs/Calls.antt of host_plots, host_counts and host_tilings. What is
-   lent for writing is filled before, and has to be zero behind what is written and after a refusal.
-   What is only read has to stay. Each slice stands between guards, or against a page that cannot be
-   touched. Beside a quarter of the commands the call is also made with slices of a wrong shape. `dirty`
-   behind an answer: a lent word or byte is not zero. `wrong`: anything else; standard error says what.
+   Beside the answer, every call is held to the definitions of specs/Calls.antt of host_plots,
+   host_counts, host_tilings and host_records. What is lent for writing is filled before, and has to be
+   zero behind what is written and after a refusal. What is only read has to stay. Each slice stands
+   between guards, or against a page that cannot be touched. Beside a quarter of the commands the call
+   is also made with slices of a wrong shape. `dirty` behind an answer: a lent word or byte is not zero.
+   `wrong`: anything else; standard error says what.
 
    Lengths, fillings and wrong shapes are drawn from the text of the command, so that a command is
    always treated in the same way. */
@@ -19,14 +21,10 @@
 
 #include "fields.h"
 #include "numbers.h"
+#include "records.h"
 
 enum { BOARDS = 512, NODES = 1024, EDGES = 4096, LISTED = 16 }; /* the program `plot` */
 enum { MOST_CHILDREN = 2112, MOST_TILINGS = 200 };
-
-static int has_trials(void)
-{
-    return one_in(4);
-}
 
 static void answer_orbit(void)
 {
@@ -239,15 +237,12 @@ static void answer_one(Plot *plot)
 /* The lines of the program `plot`, with a bar behind each. */
 static void answer_plot(void)
 {
-    const char *text = field(1);
-    size_t number = strlen(text) / 2, free_cells = 0;
-    unsigned char *bytes = memory(NULL, number);
+    size_t number, free_cells = 0;
+    unsigned char *bytes = bytes_in(1, &number);
     unsigned char tiles[PLOT_BYTES];
     uint64_t count[2];
     Plot plot = {.tiles = tiles};
     Graph graph;
-    for (size_t i = 0; i < number; i++)
-        bytes[i] = (unsigned char)(16 * hex_digit(text[2 * i]) + hex_digit(text[2 * i + 1]));
     if (has_trials())
         try_file_shapes(bytes, number);
     uint64_t refusal = read_plot(bytes, number, &plot);
@@ -302,6 +297,23 @@ static void answer_with_tiles(int call)
     free(plot.tiles);
 }
 
+/* The other commands; whether this is one of them. */
+static int answer_other(void)
+{
+    static const struct {
+        const char *name;
+        void (*answer)(void);
+    } all[] = {{"orbit", answer_orbit}, {"tiling", answer_tiling}, {"plot", answer_plot},
+               {"write", answer_write}, {"records", answer_records}, {"record", answer_record},
+               {"current", answer_current}};
+    for (size_t i = 0; i < sizeof all / sizeof all[0]; i++)
+        if (strcmp(fields[0], all[i].name) == 0) {
+            all[i].answer();
+            return 1;
+        }
+    return 0;
+}
+
 static void answer(char *line)
 {
     static const char *const names[] = {"children", "layers", "graph", "one", "tilings"};
@@ -314,13 +326,7 @@ static void answer(char *line)
         call++;
     if (call < 5)
         answer_with_tiles(call);
-    else if (strcmp(fields[0], "orbit") == 0)
-        answer_orbit();
-    else if (strcmp(fields[0], "tiling") == 0)
-        answer_tiling();
-    else if (strcmp(fields[0], "plot") == 0)
-        answer_plot();
-    else
+    else if (!answer_other())
         printf("unknown command");
     printf("%s%s\n", is_dirty ? " dirty" : "", is_wrong ? " wrong" : "");
 }

@@ -74,6 +74,17 @@ static unsigned hex_digit(char c)
     return (unsigned)(found - digits);
 }
 
+/* The bytes of a field, two digits each, and their number; `-` has none. */
+static unsigned char *bytes_in(size_t i, size_t *number)
+{
+    const char *text = field(i);
+    unsigned char *bytes = memory(NULL, strlen(text) / 2);
+    *number = strlen(text) / 2;
+    for (size_t k = 0; k < *number; k++)
+        bytes[k] = (unsigned char)(16 * hex_digit(text[2 * k]) + hex_digit(text[2 * k + 1]));
+    return bytes;
+}
+
 static void marks_in(size_t i, uint64_t *words)
 {
     size_t length = strlen(field(i));

@@ -5,19 +5,12 @@
    BOARDS is the room of a layer, NODES and EDGES those of the graph; tiling M of the graph is
    printed. The lines are those of the program `plot`. Exit status: 0, also where something is
    refused; 1, the file cannot be read or there is no memory; 2, bad usage. */
-#include <inttypes.h>
-#include <stdio.h>
-#include <stdlib.h>
+#define PROGRAM "host"
+#include "files.h"
 
 #include "cuttings.h"
 
 enum { TILE_BYTES = 33, MOST_TILES = 64, LONGEST_LIST = 257 };
-
-static void stop(int status, const char *message)
-{
-    fprintf(stderr, "host: %s\n", message);
-    exit(status);
-}
 
 /* Words on the heap for so many things of so many words each; not null, also where there are none. */
 static uint64_t *room(uint64_t number, uint64_t each)
@@ -28,40 +21,6 @@ static uint64_t *room(uint64_t number, uint64_t each)
     if (words == NULL)
         stop(1, "out of memory");
     return words;
-}
-
-static uint64_t number_in(const char *text)
-{
-    uint64_t number = 0;
-    if (*text == 0)
-        stop(2, "a number is missing");
-    for (; *text; text++) {
-        uint64_t digit = (uint64_t)(*text - '0');
-        if (*text < '0' || *text > '9' || number > (UINT64_MAX - digit) / 10)
-            stop(2, "not a number below 2^64");
-        number = 10 * number + digit;
-    }
-    return number;
-}
-
-/* All bytes of a file, and how many there are. */
-static uint8_t *bytes_of(const char *name, size_t *length)
-{
-    uint8_t *bytes = NULL;
-    size_t size = 0;
-    FILE *file = fopen(name, "rb");
-    if (file == NULL)
-        stop(1, "the file cannot be opened");
-    for (*length = 0; *length == size; *length += fread(bytes + *length, 1, size - *length, file)) {
-        size = 2 * size + 4096;
-        bytes = realloc(bytes, size);
-        if (bytes == NULL)
-            stop(1, "out of memory");
-    }
-    if (ferror(file))
-        stop(1, "the file cannot be read");
-    fclose(file);
-    return bytes;
 }
 
 /* The free cells of a board of ten words: width, height, fixed marks, laid marks. */

@@ -5,7 +5,8 @@
    A call runs on a thread of its own in a process of its own, PROGRAM in a process with such a limit,
    with 16 KB of stack, 32 KB and so on, until it ends well on every one of its inputs. These are the
    deepest: 16 by 16 with the single tile (256 layers, 257 nodes, 257 boards), 64 tiles of 32 codes and
-   both; the orbit of such a tile; the longest plot file. The words are lent from outside the stack.
+   both; the orbit of such a tile; the longest plot file; an archive file of 1,000 records, all of one
+   id. The words are lent from outside the stack.
    Printed: the name and the least KB. Exit status: 1 if more than 512 KB are taken or something else
    fails. */
 #define _GNU_SOURCE
@@ -21,13 +22,14 @@
 #include "cuttings.h"
 
 enum { KB = 1024, STEP = 16, MOST = 512, ENOUGH = 8 * 1024, BELOW = 16 * 1024 };
-enum { TILE = 33, TILES = 64, BOARDS = 4096, EDGES = 16384, LIST = 257 };
+enum { TILE = 33, TILES = 64, BOARDS = 4096, EDGES = 16384, LIST = 257, RECORD = 24, RECORDS = 1000 };
 
 static const uint64_t marks[8];
 static uint64_t boards_a[4 * BOARDS], boards_b[4 * BOARDS], counts_a[BOARDS], counts_b[BOARDS];
 static uint64_t nodes[4 * BOARDS], counts[BOARDS], edges[2 * EDGES], graph[4];
-static uint64_t list[4 * LIST], board[10], answer[4];
+static uint64_t list[4 * LIST], board[10], answer[5];
 static uint8_t tiles[TILE * TILES], orbit[8 * TILE], tiles_read[TILE * TILES];
+static uint8_t archive[RECORD * RECORDS];
 
 /* The first tiles are single, the others snakes over three rows, of 32 codes and 33 cells. */
 static size_t singles, number;
@@ -108,6 +110,36 @@ static uint64_t read_plot(void)
     return cuttings_read_plot(file, write_file(file), SLICE(board), SLICE(tiles_read), SLICE(answer));
 }
 
+static uint64_t write_record(void)
+{
+    return cuttings_write_record(7, 2026, 3, UINT64_MAX, UINT64_MAX, archive, sizeof archive);
+}
+
+static uint64_t count_records(void)
+{
+    uint64_t refusal = cuttings_count_records(SLICE(archive), SLICE(answer));
+    return refusal ? refusal : answer[0] != RECORDS;
+}
+
+static uint64_t record_at(void)
+{
+    return cuttings_record_at(SLICE(archive), RECORDS - 1, SLICE(answer));
+}
+
+static uint64_t current_record(void)
+{
+    return cuttings_current_record(SLICE(archive), 7, SLICE(answer));
+}
+
+/* The record that write_record writes, as often as the archive holds it. */
+static uint64_t fill_archive(void)
+{
+    uint64_t refusal = write_record();
+    for (size_t i = 1; i < RECORDS; i++)
+        memcpy(archive + RECORD * i, archive, RECORD);
+    return refusal;
+}
+
 /* ---- a call, or the program, with so much stack */
 
 static const char *program;
@@ -184,6 +216,8 @@ int main(int count, char **arguments)
         {"cuttings_place_tile", place_tile}, {"cuttings_count_tilings", count_tilings},
         {"cuttings_generate_graph", generate_graph}, {"cuttings_single_tiling", single_tiling},
         {"cuttings_tiling", tiling}, {"cuttings_orbit", orbit_of}, {"cuttings_read_plot", read_plot},
+        {"cuttings_write_record", write_record}, {"cuttings_count_records", count_records},
+        {"cuttings_record_at", record_at}, {"cuttings_current_record", current_record},
         {"the program plot", NULL},
     };
     int status = 0;
@@ -193,7 +227,7 @@ int main(int count, char **arguments)
     }
     program = arguments[1];
     set_tiles(1, 1);
-    if (generate_graph() || graph[0] != LIST)
+    if (generate_graph() || graph[0] != LIST || fill_archive())
         return 1;
     for (size_t i = 0; i < sizeof all / sizeof all[0]; i++) {
         size_t kb = least(all[i].call);

@@ -8,18 +8,18 @@ use mathlib.Core.List.{List, [], _∷_, _++_, flatMap, append-assoc, List·Mem�
 use mathlib.Core.Option.{some}
 use Prim.Native.Nat.{ℕ, zero, suc, _+_, _-_, _*_, _^_, _≤_, _<_}
 use native.Mathlib.Nat.{add-zero, le-of-eq}
-use native.Mathlib.Decide.{decLt}
 use native.Mathlib.Omega.{arith}
 use lib.Dec.{eqb, leb}
-use lib.ListN.{length, getD, getElem?, take, drop, replicate, length-append, length-replicate, getD-replicate, take-append-drop, drop-of-length-le, List·getD-append, List·getD-eq-default}
-use lib.Seq.{ext-getD, getD-append-add, getD-drop, take-add, take-at, drop-drop, drop-append-le}
+use lib.ListN.{length, getD, getElem?, take, drop, replicate, length-append, take-append-drop, drop-of-length-le, List·getD-append}
+use lib.Seq.{getD-drop, take-add, take-at, drop-drop, drop-append-le}
 use borrow.Author.Tests.{eqb-true, le-leb, leb-true, leb-false}
 use Rattle.cells.specs.Lists.{padded, ascii}
-use Rattle.cells.specs.ArrayLaws.{length-padded, getD-padded}
+use Rattle.cells.specs.ArrayLaws.{padded-room}
 use Rattle.archive.specs.declared.Record.{Record}
 use Rattle.archive.specs.Archive.{Outcome, answered, refusedAt, refusedBy, mapOutcome, bindOutcome, outcomeNumber, handedBack, LeavesOutcome, orAbsent, bigEndian, numberAt, countOf, recordBytes, recordSize, recordIn, isWhole, recordsOf, recordAt, writeRecord}
 use Rattle.archive.specs.Records.{archiveOf, AreBytes, InRange, AllInRange}
 use Rattle.archive.specs.ByteLaws.{count-words, count-bytes, numberAt-append, numberAt-front, numberAt-lt, numberAt-split, numberAt-bigEndian, numberAt-here, numberAt-past, bigEndian-numberAt}
+use Rattle.archive.specs.OutcomeLaws.{map-map}
 use Rattle.archive.specs.StepLaws.{readFrom, whole-long, read-none, read-broken, read-whole}
 
 -- ---- a record that was written
@@ -191,12 +191,6 @@ map-same (answered a) = refl
 map-same (refusedAt n place) = refl
 map-same (refusedBy n) = refl
 
-map-twice : {A B C : Type 0} (f : B → C) (g : A → B) (o : Outcome A) → mapOutcome f (mapOutcome g o) ≡ mapOutcome (λ a. f (g a)) o
-unfolding mapOutcome
-map-twice f g (answered a) = refl
-map-twice f g (refusedAt n place) = refl
-map-twice f g (refusedBy n) = refl
-
 no-bytes : (bytes : List ℕ) → length bytes ≡ 0 → bytes ≡ []
 no-bytes [] e = refl
 no-bytes (b ∷ bytes) e = absurd (omega arith)
@@ -242,7 +236,7 @@ read-append (r ∷ rs) place file behind e =
     read-whole place (file ++ behind) (whole-front file behind (c .0))
     ∙ ap₂ (λ (s : Record) (l : List ℕ). mapOutcome (λ ss. s ∷ ss) (readFrom (suc place) l)) (record-front file behind (c .0) ∙ c .1) (drop-append-le 24 file behind l)
     ∙ ap (mapOutcome (λ (ss : List Record). r ∷ ss)) (read-append rs (suc place) (drop 24 file) behind (c .2))
-    ∙ map-twice (λ (ss : List Record). r ∷ ss) (λ (ss : List Record). rs ++ ss) (readFrom (suc place + length rs) behind)
+    ∙ map-map (λ (ss : List Record). r ∷ ss) (λ (ss : List Record). rs ++ ss) (readFrom (suc place + length rs) behind)
     ∙ ap (λ (p : ℕ). mapOutcome (λ (ss : List Record). r ∷ rs ++ ss) (readFrom p behind)) far
 
 -- one record
@@ -316,24 +310,6 @@ pub one-reading : (rs ss : List Record) → AllInRange rs → AllInRange ss → 
 one-reading rs ss f g e = let a = file-reads-back rs f in let b = file-reads-back ss g in cc
 
 -- ---- what `write_record` leaves
-
--- numbers that there is room for, zeros behind
-pub padded-room : (ns : List ℕ) (count : ℕ) → length ns ≤ count → padded ns count ≡ ns ++ replicate (count - length ns) 0
-padded-room ns count h =
-    let zeros : List ℕ = replicate (count - length ns) 0 in
-    let long : length (ns ++ replicate (count - length ns) 0) ≡ count = simp (length-append, length-replicate) (omega arith) in
-    let p = length-padded ns count in
-    ext-getD 0 (padded ns count) (ns ++ zeros) (p ∙ sym long)
-    (λ i l. let less : i < count = omega arith in getD-padded ns count i less ∙ go i less (decLt i (length ns)))
-  where
-    go : (i : ℕ) → i < count → Dec (i < length ns) → getD ns i 0 ≡ getD (ns ++ replicate (count - length ns) 0) i 0
-    go i l (yes k) = sym (List·getD-append ns (replicate (count - length ns) 0) 0 i k)
-    go i l (no k) =
-        let e : i ≡ length ns + (i - length ns) = omega arith in
-        List·getD-eq-default ns 0 (omega arith)
-        ∙ sym (ap (λ (p : ℕ). getD (ns ++ replicate (count - length ns) 0) p 0) e
-        ∙ getD-append-add ns (replicate (count - length ns) 0) (i - length ns) 0
-        ∙ getD-replicate (count - length ns) (i - length ns) 0 0 (omega arith))
 
 module _ (r : Record) (old new : List ℕ) (n : ℕ) (written : LeavesOutcome (writeRecord r (length old)) old new n) where
   -- the two ways that it ends

@@ -11,3 +11,4 @@ pub mod BrokenLaws
 pub mod CurrentLaws
 pub mod AppendLaws
 pub mod Theorems
+pub mod Examples

@@ -67,6 +67,13 @@ module _ {A B : Type 0} where
       (λ e. absurd (refusedAt-refusedBy m place n e), λ r. absurd (answered-refusedAt (r .0) m place (sym (r .1))))
   bind-refusedBy (refusedBy m) f n new = (λ e. absurd (new (cc)), λ r. absurd (answered-refusedBy (r .0) m (sym (r .1))))
 
+-- one function after another
+pub map-map : {A B C : Type 0} (f : B → C) (g : A → B) (o : Outcome A) → mapOutcome f (mapOutcome g o) ≡ mapOutcome (λ a. f (g a)) o
+unfolding mapOutcome
+map-map f g (answered a) = refl
+map-map f g (refusedAt n place) = refl
+map-map f g (refusedBy n) = refl
+
 -- ---- a record, or 14
 
 -- it is the record that is there,

@@ -1,8 +1,7 @@
 -- Definitions for the theorems: the file of a list of records; a broken record, and the current record of an id, in words; and which numbers bytes and fields have.
 -- What stands in quotation marks is 02's, of request 1. Assumes nothing.
 use mathlib.Core.Path.{_≡_}
-use mathlib.Core.Bool.{So}
-use mathlib.Core.List.{List, [], _∷_, flatMap, List·Memᴰ as Mem}
+use mathlib.Core.List.{List, flatMap, List·Memᴰ as Mem}
 use mathlib.Core.Option.{some}
 use mathlib.Core.Logic.{_⊎_}
 use Prim.Native.Nat.{ℕ, _+_, _*_, _^_, _≤_, _<_}

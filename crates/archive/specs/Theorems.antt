@@ -7,7 +7,7 @@ use mathlib.Core.List.{List, [], _∷_, _++_, List·Memᴰ as Mem}
 use Prim.Native.Nat.{ℕ, _-_, _≤_, _<_}
 use lib.ListN.{length, take, replicate}
 use Rattle.archive.specs.declared.Record.{Record}
-use Rattle.archive.specs.Archive.{Outcome, answered, refusedAt, refusedBy, LeavesOutcome, numberAt, countOf, recordBytes, recordSize, recordIn, recordsOf, countRecords, recordAt, currentRecord, writeRecord}
+use Rattle.archive.specs.Archive.{answered, refusedAt, refusedBy, LeavesOutcome, numberAt, countOf, recordBytes, recordSize, recordIn, recordsOf, countRecords, recordAt, currentRecord, writeRecord}
 use Rattle.archive.specs.Records.{archiveOf, AreBytes, InRange, AllInRange, Begins, IsBroken, IsCurrent, NotBelow}
 use Rattle.archive.specs.FileLaws as File
 use Rattle.archive.specs.BrokenLaws as Broken

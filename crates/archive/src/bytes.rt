@@ -1,7 +1,7 @@
 // Records in the bytes of a file. Private helpers; they ask that a place is in the file.
 use crate::Record;
 ghost use mathlib.Core.Path.{_≡_};
-ghost use Prim.Native.Nat.{_+_, _≤_};
+ghost use Prim.Native.Nat.{_+_, _*_, _≤_};
 ghost use lib.ListN.{length, drop};
 ghost use Rattle.archive.specs.Archive.{numberAt, recordIn, isWhole};
 
@@ -19,12 +19,19 @@ pub fn is_whole(file: &[u8], at: usize) -> bool
     file[at + 1] == b'Y'
 }
 
-// The number in two bytes, highest byte first.
+// The number of two bytes, the higher one first.
+fn pair_of(high: u8, low: u8) -> u16
+    ensures { λ r. ⌜ r ≡ high * 256 + low ⌝ }
+{
+    (high as u16) * 256 + (low as u16)
+}
+
+// The number in two bytes.
 fn pair_from(file: &[u8], at: usize) -> u16
     requires { ⌜ at + 2 ≤ length (now file) ⌝ }
     ensures { λ r. ⌜ r ≡ numberAt (now (file .entry)) at 2 ⌝ }
 {
-    (file[at] as u16) * 256 + (file[at + 1] as u16)
+    pair_of(file[at], file[at + 1])
 }
 
 // The number in eight bytes, highest byte first.

@@ -3,7 +3,7 @@
 use mathlib.Core.Path.{_≡_, refl, sym, ap, ap₂, _∙_, subst}
 use mathlib.Core.Bool.{Bool, true, false, So, _&&_, _||_, and-false, or-true, false≢true}
 use mathlib.Core.List.{List, [], _∷_, _++_, flatMap}
-use Prim.Native.Nat.{ℕ, zero, suc, _+_, _*_, _≤_, _<_}
+use Prim.Native.Nat.{ℕ, zero, suc, _+_, _-_, _*_, _≤_, _<_}
 use native.Mathlib.Nat.{add-zero, zero-add, mul-zero, mul-suc}
 use native.Mathlib.Numerals.{add-one}
 use native.Mathlib.Decide.{ℕ-discrete, decLt}
@@ -210,6 +210,24 @@ padded-none count k = go (decLt k count)
     go : Dec (k < count) → getD (padded [] count) k 0 ≡ 0
     go (yes h) = getD-padded [] count k h
     go (no h) = List·getD-eq-default (padded [] count) 0 (omega (arith, length-padded [] count))
+
+-- numbers that there is room for, zeros behind
+pub padded-room : (ns : List ℕ) (count : ℕ) → length ns ≤ count → padded ns count ≡ ns ++ replicate (count - length ns) 0
+padded-room ns count h =
+    let zeros : List ℕ = replicate (count - length ns) 0 in
+    let long : length (ns ++ replicate (count - length ns) 0) ≡ count = simp (length-append, length-replicate) (omega arith) in
+    let p = length-padded ns count in
+    ext-getD 0 (padded ns count) (ns ++ zeros) (p ∙ sym long)
+    (λ i l. let less : i < count = omega arith in getD-padded ns count i less ∙ go i less (decLt i (length ns)))
+  where
+    go : (i : ℕ) → i < count → Dec (i < length ns) → getD ns i 0 ≡ getD (ns ++ replicate (count - length ns) 0) i 0
+    go i l (yes k) = sym (List·getD-append ns (replicate (count - length ns) 0) 0 i k)
+    go i l (no k) =
+        let e : i ≡ length ns + (i - length ns) = omega arith in
+        List·getD-eq-default ns 0 (omega arith)
+        ∙ sym (ap (λ (p : ℕ). getD (ns ++ replicate (count - length ns) 0) p 0) e
+        ∙ getD-append-add ns (replicate (count - length ns) 0) (i - length ns) 0
+        ∙ getD-replicate (count - length ns) (i - length ns) 0 0 (omega arith))
 
 -- a loop that writes numbers into lent words in order, from the first word to the last: before it,
 pub padded-start : (f : ℕ → ℕ) (ws : List ℕ) → Filled 0 f (λ k. getD ws k 0) (length ws) 0 ws

@@ -1,11 +1,9 @@
--- What is told of an outcome and left in a host's words: values, places and refusals; and answers of too few words. Rests on `Calls`, archive's `Archive` and cells'
--- `ArrayLaws`. Assumes nothing.
-use mathlib.Core.Path.{_≡_, refl, sym, ap, _∙_, subst}
+-- What is told of an outcome and left in a host's words: values, places and refusals, and the calls. Rests on `Calls`, `CallLaws`, archive's `Archive` and cells' `ArrayLaws`.
+-- Assumes nothing.
+use mathlib.Core.Path.{_≡_, refl, sym, ap, _∙_}
 use mathlib.Core.List.{List, [], _∷_}
 use Prim.Native.Nat.{ℕ, zero, suc, _≤_, _<_}
-use native.Mathlib.Omega.{arith}
 use lib.ListN.{length, getD}
-use borrow.Author.Tests.{le-leb, lt-leb}
 use Rattle.cells.specs.ArrayLaws.{listOf-ext}
 use Rattle.cells.specs.Lists.{padded}
 use Rattle.refusal.specs.declared.Refusal.{Refusal}
@@ -18,7 +16,8 @@ use Rattle.archive.specs.declared.RecordCount.the-variants as Counts
 use Rattle.archive.specs.declared.FoundRecord.{FoundRecord}
 use Rattle.archive.specs.declared.FoundRecord.the-variants as Found
 use Rattle.archive.specs.Archive.{Outcome, answered, refusedAt, refusedBy, mapOutcome, outcomeNumber, handedBack, LeavesOutcome, countRecords, recordAt, currentRecord, countAnswer, recordAnswer}
-use Rattle.host_records.specs.Calls.{recordWords, unlessShort, recordsCounted, recordFound, currentFound}
+use Rattle.host_records.specs.Calls.{recordWords, recordsCounted, recordFound, currentFound}
+use Rattle.host_records.specs.CallLaws.{leaves-as, unless-short, unless-enough}
 
 -- ---- one word
 
@@ -49,21 +48,6 @@ module _ (old new : List ℕ) where
   pub leaves-refusal : (q : Refusal) (r : ℕ) → r ≡ refusalNumber q → new ≡ padded (0 ∷ []) (length old) → LeavesOutcome (refusedBy (refusalNumber q)) old new r
   unfolding outcomeNumber handedBack
   leaves-refusal q r n e = record { number = n; words = e ∙ word-zero (length old) }
-
-  -- an outcome by what it is
-  pub leaves-as : (a b : Outcome (List ℕ)) (r : ℕ) → a ≡ b → LeavesOutcome a old new r → LeavesOutcome b old new r
-  leaves-as a b r e = subst (λ (o : Outcome (List ℕ)). LeavesOutcome o old new r) e
-
--- ---- answers of too few words
-
-module _ {A : Type 0} (needed words : ℕ) (a : Outcome A) where
-  pub unless-short : words < needed → refusedBy 8 ≡ unlessShort needed words a
-  unfolding unlessShort
-  unless-short h = rw (lt-leb needed words h)
-
-  pub unless-enough : needed ≤ words → a ≡ unlessShort needed words a
-  unfolding unlessShort
-  unless-enough h = rw (le-leb needed words h)
 
 -- ---- a record, or why there is none
 

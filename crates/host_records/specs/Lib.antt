@@ -1,2 +1,3 @@
--- The calls of the archive over a host's words. `Calls` is what a reader must believe.
+-- The calls of the archive over a host's words. `Calls` is what a reader must believe; the rest are laws.
 pub mod Calls
+pub mod CallLaws

@@ -8,7 +8,7 @@ ghost use lib.ListN.{length, getD};
 ghost use Rattle.cells.specs.Lists.{padded};
 ghost use Rattle.refusal.specs.Refusal.{refusalNumber};
 ghost use Rattle.archive.specs.Archive.{LeavesOutcome, answered, refusedAt, refusedBy, mapOutcome, recordAnswer};
-ghost use Rattle.host_records.specs.Calls.{recordFor, recordWords};
+ghost use Rattle.host_records.specs.Calls.{recordWords};
 
 // Word i of a record, 0 behind them.
 fn word_of(record: Record, i: usize) -> u64

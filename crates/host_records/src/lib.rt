@@ -1,7 +1,6 @@
 // The calls of the archive over a host's words: one record written, a file's records counted, the
 // record at a place, and the record of a plot id that counts. Each reading call tests the number of its
 // answer words and then hands on what the call of `archive` answers; nothing is asked of a caller.
-use archive::FoundRecord;
 use archive::Record;
 use archive::RecordCount;
 use refusal::Refusal;

@@ -1,4 +1,4 @@
--- What the exported functions mean for a host. `Theorems` is the page to read; `Examples` computes small inputs and shows that its conditions can be met, and
+-- What the exported functions mean for a host. `Theorems` is the page to read, and `RecordTheorems` that of the archive's functions; `Examples` computes small inputs and shows that its conditions can be met, and
 -- `WordExamples` has the words and bytes of a host, place by place. The others hold laws.
 pub mod ReturnLaws
 pub mod RefusedLaws
@@ -8,3 +8,5 @@ pub mod CuttingLaws
 pub mod Theorems
 pub mod Examples
 pub mod WordExamples
+pub mod RecordLaws
+pub mod RecordTheorems

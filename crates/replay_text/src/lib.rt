@@ -1,5 +1,6 @@
-// What the programs replay_boards, replay_counts and replay_plots share: the lines of standard input
-// (lines), what a line holds (text), the parts of an answer (write) and a look at lent words (words).
+// What the programs replay_boards, replay_counts, replay_plots and replay_records share: the lines of
+// standard input (lines), what a line holds (text), the parts of an answer (write) and a look at lent
+// words (words).
 //
 // No function asks anything of its input: an index past the end finds nothing, and a text that is not
 // understood has a value that says so. Nothing is proved here but that every call is safe and ends, and

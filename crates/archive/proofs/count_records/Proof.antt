@@ -9,9 +9,6 @@ use Rattle.archive.proofs.ReadingLaws.{Ahead, ahead-broken, ahead-long,
 use borrow.Author.Needs.{needs}
 use Rattle.archive.proofs.count_records.Statement.{statement}
 use Rattle.archive.proofs.count_records.Tie as tie
-use Rattle.archive.proofs.count_records.Reads as reads
-use Rattle.archive.proofs.count_records.Lts as lts
-use Rattle.archive.proofs.bytes.is_whole.Reads as is-whole-reads
 
 abbrev Inv-loop : tie.InvT-loop
 Inv-loop file place₀ at₀ place at = Ahead file (countRecords file) (toCount file place) place at
@@ -32,12 +29,6 @@ returns c = let l = c .before .before .before .loop in
 add-at : tie.Need-add-at Inv-loop μ-loop
 add-at c = let long = ahead-long _ _ _ _ _ (c .before .before .before .loop .inv) (sym (c .before .is-whole .ensures) ∙ not-false _ (c .if1 .left)) in search needs
 
-add-place : tie.Need-add-place Inv-loop μ-loop
-add-place c = search needs
-
-loop-less : tie.Need-loop-less Inv-loop μ-loop
-loop-less c = search needs
-
 loop-again : tie.Need-loop-again Inv-loop μ-loop
 loop-again c = count-step _ _ _ (c .before .before .before .loop .inv) (sym (c .before .is-whole .ensures) ∙ not-false _ (c .if1 .left))
 
@@ -54,7 +45,7 @@ count-records-spec =
     is-whole-requires
     returns
     add-at
-    add-place
-    loop-less
+    (λ c. search needs)
+    (λ c. search needs)
     loop-again
     returns-2)

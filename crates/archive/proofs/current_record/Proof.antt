@@ -10,12 +10,6 @@ use Rattle.archive.proofs.ReadingLaws.{Ahead, ahead-broken, ahead-long,
 use borrow.Author.Needs.{needs}
 use Rattle.archive.proofs.current_record.Statement.{statement}
 use Rattle.archive.proofs.current_record.Tie as tie
-use Rattle.archive.proofs.current_record.Reads as reads
-use Rattle.archive.proofs.current_record.Lts as lts
-use Rattle.archive.proofs.bytes.is_whole.Reads as is-whole-reads
-use Rattle.archive.proofs.bytes.record_from.Reads as record-from-reads
-use Rattle.archive.proofs.newest.current_of.Reads as current-of-reads
-use Rattle.archive.proofs.newest.told.Reads as told-reads
 
 abbrev Inv-loop : tie.InvT-loop
 Inv-loop file id current₀ place₀ at₀ current place at = Ahead file (currentRecord file id) (toCompare file id (newestOf current)) place at
@@ -36,23 +30,11 @@ returns c = let l = c .before .before .before .loop in
 record-from-requires : tie.Need-record-from-requires Inv-loop μ-loop
 record-from-requires c κs = ahead-long _ _ _ _ _ (c .before .before .before .loop .inv) (sym (c .before .is-whole .ensures) ∙ not-false _ (c .if1 .left))
 
-current-of-requires : tie.Need-current-of-requires Inv-loop μ-loop
-current-of-requires c κs = search needs
-
 add-at : tie.Need-add-at Inv-loop μ-loop
 add-at c = let long = ahead-long _ _ _ _ _ (c .before .before .before .before .before .loop .inv) (sym (c .before .before .before .is-whole .ensures) ∙ not-false _ (c .before .before .if1 .left)) in search needs
 
-add-place : tie.Need-add-place Inv-loop μ-loop
-add-place c = search needs
-
-loop-less : tie.Need-loop-less Inv-loop μ-loop
-loop-less c = search needs
-
 loop-again : tie.Need-loop-again Inv-loop μ-loop
 loop-again c = current-step _ _ _ _ _ (c .before .before .before .before .before .loop .inv) _ _ (c .before .record-from .ensures) (c .current-of .ensures) (sym (c .before .before .before .is-whole .ensures) ∙ not-false _ (c .before .before .if1 .left))
-
-told-requires : tie.Need-told-requires Inv-loop μ-loop
-told-requires c κs = search needs
 
 returns-2 : tie.Need-returns-2 Inv-loop μ-loop
 returns-2 c = current-end _ _ _ _ _ (c .before .before .loop .inv) (c .before .loop-test .left) _ (c .told .ensures)
@@ -67,10 +49,10 @@ current-record-spec =
     is-whole-requires
     returns
     record-from-requires
-    current-of-requires
+    (λ c κs. search needs)
     add-at
-    add-place
-    loop-less
+    (λ c. search needs)
+    (λ c. search needs)
     loop-again
-    told-requires
+    (λ c κs. search needs)
     returns-2)

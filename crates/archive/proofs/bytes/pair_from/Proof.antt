@@ -1,47 +1,20 @@
--- `archive::bytes::pair_from` meets its contract: two bytes below 256.
+-- `archive::bytes::pair_from` meets its contract: two bytes from a place on.
 -- Assumes nothing.
-use Prim.Native.Nat.{_+_}
-use native.Mathlib.Omega.{arith}
+use mathlib.Core.Path.{_∙_}
 use Rattle.archive.proofs.InputLaws.{pair-read}
 use borrow.Author.Needs.{needs}
 use Rattle.archive.proofs.bytes.pair_from.Statement.{statement}
 use Rattle.archive.proofs.bytes.pair_from.Tie as tie
-use Rattle.archive.proofs.bytes.pair_from.Reads as reads
-use Rattle.archive.proofs.bytes.pair_from.Lts as lts
-
-shared-slice-read-result : tie.Need-shared-slice-read-result
-shared-slice-read-result c = search needs
-
-cast-result : tie.Need-cast-result
-cast-result c = omega (arith, c .shared-slice-known .given (c .before .args .at))
-
-mul-result : tie.Need-mul-result
-mul-result c = omega (arith, c .shared-slice-known .given (c .before .args .at))
-
-add-result : tie.Need-add-result
-add-result c = search needs
-
-shared-slice-read-result-2 : tie.Need-shared-slice-read-result-2
-shared-slice-read-result-2 c = search needs
-
-cast-result-2 : tie.Need-cast-result-2
-cast-result-2 c = omega (arith, c .shared-slice-known2 .given (c .before .before .args .at + 1))
-
-add-result-2 : tie.Need-add-result-2
-add-result-2 c = omega (arith, c .shared-slice-known2 .given (c .before .before .args .at), c .shared-slice-known2 .given (c .before .before .args .at + 1))
 
 returns : tie.Need-returns
-returns c = pair-read (c .before .before .args .file .now) (c .before .before .args .at)
+returns c = c .pair-of .ensures ∙ pair-read (c .before .before .before .before .args .file .now) (c .before .before .before .before .args .at)
 
 pub pair-from-spec : {M : Type 1} → statement M
 pair-from-spec =
     tie.close
     (tie.spec
-    shared-slice-read-result
-    cast-result
-    mul-result
-    add-result
-    shared-slice-read-result-2
-    cast-result-2
-    add-result-2
+    (λ c. search needs)
+    (λ c. search needs)
+    (λ c. search needs)
+    (λ c κs. search needs)
     returns)

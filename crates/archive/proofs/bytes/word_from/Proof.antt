@@ -8,8 +8,6 @@ use Rattle.archive.proofs.InputLaws.{number-more, number-room, word-roo
 use borrow.Author.Needs.{needs}
 use Rattle.archive.proofs.bytes.word_from.Statement.{statement}
 use Rattle.archive.proofs.bytes.word_from.Tie as tie
-use Rattle.archive.proofs.bytes.word_from.Reads as reads
-use Rattle.archive.proofs.bytes.word_from.Lts as lts
 
 abbrev Inv-loop : tie.InvT-loop
 Inv-loop file at word₀ i₀ word i = (word ≡ numberAt file at i) × (word < 2 ^ (8 * i)) × (i ≤ 8)
@@ -23,23 +21,11 @@ loop-holds c = none-read (c .args .file .now) (c .args .at)
 mul-word : tie.Need-mul-word Inv-loop μ-loop
 mul-word c = let e = word-room (c .before .loop .i) (c .before .loop .word) 0 (c .before .loop .inv .1) (omega arith) (omega arith) in omega (arith, e)
 
-add-word : tie.Need-add-word Inv-loop μ-loop
-add-word c = search needs
-
-shared-slice-read-word : tie.Need-shared-slice-read-word Inv-loop μ-loop
-shared-slice-read-word c = search needs
-
 cast-word : tie.Need-cast-word Inv-loop μ-loop
 cast-word c = omega (arith, c .shared-slice-known .given (c .before .before .before .args .at + c .before .before .loop .i))
 
 add-word-2 : tie.Need-add-word-2 Inv-loop μ-loop
 add-word-2 c = let s = c .before .before .loop in record { fits = word-room (s .i) (s .word) _ (s .inv .1) (c .shared-slice-known .given (c .before .before .before .args .at + s .i) .fits) (omega arith) }
-
-add-i : tie.Need-add-i Inv-loop μ-loop
-add-i c = search needs
-
-loop-less : tie.Need-loop-less Inv-loop μ-loop
-loop-less c = search needs
 
 loop-again : tie.Need-loop-again Inv-loop μ-loop
 loop-again c = let s = c .before .before .loop in let e = c .before .before .before in (number-more (e .args .file .now) (e .args .at) (s .i) (s .word) (s .inv .0), number-room (s .i) (s .word) _ (s .inv .1) (c .shared-slice-known .given (e .args .at + s .i) .fits), omega arith)
@@ -55,11 +41,11 @@ word-from-spec =
     μ-loop
     loop-holds
     mul-word
-    add-word
-    shared-slice-read-word
+    (λ c. search needs)
+    (λ c. search needs)
     cast-word
     add-word-2
-    add-i
-    loop-less
+    (λ c. search needs)
+    (λ c. search needs)
     loop-again
     returns)

@@ -5,21 +5,9 @@ use Rattle.archive.proofs.ReadingLaws.{current-other, current-first, cu
 use borrow.Author.Needs.{needs}
 use Rattle.archive.proofs.newest.current_of.Statement.{statement}
 use Rattle.archive.proofs.newest.current_of.Tie as tie
-use Rattle.archive.proofs.newest.current_of.Reads as reads
-use Rattle.archive.proofs.newest.current_of.Lts as lts
-use Rattle.archive.proofs.newest.replaces.Reads as replaces-reads
 
 returns : tie.Need-returns
 returns c = let s = c .before .before in current-other (s .args .id) (s .args .«record») (s .args .current) (c .if1 .taken)
-
-enum-told : tie.Need-enum-told
-enum-told c = search needs
-
-enum-known-current : tie.Need-enum-known-current
-enum-known-current c = search needs
-
-replaces-requires : tie.Need-replaces-requires
-replaces-requires c κs = search needs
 
 returns-2 : tie.Need-returns-2
 returns-2 c = let m = c .before .before .before .before in current-newer _ _ _ _ (m .before .if1 .left) (c .before .before .before .current .given .1) (sym (c .before .replaces .ensures) ∙ c .if2 .taken)
@@ -33,4 +21,4 @@ returns-4 c = let m = c .before .before .before .before in current-older _ _ _ _
 pub current-of-spec : {M : Type 1} → statement M
 current-of-spec =
     tie.close
-    (tie.spec returns enum-told enum-known-current replaces-requires returns-2 returns-3 returns-4)
+    (tie.spec returns (λ c. search needs) (λ c. search needs) (λ c κs. search needs) returns-2 returns-3 returns-4)

@@ -9,8 +9,6 @@ use Rattle.cells.specs.ArrayLaws.{Filled, filled-step, padded-start, padded-end
 use borrow.Author.Needs.{needs}
 use Rattle.archive.proofs.output.clear.Statement.{statement}
 use Rattle.archive.proofs.output.clear.Tie as tie
-use Rattle.archive.proofs.output.clear.Reads as reads
-use Rattle.archive.proofs.output.clear.Lts as lts
 
 abbrev Inv-loop : tie.InvT-loop
 Inv-loop out₀ i₀ out i = Filled 0 (λ k. 0) (λ k. getD out₀ k 0) (length out₀) i out
@@ -23,9 +21,6 @@ loop-holds c = padded-start _ _
 
 slice-write-out : tie.Need-slice-write-out Inv-loop μ-loop
 slice-write-out c = omega (arith, c .before .loop .inv .long)
-
-add-i : tie.Need-add-i Inv-loop μ-loop
-add-i c = search needs
 
 loop-less : tie.Need-loop-less Inv-loop μ-loop
 loop-less c = omega (arith, c .before .loop .inv .long)
@@ -47,7 +42,7 @@ clear-spec =
     μ-loop
     loop-holds
     slice-write-out
-    add-i
+    (λ c. search needs)
     loop-less
     loop-again
     same-length

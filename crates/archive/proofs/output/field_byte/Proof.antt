@@ -6,26 +6,6 @@ use Rattle.archive.proofs.OutputLaws.{at-byte, byte-0, byte-1, byte-2, 
 use borrow.Author.Needs.{needs}
 use Rattle.archive.proofs.output.field_byte.Statement.{statement}
 use Rattle.archive.proofs.output.field_byte.Tie as tie
-use Rattle.archive.proofs.output.field_byte.Reads as reads
-use Rattle.archive.proofs.output.field_byte.Lts as lts
-
-cast-result : tie.Need-cast-result
-cast-result c = search needs
-
-cast-result-2 : tie.Need-cast-result-2
-cast-result-2 c = search needs
-
-cast-result-3 : tie.Need-cast-result-3
-cast-result-3 c = search needs
-
-cast-result-4 : tie.Need-cast-result-4
-cast-result-4 c = search needs
-
-cast-result-5 : tie.Need-cast-result-5
-cast-result-5 c = search needs
-
-cast-result-6 : tie.Need-cast-result-6
-cast-result-6 c = search needs
 
 returns : tie.Need-returns
 returns c = at-byte _ _ 0 (c .match .keys1) (byte-0 _)
@@ -55,12 +35,12 @@ pub field-byte-spec : {M : Type 1} → statement M
 field-byte-spec =
     tie.close
     (tie.spec
-    cast-result
-    cast-result-2
-    cast-result-3
-    cast-result-4
-    cast-result-5
-    cast-result-6
+    (λ c. search needs)
+    (λ c. search needs)
+    (λ c. search needs)
+    (λ c. search needs)
+    (λ c. search needs)
+    (λ c. search needs)
     returns
     returns-2
     returns-3

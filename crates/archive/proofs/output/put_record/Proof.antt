@@ -8,9 +8,6 @@ use Rattle.archive.specs.Archive.{recordBytes}
 use borrow.Author.Needs.{needs}
 use Rattle.archive.proofs.output.put_record.Statement.{statement}
 use Rattle.archive.proofs.output.put_record.Tie as tie
-use Rattle.archive.proofs.output.put_record.Reads as reads
-use Rattle.archive.proofs.output.put_record.Lts as lts
-use Rattle.archive.proofs.output.record_byte.Reads as record-byte-reads
 
 abbrev Inv-loop : tie.InvT-loop
 Inv-loop out₀ «record» i₀ out i = Filled 0 (λ k. getD (recordBytes «record») k 0) (λ k. getD out₀ k 0) (length out₀) i out
@@ -21,14 +18,8 @@ abbrev μ-loop : tie.MeasureT-loop
 loop-holds : tie.Need-loop-holds Inv-loop μ-loop
 loop-holds c = padded-start _ _
 
-record-byte-requires : tie.Need-record-byte-requires Inv-loop μ-loop
-record-byte-requires c κs = search needs
-
 slice-write-out : tie.Need-slice-write-out Inv-loop μ-loop
 slice-write-out c = omega (arith, c .before .before .loop .inv .long)
-
-add-i : tie.Need-add-i Inv-loop μ-loop
-add-i c = search needs
 
 loop-less : tie.Need-loop-less Inv-loop μ-loop
 loop-less c = omega (arith, c .before .before .loop .inv .long)
@@ -49,9 +40,9 @@ put-record-spec =
     Inv-loop
     μ-loop
     loop-holds
-    record-byte-requires
+    (λ c κs. search needs)
     slice-write-out
-    add-i
+    (λ c. search needs)
     loop-less
     loop-again
     same-length

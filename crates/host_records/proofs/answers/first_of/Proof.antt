@@ -4,14 +4,9 @@ use Rattle.host_records.proofs.AnswerLaws.{first-behind}
 use borrow.Author.Needs.{needs}
 use Rattle.host_records.proofs.answers.first_of.Statement.{statement}
 use Rattle.host_records.proofs.answers.first_of.Tie as tie
-use Rattle.host_records.proofs.answers.first_of.Reads as reads
-use Rattle.host_records.proofs.answers.first_of.Lts as lts
-
-returns : tie.Need-returns
-returns c = search needs
 
 returns-2 : tie.Need-returns-2
 returns-2 c = first-behind _ _ (c .if1 .left)
 
 pub first-of-spec : {M : Type 1} → statement M
-first-of-spec = tie.close (tie.spec returns returns-2)
+first-of-spec = tie.close (tie.spec (λ c. search needs) returns-2)

@@ -8,9 +8,6 @@ use Rattle.host_records.specs.Calls.{recordWords}
 use borrow.Author.Needs.{needs}
 use Rattle.host_records.proofs.answers.put_record.Statement.{statement}
 use Rattle.host_records.proofs.answers.put_record.Tie as tie
-use Rattle.host_records.proofs.answers.put_record.Reads as reads
-use Rattle.host_records.proofs.answers.put_record.Lts as lts
-use Rattle.host_records.proofs.answers.word_of.Reads as word-of-reads
 
 abbrev Inv-loop : tie.InvT-loop
 Inv-loop answer₀ «record» i₀ answer i = Filled 0 (λ k. getD (recordWords «record») k 0) (λ k. getD answer₀ k 0) (length answer₀) i answer
@@ -21,17 +18,8 @@ abbrev μ-loop : tie.MeasureT-loop
 loop-holds : tie.Need-loop-holds Inv-loop μ-loop
 loop-holds c = padded-start _ _
 
-word-of-requires : tie.Need-word-of-requires Inv-loop μ-loop
-word-of-requires c κs = search needs
-
-mul-answer : tie.Need-mul-answer Inv-loop μ-loop
-mul-answer c = search needs
-
 slice-write-answer : tie.Need-slice-write-answer Inv-loop μ-loop
 slice-write-answer c = omega (arith, c .before .before .loop .inv .long)
-
-add-i : tie.Need-add-i Inv-loop μ-loop
-add-i c = search needs
 
 loop-less : tie.Need-loop-less Inv-loop μ-loop
 loop-less c = omega (arith, c .before .before .loop .inv .long)
@@ -52,10 +40,10 @@ put-record-spec =
     Inv-loop
     μ-loop
     loop-holds
-    word-of-requires
-    mul-answer
+    (λ c κs. search needs)
+    (λ c. search needs)
     slice-write-answer
-    add-i
+    (λ c. search needs)
     loop-less
     loop-again
     same-length

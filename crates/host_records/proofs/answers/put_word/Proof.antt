@@ -8,9 +8,6 @@ use Rattle.cells.specs.ArrayLaws.{Filled, filled-step, padded-start, padded-end
 use borrow.Author.Needs.{needs}
 use Rattle.host_records.proofs.answers.put_word.Statement.{statement}
 use Rattle.host_records.proofs.answers.put_word.Tie as tie
-use Rattle.host_records.proofs.answers.put_word.Reads as reads
-use Rattle.host_records.proofs.answers.put_word.Lts as lts
-use Rattle.host_records.proofs.answers.first_of.Reads as first-of-reads
 
 abbrev Inv-loop : tie.InvT-loop
 Inv-loop answer₀ word i₀ answer i = Filled 0 (λ k. getD (word ∷ []) k 0) (λ k. getD answer₀ k 0) (length answer₀) i answer
@@ -21,17 +18,8 @@ abbrev μ-loop : tie.MeasureT-loop
 loop-holds : tie.Need-loop-holds Inv-loop μ-loop
 loop-holds c = padded-start _ _
 
-first-of-requires : tie.Need-first-of-requires Inv-loop μ-loop
-first-of-requires c κs = search needs
-
-mul-answer : tie.Need-mul-answer Inv-loop μ-loop
-mul-answer c = search needs
-
 slice-write-answer : tie.Need-slice-write-answer Inv-loop μ-loop
 slice-write-answer c = omega (arith, c .before .before .loop .inv .long)
-
-add-i : tie.Need-add-i Inv-loop μ-loop
-add-i c = search needs
 
 loop-less : tie.Need-loop-less Inv-loop μ-loop
 loop-less c = omega (arith, c .before .before .loop .inv .long)
@@ -52,10 +40,10 @@ put-word-spec =
     Inv-loop
     μ-loop
     loop-holds
-    first-of-requires
-    mul-answer
+    (λ c κs. search needs)
+    (λ c. search needs)
     slice-write-answer
-    add-i
+    (λ c. search needs)
     loop-less
     loop-again
     same-length
