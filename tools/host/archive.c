@@ -7,8 +7,8 @@
    `add` makes FILE if there is none, and leaves one with a broken record as it is. COUNT is below 2^128.
    A record is printed as `PLACE: id ID year YEAR revision REVISION count COUNT`, by `current` without
    the place; a broken file as `refused 13 at PLACE`, an ID without a record as `refused 14`. Exit
-   status: 0, also where something is refused; 1, the file cannot be read or written or there is no
-   memory; 2, bad usage. */
+   status: 0; 1, the file cannot be read or written or there is no memory; 2, bad usage; 3, something
+   is refused. */
 #define PROGRAM "archive"
 #include "files.h"
 
@@ -72,6 +72,8 @@ static void print_record(const uint64_t *record)
     print_count(record[3], record[4]);
 }
 
+static int status = 0;
+
 /* Prints a refusal; the first word is the place of a broken record. Whether it is one. */
 static int is_refused(uint64_t refusal, const uint64_t *answer)
 {
@@ -79,6 +81,8 @@ static int is_refused(uint64_t refusal, const uint64_t *answer)
         printf("refused 13 at %" PRIu64 "\n", answer[0]);
     else if (refusal)
         printf("refused %" PRIu64 "\n", refusal);
+    if (refusal)
+        status = 3;
     return refusal != 0;
 }
 
@@ -139,5 +143,5 @@ int main(int count, char **arguments)
         current(arguments[2], arguments[3]);
     else
         stop(2, "usage: archive add FILE ID YEAR REVISION COUNT | list FILE | current FILE ID");
-    return 0;
+    return status;
 }

@@ -11,7 +11,7 @@ use lib.Seq.{getD-append-add}
 use borrow.Author.Tests.{le-leb, lt-leb}
 use Rattle.cells.specs.Lists.{padded, ascii}
 use Rattle.archive.specs.declared.Record.{Record}
-use Rattle.archive.specs.Archive.{bigEndian, countOf, recordBytes, Outcome, answered, refusedBy, outcomeNumber, handedBack, LeavesOutcome, writeRecord}
+use Rattle.archive.specs.Archive.{bigEndian, countHeld, recordBytes, Outcome, answered, refusedBy, outcomeNumber, handedBack, LeavesOutcome, writeRecord}
 use Rattle.archive.specs.ByteLaws.{length-bigEndian, getD-bigEndian, count-bytes}
 
 -- ---- the mark and the fields of two bytes
@@ -68,9 +68,9 @@ unfolding front bigEndian ascii
 front-length r = refl
 
 -- the bytes of the count
-count-byte : (r : Record) (j : ℕ) → getD (recordBytes r) (8 + j) 0 ≡ getD (bigEndian 16 (countOf r)) j 0
+count-byte : (r : Record) (j : ℕ) → getD (recordBytes r) (8 + j) 0 ≡ getD (bigEndian 16 (countHeld r)) j 0
 unfolding recordBytes front
-count-byte r j = ap (λ (k : ℕ). getD (recordBytes r) (k + j) 0) (sym (front-length r)) ∙ getD-append-add (front r) (bigEndian 16 (countOf r)) j 0
+count-byte r j = ap (λ (k : ℕ). getD (recordBytes r) (k + j) 0) (sym (front-length r)) ∙ getD-append-add (front r) (bigEndian 16 (countHeld r)) j 0
 
 module _ (r : Record) (small : r .low < 2 ^ 64) where
   count-high : (j : ℕ) → j < 8 → getD (recordBytes r) (8 + j) 0 ≡ r .high / 256 ^ (7 - j) % 256
@@ -106,7 +106,7 @@ module _ (r : Record) (small : r .low < 2 ^ 64) where
 pub byte-behind : (r : Record) (i : ℕ) → 24 ≤ i → 0 ≡ getD (recordBytes r) i 0
 byte-behind r i h =
     let e : 8 + (i - 8) ≡ i = omega arith in
-    sym (List·getD-eq-default (bigEndian 16 (countOf r)) 0 (omega (arith, length-bigEndian 16 (countOf r))))
+    sym (List·getD-eq-default (bigEndian 16 (countHeld r)) 0 (omega (arith, length-bigEndian 16 (countHeld r))))
     ∙ sym (count-byte r (i - 8)) ∙ ap (λ (k : ℕ). getD (recordBytes r) k 0) e
 
 -- ---- the call

@@ -17,7 +17,7 @@ use Rattle.archive.specs.declared.RecordCount.the-variants as Counts
 use Rattle.archive.specs.declared.newest.Newest.{Newest}
 use Rattle.archive.specs.declared.newest.Newest.the-variants as N
 use Rattle.archive.specs.Inner.{newestOf}
-use Rattle.archive.specs.Archive.{Outcome, answered, refusedAt, refusedBy, mapOutcome, bindOutcome, orAbsent, recordIn, isWhole, recordsOf, replaces, currentOf, currentAmong, countRecords, recordAt, currentRecord, countAnswer}
+use Rattle.archive.specs.Archive.{Outcome, answered, refusedAt, refusedBy, mapOutcome, bindOutcome, orAbsent, recordIn, isWhole, recordsOf, replaces, currentOf, currentAmong, countRecords, recordAt, currentRecord, recordCountAnswer}
 use Rattle.archive.specs.OutcomeLaws.{answered-inj, answered-refusedAt, answered-refusedBy}
 use Rattle.archive.specs.FileLaws.{read-cons}
 use Rattle.archive.specs.BrokenLaws.{count-refused, record-refused, record-absent}
@@ -200,10 +200,10 @@ counted-read (refusedAt m place) n e = absurd (answered-refusedAt n m place e)
 counted-read (refusedBy m) n e = absurd (answered-refusedBy n m e)
 
 module _ (file : List ℕ) (p : ℕ) where
-  module _ (count : RecordCount) (n : ℕ) (is : count ≡ Counts.Number n) (told : countAnswer count ≡ countRecords file) where
+  module _ (count : RecordCount) (n : ℕ) (is : count ≡ Counts.Number n) (told : recordCountAnswer count ≡ countRecords file) where
     read : (rs : List Record) × (recordsOf file ≡ answered rs) × (n ≡ length rs)
     unfolding countRecords
-    read = counted-read (recordsOf file) n (ap countAnswer (sym is) ∙ told)
+    read = counted-read (recordsOf file) n (ap recordCountAnswer (sym is) ∙ told)
 
     pub found-long : p < n → 24 * p + 24 ≤ length file
     unfolding recordsOf
@@ -218,5 +218,5 @@ module _ (file : List ℕ) (p : ℕ) where
     pub found-none : n ≤ p → refusedBy 14 ≡ recordAt file p
     found-none h = sym (record-absent file p .1 (read .0, read .1, omega (arith, read .2)))
 
-  pub found-broken : (count : RecordCount) (place : ℕ) → count ≡ Counts.Broken place → countAnswer count ≡ countRecords file → refusedAt 13 place ≡ recordAt file p
-  found-broken count place is told = sym (record-refused file p place .1 (count-refused file place .0 (sym (ap countAnswer (sym is) ∙ told))))
+  pub found-broken : (count : RecordCount) (place : ℕ) → count ≡ Counts.Broken place → recordCountAnswer count ≡ countRecords file → refusedAt 13 place ≡ recordAt file p
+  found-broken count place is told = sym (record-refused file p place .1 (count-refused file place .0 (sym (ap recordCountAnswer (sym is) ∙ told))))

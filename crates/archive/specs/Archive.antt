@@ -30,14 +30,14 @@ numberAt bytes at (suc k) = numberAt bytes at k * 256 + getD bytes (at + k) 0
 -- ---- a record: "mark TY, plot id (2 bytes), survey year (2), revision (2), count (16 bytes, taken and given by the calls as two 64-bit words, low word first)"
 
 -- the count of a record
-unfoldable pub countOf : Record → ℕ
+unfoldable pub countHeld : Record → ℕ
 unfolding value
-countOf r = value (r .low ∷ r .high ∷ [])
+countHeld r = value (r .low ∷ r .high ∷ [])
 
 -- its bytes
 unfoldable pub recordBytes : Record → List ℕ
-unfolding ascii bigEndian countOf
-recordBytes r = ascii "TY" ++ bigEndian 2 (r .id) ++ bigEndian 2 (r .year) ++ bigEndian 2 (r .revision) ++ bigEndian 16 (countOf r)
+unfolding ascii bigEndian countHeld
+recordBytes r = ascii "TY" ++ bigEndian 2 (r .id) ++ bigEndian 2 (r .year) ++ bigEndian 2 (r .revision) ++ bigEndian 16 (countHeld r)
 
 -- how many these are
 abbrev pub recordSize : ℕ
@@ -155,9 +155,9 @@ writeRecord r room = cond (leb recordSize room) (answered (recordBytes r)) (refu
 -- ---- the answers of the code
 
 -- a number of records, or 13 with the place
-abbrev pub countAnswer : RecordCount → Outcome ℕ
-countAnswer (Counts.Number n) = answered n
-countAnswer (Counts.Broken place) = refusedAt 13 place
+abbrev pub recordCountAnswer : RecordCount → Outcome ℕ
+recordCountAnswer (Counts.Number n) = answered n
+recordCountAnswer (Counts.Broken place) = refusedAt 13 place
 
 -- a record, 13 with the place, or 14
 abbrev pub recordAnswer : FoundRecord → Outcome Record

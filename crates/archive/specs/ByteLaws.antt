@@ -14,7 +14,7 @@ use lib.ListN.{length, getD, take, drop, length-append, length-drop, List·getD-
 use lib.Seq.{getD-at, getD-append-add, getD-drop, take-suc}
 use Rattle.cells.specs.Set.{value}
 use Rattle.archive.specs.declared.Record.{Record}
-use Rattle.archive.specs.Archive.{bigEndian, numberAt, countOf}
+use Rattle.archive.specs.Archive.{bigEndian, numberAt, countHeld}
 use Rattle.archive.specs.Records.{AreBytes}
 
 -- ---- what is written
@@ -81,12 +81,12 @@ bigEndian-split j (suc k) high low h =
     ∙ append-assoc (bigEndian j high) (bigEndian k (low / 256)) (low % 256 ∷ [])
 
 -- a count is that of its two words
-pub count-words : (r : Record) → countOf r ≡ r .low + 2 ^ 64 * r .high
-unfolding countOf value
+pub count-words : (r : Record) → countHeld r ≡ r .low + 2 ^ 64 * r .high
+unfolding countHeld value
 count-words r = ap (λ (h : ℕ). r .low + 2 ^ 64 * h) (add-zero (r .high))
 
 -- the bytes of a count are those of its high word and then of its low word
-pub count-bytes : (r : Record) → r .low < 2 ^ 64 → bigEndian 16 (countOf r) ≡ bigEndian 8 (r .high) ++ bigEndian 8 (r .low)
+pub count-bytes : (r : Record) → r .low < 2 ^ 64 → bigEndian 16 (countHeld r) ≡ bigEndian 8 (r .high) ++ bigEndian 8 (r .low)
 count-bytes r h = ap (bigEndian 16) (count-words r) ∙ bigEndian-split 8 8 (r .high) (r .low) h
 
 -- ---- what is read

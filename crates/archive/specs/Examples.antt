@@ -8,7 +8,7 @@ use Rattle.cells.specs.Lists.{ascii}
 use Rattle.archive.specs.declared.Record.{Record}
 use Rattle.archive.specs.declared.RecordCount.the-variants as Counts
 use Rattle.archive.specs.declared.FoundRecord.the-variants as Found
-use Rattle.archive.specs.Archive.{bigEndian, numberAt, countOf, recordBytes, recordIn, answered, refusedAt, refusedBy, outcomeNumber, handedBack, recordsOf, currentAmong, countRecords, recordAt, currentRecord, writeRecord, countAnswer, recordAnswer}
+use Rattle.archive.specs.Archive.{bigEndian, numberAt, countHeld, recordBytes, recordIn, Outcome, answered, refusedAt, refusedBy, mapOutcome, bindOutcome, outcomeNumber, handedBack, recordsOf, currentAmong, countRecords, recordAt, currentRecord, writeRecord, recordCountAnswer, recordAnswer}
 use Rattle.archive.specs.Records.{archiveOf}
 
 -- ---- numbers in bytes
@@ -18,10 +18,10 @@ numbers : (bigEndian 2 258 ≡ 1 ∷ 2 ∷ []) × (bigEndian 3 258 ≡ 0 ∷ 1 �
 unfolding bigEndian
 numbers = (refl, refl, refl, refl)
 
--- from a place on
-numbers-at : (numberAt (9 ∷ 1 ∷ 2 ∷ 7 ∷ []) 1 2 ≡ 258) × (numberAt (9 ∷ 1 ∷ 2 ∷ 7 ∷ []) 1 3 ≡ 66055) × (numberAt (9 ∷ 1 ∷ 2 ∷ 7 ∷ []) 1 0 ≡ 0)
+-- from a place on, zeros behind the bytes
+numbers-at : (numberAt (9 ∷ 1 ∷ 2 ∷ 7 ∷ []) 1 2 ≡ 258) × (numberAt (9 ∷ 1 ∷ 2 ∷ 7 ∷ []) 1 3 ≡ 66055) × (numberAt (9 ∷ 1 ∷ 2 ∷ 7 ∷ []) 1 0 ≡ 0) × (numberAt (9 ∷ 1 ∷ []) 1 2 ≡ 256)
 unfolding numberAt
-numbers-at = (refl, refl, refl)
+numbers-at = (refl, refl, refl, refl)
 
 -- ---- a record
 
@@ -29,8 +29,8 @@ numbers-at = (refl, refl, refl)
 abbrev first : Record
 first = record { id = 258; year = 2026; revision = 772; low = 5; high = 3 }
 
-first-count : countOf first ≡ 3 * 2 ^ 64 + 5
-unfolding countOf
+first-count : countHeld first ≡ 3 * 2 ^ 64 + 5
+unfolding countHeld
 first-count = refl
 
 -- T, Y, and the fields in their order, the count's high word first
@@ -73,8 +73,8 @@ cut = refl
 abbrev broken : List ℕ
 broken = 84 ∷ 90 ∷ drop 2 (recordBytes first)
 
-marks : map recordsOf ((broken ++ recordBytes last) ∷ (recordBytes last ++ broken) ∷ (83 ∷ drop 1 two) ∷ (recordBytes first ++ broken ++ broken) ∷ (two ++ broken ++ 84 ∷ []) ∷ [])
-    ≡ refusedAt 13 0 ∷ refusedAt 13 1 ∷ refusedAt 13 0 ∷ refusedAt 13 1 ∷ refusedAt 13 2 ∷ []
+marks : map recordsOf ((broken ++ recordBytes last) ∷ (recordBytes last ++ broken) ∷ (83 ∷ drop 1 two) ∷ (85 ∷ drop 1 two) ∷ (84 ∷ 88 ∷ drop 2 two) ∷ (recordBytes first ++ broken ++ broken) ∷ (two ++ broken ++ 84 ∷ []) ∷ [])
+    ≡ refusedAt 13 0 ∷ refusedAt 13 1 ∷ refusedAt 13 0 ∷ refusedAt 13 0 ∷ refusedAt 13 0 ∷ refusedAt 13 1 ∷ refusedAt 13 2 ∷ []
 unfolding recordsOf archiveOf recordBytes
 marks = refl
 
@@ -129,6 +129,15 @@ written : map (writeRecord first) (0 ∷ 23 ∷ 24 ∷ 25 ∷ []) ≡ refusedBy 
 unfolding writeRecord
 written = refl
 
+-- a refusal stays what it is, a value is put through and answered to
+mapped : map (mapOutcome (λ n. n + 1)) (answered 7 ∷ refusedAt 13 4 ∷ refusedBy 14 ∷ []) ≡ answered 8 ∷ refusedAt 13 4 ∷ refusedBy 14 ∷ []
+unfolding mapOutcome
+mapped = refl
+
+bound : map (λ (a : Outcome ℕ). bindOutcome a (λ n. answered (2 * n))) (answered 7 ∷ refusedAt 13 4 ∷ refusedBy 14 ∷ []) ≡ answered 14 ∷ refusedAt 13 4 ∷ refusedBy 14 ∷ []
+unfolding bindOutcome
+bound = refl
+
 -- numbers, and what is handed back
 numbers-told : map (outcomeNumber {A = List ℕ}) (answered (6 ∷ []) ∷ refusedAt 13 4 ∷ refusedBy 14 ∷ []) ≡ 0 ∷ 13 ∷ 14 ∷ []
 unfolding outcomeNumber
@@ -139,7 +148,7 @@ unfolding handedBack
 handed-back = refl
 
 -- the answers of the code
-code-counts : map countAnswer (Counts.Number 3 ∷ Counts.Broken 4 ∷ []) ≡ answered 3 ∷ refusedAt 13 4 ∷ []
+code-counts : map recordCountAnswer (Counts.Number 3 ∷ Counts.Broken 4 ∷ []) ≡ answered 3 ∷ refusedAt 13 4 ∷ []
 code-counts = refl
 
 code-records : map recordAnswer (Found.Is first ∷ Found.Broken 4 ∷ Found.Absent ∷ []) ≡ answered first ∷ refusedAt 13 4 ∷ refusedBy 14 ∷ []

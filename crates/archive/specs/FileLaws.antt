@@ -16,7 +16,7 @@ use borrow.Author.Tests.{eqb-true, le-leb, leb-true, leb-false}
 use Rattle.cells.specs.Lists.{padded, ascii}
 use Rattle.cells.specs.ArrayLaws.{padded-room}
 use Rattle.archive.specs.declared.Record.{Record}
-use Rattle.archive.specs.Archive.{Outcome, answered, refusedAt, refusedBy, mapOutcome, bindOutcome, outcomeNumber, handedBack, LeavesOutcome, orAbsent, bigEndian, numberAt, countOf, recordBytes, recordSize, recordIn, isWhole, recordsOf, recordAt, writeRecord}
+use Rattle.archive.specs.Archive.{Outcome, answered, refusedAt, refusedBy, mapOutcome, bindOutcome, outcomeNumber, handedBack, LeavesOutcome, orAbsent, bigEndian, numberAt, countHeld, recordBytes, recordSize, recordIn, isWhole, recordsOf, recordAt, writeRecord}
 use Rattle.archive.specs.Records.{archiveOf, AreBytes, InRange, AllInRange}
 use Rattle.archive.specs.ByteLaws.{count-words, count-bytes, numberAt-append, numberAt-front, numberAt-lt, numberAt-split, numberAt-bigEndian, numberAt-here, numberAt-past, bigEndian-numberAt}
 use Rattle.archive.specs.OutcomeLaws.{map-map}
@@ -78,7 +78,7 @@ record-back r f = ap recordIn (record-parts r (f .low)) ∙ (λ k. record {
 })
 
 -- the 16 bytes of a count are the number of its two words
-pub count-read : (bytes : List ℕ) → countOf (recordIn bytes) ≡ numberAt bytes 8 16
+pub count-read : (bytes : List ℕ) → countHeld (recordIn bytes) ≡ numberAt bytes 8 16
 unfolding recordIn
 count-read bytes = count-words (recordIn bytes) ∙ swap (numberAt bytes 16 8) (numberAt bytes 8 8) (2 ^ 64) ∙ sym (numberAt-split bytes 8 8 8)
   where
@@ -108,7 +108,7 @@ take-parts : (at n m : ℕ) (bytes : List ℕ) → take n (drop at bytes) ++ tak
 take-parts at n m bytes = sym (take-add n m (drop at bytes) ∙ ap (λ (l : List ℕ). take n (drop at bytes) ++ take m l) (drop-drop n at bytes))
 
 fields : (r : Record) (a b c d e : List ℕ) → ascii "TY" ≡ a → bigEndian 2 (r .id) ≡ b → bigEndian 2 (r .year) ≡ c → bigEndian 2 (r .revision) ≡ d
-    → bigEndian 16 (countOf r) ≡ e → recordBytes r ≡ a ++ b ++ c ++ d ++ e
+    → bigEndian 16 (countHeld r) ≡ e → recordBytes r ≡ a ++ b ++ c ++ d ++ e
 unfolding recordBytes
 fields r a b c d e p q s t u = λ k. p k ++ q k ++ s k ++ t k ++ u k
 

@@ -7,7 +7,7 @@ use mathlib.Core.List.{List, [], _∷_, _++_, List·Memᴰ as Mem}
 use Prim.Native.Nat.{ℕ, _-_, _≤_, _<_}
 use lib.ListN.{length, take, replicate}
 use Rattle.archive.specs.declared.Record.{Record}
-use Rattle.archive.specs.Archive.{answered, refusedAt, refusedBy, LeavesOutcome, numberAt, countOf, recordBytes, recordSize, recordIn, recordsOf, countRecords, recordAt, currentRecord, writeRecord}
+use Rattle.archive.specs.Archive.{answered, refusedAt, refusedBy, LeavesOutcome, numberAt, countHeld, recordBytes, recordSize, recordIn, recordsOf, countRecords, recordAt, currentRecord, writeRecord}
 use Rattle.archive.specs.Records.{archiveOf, AreBytes, InRange, AllInRange, Begins, IsBroken, IsCurrent, NotBelow}
 use Rattle.archive.specs.FileLaws as File
 use Rattle.archive.specs.BrokenLaws as Broken
@@ -28,7 +28,7 @@ record-reads-back = File.record-reads-back
 pub record-size : (r : Record) → length (recordBytes r) ≡ recordSize
 record-size = File.record-size
 
-pub count-read : (bytes : List ℕ) → countOf (recordIn bytes) ≡ numberAt bytes 8 16
+pub count-read : (bytes : List ℕ) → countHeld (recordIn bytes) ≡ numberAt bytes 8 16
 count-read = File.count-read
 
 -- What `write_record` leaves: it is accepted exactly if there is room, and then the first bytes of the output are a file that holds that record alone; elsewhere the output is

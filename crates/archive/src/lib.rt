@@ -10,7 +10,7 @@ use refusal::Verdict;
 ghost use mathlib.Core.Path.{_≡_};
 ghost use lib.ListN.{length};
 ghost use Rattle.refusal.specs.Refusal.{verdictNumber};
-ghost use Rattle.archive.specs.Archive.{countRecords, recordAt, currentRecord, writeRecord, countAnswer, recordAnswer, LeavesOutcome};
+ghost use Rattle.archive.specs.Archive.{countRecords, recordAt, currentRecord, writeRecord, recordCountAnswer, recordAnswer, LeavesOutcome};
 
 mod bytes;
 mod newest;
@@ -57,7 +57,7 @@ pub fn write_record(record: Record, out: &mut [u8]) -> Verdict
 // How many records a file holds. 13, with its place, for the earliest record whose mark is not TY or
 // which is cut short.
 pub fn count_records(file: &[u8]) -> RecordCount
-    ensures { λ r. ⌜ countAnswer r ≡ countRecords (now (file .entry)) ⌝ }
+    ensures { λ r. ⌜ recordCountAnswer r ≡ countRecords (now (file .entry)) ⌝ }
 {
     let mut place = 0;
     let mut at = 0;

@@ -15,7 +15,7 @@ use Rattle.archive.specs.declared.RecordCount.{RecordCount}
 use Rattle.archive.specs.declared.RecordCount.the-variants as Counts
 use Rattle.archive.specs.declared.FoundRecord.{FoundRecord}
 use Rattle.archive.specs.declared.FoundRecord.the-variants as Found
-use Rattle.archive.specs.Archive.{Outcome, answered, refusedAt, refusedBy, mapOutcome, outcomeNumber, handedBack, LeavesOutcome, countRecords, recordAt, currentRecord, countAnswer, recordAnswer}
+use Rattle.archive.specs.Archive.{Outcome, answered, refusedAt, refusedBy, mapOutcome, outcomeNumber, handedBack, LeavesOutcome, countRecords, recordAt, currentRecord, recordCountAnswer, recordAnswer}
 use Rattle.host_records.specs.Calls.{recordWords, recordsCounted, recordFound, currentFound}
 use Rattle.host_records.specs.CallLaws.{leaves-as, unless-short, unless-enough}
 
@@ -78,20 +78,20 @@ module _ (a : Outcome (List ℕ)) (old new : List ℕ) (v : Verdict) (left : Lea
 
 -- the others, where the answer has enough words
 module _ (file old new : List ℕ) (r : ℕ) where
-  pub counted-number : (count : RecordCount) (n : ℕ) → 1 ≤ length old → countAnswer count ≡ countRecords file → count ≡ Counts.Number n
+  pub counted-number : (count : RecordCount) (n : ℕ) → 1 ≤ length old → recordCountAnswer count ≡ countRecords file → count ≡ Counts.Number n
       → LeavesOutcome (answered (n ∷ [])) old new r → LeavesOutcome (recordsCounted file (length old)) old new r
   unfolding recordsCounted mapOutcome
   counted-number count n h e is =
       leaves-as old new (answered (n ∷ [])) (recordsCounted file (length old)) r
-      (ap (λ (c : RecordCount). mapOutcome (λ (k : ℕ). k ∷ []) (countAnswer c)) (sym is) ∙ ap (mapOutcome (λ (k : ℕ). k ∷ [])) e
+      (ap (λ (c : RecordCount). mapOutcome (λ (k : ℕ). k ∷ []) (recordCountAnswer c)) (sym is) ∙ ap (mapOutcome (λ (k : ℕ). k ∷ [])) e
       ∙ unless-enough 1 (length old) (mapOutcome (λ (k : ℕ). k ∷ []) (countRecords file)) h)
 
-  pub counted-broken : (count : RecordCount) (place : ℕ) → 1 ≤ length old → countAnswer count ≡ countRecords file → count ≡ Counts.Broken place
+  pub counted-broken : (count : RecordCount) (place : ℕ) → 1 ≤ length old → recordCountAnswer count ≡ countRecords file → count ≡ Counts.Broken place
       → LeavesOutcome (refusedAt 13 place) old new r → LeavesOutcome (recordsCounted file (length old)) old new r
   unfolding recordsCounted mapOutcome
   counted-broken count place h e is =
       leaves-as old new (refusedAt 13 place) (recordsCounted file (length old)) r
-      (ap (λ (c : RecordCount). mapOutcome (λ (k : ℕ). k ∷ []) (countAnswer c)) (sym is) ∙ ap (mapOutcome (λ (k : ℕ). k ∷ [])) e
+      (ap (λ (c : RecordCount). mapOutcome (λ (k : ℕ). k ∷ []) (recordCountAnswer c)) (sym is) ∙ ap (mapOutcome (λ (k : ℕ). k ∷ [])) e
       ∙ unless-enough 1 (length old) (mapOutcome (λ (k : ℕ). k ∷ []) (countRecords file)) h)
 
   pub counted-short : length old < 1 → LeavesOutcome (refusedBy 8) old new r → LeavesOutcome (recordsCounted file (length old)) old new r
