@@ -4,11 +4,12 @@
        archive list FILE                         prints its records in order
        archive current FILE ID                   prints the record of ID that counts
 
-   `add` makes FILE if there is none, and leaves one with a broken record as it is. COUNT is below 2^128.
+   `add` makes FILE if there is none, and leaves one with a broken record as it is; a write that fails may
+   leave a record that is cut short, which the next call tells. COUNT is below 2^128.
    A record is printed as `PLACE: id ID year YEAR revision REVISION count COUNT`, by `current` without
    the place; a broken file as `refused 13 at PLACE`, an ID without a record as `refused 14`. Exit
-   status: 0; 1, the file cannot be read or written or there is no memory; 2, bad usage; 3, something
-   is refused. */
+   status: 0; 1, the file or the output cannot be read or written or there is no memory; 2, bad usage;
+   3, something is refused. */
 #define PROGRAM "archive"
 #include "files.h"
 
@@ -143,5 +144,7 @@ int main(int count, char **arguments)
         current(arguments[2], arguments[3]);
     else
         stop(2, "usage: archive add FILE ID YEAR REVISION COUNT | list FILE | current FILE ID");
+    if (fflush(stdout) != 0 || ferror(stdout))
+        stop(1, "the output cannot be written");
     return status;
 }

@@ -7,20 +7,20 @@ use Prim.Native.Nat.{ℕ, zero, suc, _+_, _*_, _≤_, _<_}
 use native.Mathlib.Omega.{arith}
 use native.Mathlib.Numerals.{add-one}
 use native.Mathlib.Nat.{add-zero, zero-add}
-use lib.Dec.{eqb, leb}
+use lib.Dec.{leb}
 use lib.ListN.{length, getElem?, drop, length-drop}
 use lib.Seq.{drop-drop}
 use borrow.Author.Tests.{eq-eqb, ne-eqb, lt-ltb, le-ltb}
 use Rattle.archive.specs.declared.Record.{Record}
 use Rattle.archive.specs.declared.RecordCount.{RecordCount}
 use Rattle.archive.specs.declared.RecordCount.the-variants as Counts
-use Rattle.archive.specs.declared.newest.Newest.{Newest}
-use Rattle.archive.specs.declared.newest.Newest.the-variants as N
-use Rattle.archive.specs.Inner.{newestOf}
+use Rattle.archive.specs.declared.candidate.Candidate.{Candidate}
+use Rattle.archive.specs.declared.candidate.Candidate.the-variants as Candidates
+use Rattle.archive.specs.Inner.{candidateOf}
 use Rattle.archive.specs.Archive.{Outcome, answered, refusedAt, refusedBy, mapOutcome, bindOutcome, orAbsent, recordIn, isWhole, recordsOf, replaces, currentOf, currentAmong, countRecords, recordAt, currentRecord, recordCountAnswer}
-use Rattle.archive.specs.OutcomeLaws.{answered-inj, answered-refusedAt, answered-refusedBy}
 use Rattle.archive.specs.FileLaws.{read-cons}
-use Rattle.archive.specs.BrokenLaws.{count-refused, record-refused, record-absent}
+use Rattle.archive.specs.BrokenLaws.{count-answers, record-answers, count-refused, record-refused, record-absent}
+use Rattle.archive.specs.CurrentLaws.{other-kept}
 use Rattle.archive.specs.StepLaws.{readFrom, whole-long, read-none, read-broken, read-whole}
 
 -- ---- which record counts
@@ -38,35 +38,30 @@ module _ (r before : Record) where
   unfolding replaces
   replaces-not h n = rw (le-ltb (before .year) (r .year) h, ne-eqb (before .year) (r .year) n)
 
-pub none-told : (n : Newest) → n ≡ N.Nothing → refusedBy 14 ≡ orAbsent (newestOf n)
+pub none-told : (n : Candidate) → n ≡ Candidates.Nothing → refusedBy 14 ≡ orAbsent (candidateOf n)
 unfolding orAbsent
-none-told n e = ap (λ (m : Newest). orAbsent (newestOf m)) (sym e)
+none-told n e = ap (λ (m : Candidate). orAbsent (candidateOf m)) (sym e)
 
-pub one-told : (n : Newest) (r : Record) → n ≡ N.Is r → answered r ≡ orAbsent (newestOf n)
+pub one-told : (n : Candidate) (r : Record) → n ≡ Candidates.Is r → answered r ≡ orAbsent (candidateOf n)
 unfolding orAbsent
-one-told n r e = ap (λ (m : Newest). orAbsent (newestOf m)) (sym e)
+one-told n r e = ap (λ (m : Candidate). orAbsent (candidateOf m)) (sym e)
 
-module _ (id : ℕ) (r : Record) (n : Newest) where
-  pub current-other : (r .id ≡ id → ⊥) → newestOf n ≡ currentOf id (newestOf n) r
+module _ (id : ℕ) (r : Record) (n : Candidate) where
+  pub candidate-other : (r .id ≡ id → ⊥) → candidateOf n ≡ currentOf id (candidateOf n) r
+  candidate-other e = sym (other-kept id (candidateOf n) r e)
+
+  pub candidate-first : r .id ≡ id → n ≡ Candidates.Nothing → some r ≡ currentOf id (candidateOf n) r
   unfolding currentOf
-  current-other e = other (newestOf n) (ne-eqb (r .id) id e)
-    where
-      other : (o : Option Record) → eqb (r .id) id ≡ false → o ≡ currentOf id o r
-      other none e = rw e
-      other (some before) e = rw e
+  candidate-first e m = rw (m, eq-eqb (r .id) id e)
 
-  pub current-first : r .id ≡ id → n ≡ N.Nothing → some r ≡ currentOf id (newestOf n) r
-  unfolding currentOf
-  current-first e m = rw (m, eq-eqb (r .id) id e)
-
-  module _ (before : Record) (e : r .id ≡ id) (is : n ≡ N.Is before) where
-    pub current-newer : replaces r before ≡ true → some r ≡ currentOf id (newestOf n) r
+  module _ (before : Record) (e : r .id ≡ id) (is : n ≡ Candidates.Is before) where
+    pub candidate-newer : replaces r before ≡ true → some r ≡ currentOf id (candidateOf n) r
     unfolding currentOf
-    current-newer t = rw (is, eq-eqb (r .id) id e, t)
+    candidate-newer t = rw (is, eq-eqb (r .id) id e, t)
 
-    pub current-older : replaces r before ≡ false → some before ≡ currentOf id (newestOf n) r
+    pub candidate-older : replaces r before ≡ false → some before ≡ currentOf id (candidateOf n) r
     unfolding currentOf
-    current-older t = rw (is, eq-eqb (r .id) id e, t)
+    candidate-older t = rw (is, eq-eqb (r .id) id e, t)
 
 -- ---- reading on, record by record
 
@@ -192,28 +187,19 @@ elem-read (r ∷ rs) place bytes (suc p) e h =
       omega (arith, behind .1, length-drop 24 bytes, whole-long bytes (c .0)),
     )
 
--- what was counted was read
-counted-read : (a : Outcome (List Record)) (n : ℕ) → answered n ≡ mapOutcome length a → (rs : List Record) × (a ≡ answered rs) × (n ≡ length rs)
-unfolding mapOutcome
-counted-read (answered rs) n e = (rs, refl, answered-inj n (length rs) e)
-counted-read (refusedAt m place) n e = absurd (answered-refusedAt n m place e)
-counted-read (refusedBy m) n e = absurd (answered-refusedBy n m e)
-
 module _ (file : List ℕ) (p : ℕ) where
   module _ (count : RecordCount) (n : ℕ) (is : count ≡ Counts.Number n) (told : recordCountAnswer count ≡ countRecords file) where
-    read : (rs : List Record) × (recordsOf file ≡ answered rs) × (n ≡ length rs)
-    unfolding countRecords
-    read = counted-read (recordsOf file) n (ap recordCountAnswer (sym is) ∙ told)
+    read : (rs : List Record) × (recordsOf file ≡ answered rs) × (length rs ≡ n)
+    read = count-answers file n .0 (sym (ap recordCountAnswer (sym is) ∙ told))
 
     pub found-long : p < n → 24 * p + 24 ≤ length file
     unfolding recordsOf
     found-long h = elem-read (read .0) 0 file p (read .1) (omega (arith, read .2)) .1
 
     pub found-here : (r : Record) → p < n → r ≡ recordIn (drop (24 * p) file) → answered r ≡ recordAt file p
-    unfolding recordAt recordsOf bindOutcome orAbsent
+    unfolding recordsOf
     found-here r h e =
-        sym (ap (λ (a : Outcome (List Record)). bindOutcome a (λ rs. orAbsent (getElem? rs p))) (read .1)
-        ∙ ap orAbsent (elem-read (read .0) 0 file p (read .1) (omega (arith, read .2)) .0 ∙ ap some (sym e)))
+        sym (record-answers file p r .1 (read .0, read .1, elem-read (read .0) 0 file p (read .1) (omega (arith, read .2)) .0 ∙ ap some (sym e)))
 
     pub found-none : n ≤ p → refusedBy 14 ≡ recordAt file p
     found-none h = sym (record-absent file p .1 (read .0, read .1, omega (arith, read .2)))

@@ -7,14 +7,15 @@ use mathlib.Core.List.{List, [], _∷_, _++_}
 use mathlib.Core.Option.{Option, none, some}
 use Prim.Native.Nat.{ℕ, _<_}
 use native.Mathlib.Omega.{arith}
-use borrow.Author.Tests.{ne-eqb, ltb-true, ltb-false}
+use borrow.Author.Tests.{ltb-true, ltb-false}
 use lib.Dec.{ltb}
 use lib.ListN.{length, getElem?}
 use Rattle.archive.specs.declared.Record.{Record}
 use Rattle.archive.specs.Archive.{answered, bindOutcome, orAbsent, recordsOf, recordAt, currentOf, currentAmong, currentRecord}
 use Rattle.archive.specs.Records.{IsCurrent, NotBelow}
 use Rattle.archive.specs.OutcomeLaws.{orAbsent-answered}
-use Rattle.archive.specs.CurrentLaws.{at-earlier, at-last, at-kept, current-first, current-taken, current-stays, among-some, among-none, current-iff}
+use Rattle.archive.specs.PlaceLaws.{at-earlier, at-seam, at-kept}
+use Rattle.archive.specs.CurrentLaws.{other-kept, current-first, current-taken, current-stays, among-some, among-none, current-iff}
 
 -- ---- the calls on a sound file
 
@@ -37,12 +38,6 @@ unfolding currentAmong
 among-append id o [] y = refl
 among-append id o (r ∷ rs) y = among-append id (currentOf id o r) rs y
 
--- one of another id does not count
-pub other-kept : (id : ℕ) (o : Option Record) (y : Record) → (y .id ≡ id → ⊥) → currentOf id o y ≡ o
-unfolding currentOf
-other-kept id none y ne = rw (ne-eqb (y .id) id ne)
-other-kept id (some c) y ne = rw (ne-eqb (y .id) id ne)
-
 -- ---- a file and a longer one
 
 module _ (file : List ℕ) (rs : List Record) (sound : recordsOf file ≡ answered rs) (r : Record) (longer : List ℕ) (more : recordsOf longer ≡ answered (rs ++ r ∷ [])) where
@@ -53,7 +48,7 @@ module _ (file : List ℕ) (rs : List Record) (sound : recordsOf file ≡ answer
 
   -- and the new one is at the next
   pub append-last : recordAt longer (length rs) ≡ answered r
-  append-last = recordAt-sound longer (rs ++ r ∷ []) more (length rs) ∙ orAbsent-answered (getElem? (rs ++ r ∷ []) (length rs)) r .1 (at-last rs r)
+  append-last = recordAt-sound longer (rs ++ r ∷ []) more (length rs) ∙ orAbsent-answered (getElem? (rs ++ r ∷ []) (length rs)) r .1 (at-seam rs r [])
 
   -- the current record of another id stays,
   pub append-other : (id : ℕ) → (r .id ≡ id → ⊥) → currentRecord longer id ≡ currentRecord file id

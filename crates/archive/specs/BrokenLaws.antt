@@ -2,50 +2,24 @@
 -- that, and where a sound file has no record at a place. Rests on `StepLaws` and `OutcomeLaws`. Assumes nothing.
 use mathlib.Core.Path.{_≡_, refl, sym, ap, _∙_, subst}
 use mathlib.Core.Logic.{_↔_, _⊎_, inl, inr, ⊎-elim}
-use mathlib.Core.Bool.{Bool, true, false, _&&_}
+use mathlib.Core.Bool.{Bool, true, false}
 use mathlib.Core.List.{List, [], _∷_}
-use mathlib.Core.Option.{none}
+use mathlib.Core.Option.{none, some}
 use Prim.Native.Nat.{ℕ, zero, suc, _+_, _*_, _-_, _≤_, _<_}
 use native.Mathlib.Omega.{arith}
-use borrow.Author.Tests.{eq-eqb, eqb-true, leb-true, leb-false, le-leb, ltb-false, ltb-true}
-use lib.Dec.{eqb, leb, ltb}
-use lib.ListN.{length, getElem?, take, drop, length-drop}
+use borrow.Author.Tests.{leb-true, leb-false, ltb-false, ltb-true}
+use lib.Dec.{leb, ltb}
+use lib.ListN.{length, getElem?, drop, length-drop}
 use lib.Seq.{drop-drop}
 use Rattle.cells.specs.Lists.{ascii}
 use Rattle.archive.specs.declared.Record.{Record}
 use Rattle.archive.specs.Archive.{Outcome, answered, refusedAt, refusedBy, mapOutcome, orAbsent, recordIn, isWhole, recordsOf, countRecords, recordAt, currentAmong, currentRecord}
 use Rattle.archive.specs.Records.{Begins, IsBroken}
-use Rattle.archive.specs.StepLaws.{readFrom, read-none, read-broken, read-whole}
-use Rattle.archive.specs.OutcomeLaws.{answered-refusedAt, answered-refusedBy, refusedAt-refusedBy, refusedAt-inj, map-refusedAt, bind-refusedAt, bind-refusedBy, orAbsent-refusedAt, orAbsent-refusedBy}
+use Rattle.archive.specs.PlaceLaws.{absent-iff}
+use Rattle.archive.specs.StepLaws.{whole-iff, readFrom, read-none, read-broken, read-whole}
+use Rattle.archive.specs.OutcomeLaws.{answered-refusedAt, answered-refusedBy, refusedAt-refusedBy, refusedAt-inj, map-refusedAt, bind-refusedAt, bind-refusedBy, orAbsent-refusedAt, orAbsent-refusedBy, map-answered, bind-answered, orAbsent-answered}
 
 -- ---- broken, and whole
-
-both : (a b : Bool) → (a && b) ≡ true → (a ≡ true) × (b ≡ true)
-both true b e = (refl, e)
-both false b e = (e, absurd (let z : _≡_ {A = ℕ} 0 1 = cc in omega arith))
-
--- bytes begin with a record exactly if they are as many as it has, and begin with its mark
-pub whole-iff : (bytes : List ℕ) → (isWhole bytes ≡ true) ↔ ((24 ≤ length bytes) × (take 2 bytes ≡ ascii "TY"))
-unfolding isWhole ascii
-whole-iff bytes = (there bytes, λ h. back bytes (h .0) (h .1))
-  where
-    there : (bytes : List ℕ) → isWhole bytes ≡ true → (24 ≤ length bytes) × (take 2 bytes ≡ ascii "TY")
-    there [] e = absurd (let z : _≡_ {A = ℕ} 0 1 = cc in omega arith)
-    there (a ∷ []) e = absurd (let z : _≡_ {A = ℕ} 0 1 = cc in omega arith)
-    there (a ∷ b ∷ bytes) e =
-        let r = both (leb 24 (length (a ∷ b ∷ bytes))) _ e in
-        let s = both (eqb a 84) (eqb b 89) (r .1) in
-        let p : a ≡ 84 = eqb-true a 84 (s .0) in
-        let q : b ≡ 89 = eqb-true b 89 (s .1) in
-        (leb-true 24 (length (a ∷ b ∷ bytes)) (r .0), cc)
-
-    back : (bytes : List ℕ) → 24 ≤ length bytes → take 2 bytes ≡ ascii "TY" → isWhole bytes ≡ true
-    back [] h e = absurd (omega arith)
-    back (a ∷ []) h e = absurd (omega arith)
-    back (a ∷ b ∷ bytes) h e =
-        let p : a ≡ 84 = cc in
-        let q : b ≡ 89 = cc in
-        rw (le-leb 24 (length (a ∷ b ∷ bytes)) h, eq-eqb a 84 p, eq-eqb b 89 q)
 
 -- a record is broken exactly if the bytes from its place on do not begin with one
 pub broken-whole : (file : List ℕ) (place : ℕ) → (isWhole (drop (24 * place) file) ≡ false) ↔ IsBroken file place
@@ -218,11 +192,20 @@ current-refused file id place =
 
 -- ---- 14
 
--- a list has nothing at a place exactly if it ends before it
-pub absent-iff : {A : Type 0} (l : List A) (i : ℕ) → (getElem? l i ≡ none) ↔ (length l ≤ i)
-absent-iff [] i = (λ e. omega arith, λ h. refl)
-absent-iff (x ∷ l) zero = (λ e. absurd (let z : _≡_ {A = ℕ} 0 1 = cc in omega arith), λ h. absurd (omega arith))
-absent-iff (x ∷ l) (suc i) = let r = absent-iff l i in (λ e. let h = r .0 e in omega arith, λ h. r .1 (omega arith))
+-- the number of records is that of those that are read,
+pub count-answers : (file : List ℕ) (n : ℕ) → (countRecords file ≡ answered n) ↔ ((rs : List Record) × (recordsOf file ≡ answered rs) × (length rs ≡ n))
+unfolding countRecords
+count-answers file n = map-answered length (recordsOf file) n
+
+-- and the record at a place is theirs
+pub record-answers : (file : List ℕ) (place : ℕ) (r : Record)
+    → (recordAt file place ≡ answered r) ↔ ((rs : List Record) × (recordsOf file ≡ answered rs) × (getElem? rs place ≡ some r))
+unfolding recordAt
+record-answers file place r =
+    let b = bind-answered (recordsOf file) (λ rs. orAbsent (getElem? rs place)) r in (
+      λ e. let s = b .0 e in (s .0, s .1, orAbsent-answered (getElem? (s .0) place) r .0 (s .2)),
+      λ s. b .1 (s .0, s .1, orAbsent-answered (getElem? (s .0) place) r .1 (s .2)),
+    )
 
 -- a sound file has no record at a place exactly if it has fewer
 pub record-absent : (file : List ℕ) (place : ℕ) → (recordAt file place ≡ refusedBy 14) ↔ ((rs : List Record) × (recordsOf file ≡ answered rs) × (length rs ≤ place))

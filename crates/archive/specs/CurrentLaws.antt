@@ -1,13 +1,13 @@
 -- Laws of the current record: what `currentAmong` tells is the current record in words (`current-told`), of which there is one (`current-once`), and so is what
--- `currentRecord` answers; what one record more changes. Rests on `OutcomeLaws` and `BrokenLaws`. Assumes nothing.
+-- `currentRecord` answers; what one record more changes. Rests on `PlaceLaws`, `OutcomeLaws` and `BrokenLaws`. Assumes nothing.
 use mathlib.Core.Path.{_≡_, refl, sym, ap, _∙_, subst}
-use mathlib.Core.Logic.{_↔_, _⊎_, inl, inr, ⊎-elim}
+use mathlib.Core.Logic.{_↔_, inl, inr, ⊎-elim}
 use mathlib.Core.Bool.{Bool, true, false, cond, _&&_, _||_}
-use mathlib.Core.List.{List, [], _∷_, _++_, append-nil, List·Memᴰ as Mem, List·Memᴰ·head as here, List·Memᴰ·tail as there, List·Memᴰ·cases-cons as cases-cons, List·Memᴰ·not-nil as not-nil}
+use mathlib.Core.List.{List, [], _∷_, _++_, append-nil, List·Memᴰ as Mem, List·Memᴰ·tail as there}
 use mathlib.Core.Option.{Option, none, some}
-use Prim.Native.Nat.{ℕ, zero, suc, _≤_, _<_}
+use Prim.Native.Nat.{ℕ, _≤_}
 use native.Mathlib.Omega.{arith}
-use borrow.Author.Tests.{eq-eqb, eqb-true, eqb-false, leb-true, leb-false, le-leb, lt-ltb, ltb-true, ltb-false}
+use borrow.Author.Tests.{eq-eqb, eqb-true, eqb-false, leb-true, leb-false, le-leb, lt-ltb, ltb-true, ltb-false, ne-eqb}
 use lib.Dec.{eqb, leb, ltb}
 use lib.ListN.{length, getElem?}
 use lib.Seq.{append-snoc}
@@ -15,49 +15,16 @@ use Rattle.archive.specs.declared.Record.{Record}
 use Rattle.archive.specs.Archive.{answered, refusedBy, orAbsent, recordsOf, replaces, currentOf, currentAmong, currentRecord}
 use Rattle.archive.specs.Records.{IsCurrent, NotBelow}
 use Rattle.archive.specs.OutcomeLaws.{bind-answered, bind-refusedBy, orAbsent-answered, orAbsent-refusedBy}
+use Rattle.archive.specs.PlaceLaws.{at-mem, mem-at, at-below, at-kept, at-seam, at-cases}
 use Rattle.archive.specs.BrokenLaws.{never-absent}
 
--- ---- places of a list
+-- ---- another id
 
-module _ {A : Type 0} where
-  -- what a list has at a place is among its elements,
-  pub at-mem : (l : List A) (i : ℕ) (x : A) → getElem? l i ≡ some x → Mem x l
-  at-mem [] i x e = absurd (let z : _≡_ {A = ℕ} 0 1 = cc in omega arith)
-  at-mem (y ∷ l) zero x e = let same : x ≡ y = cc in here same
-  at-mem (y ∷ l) (suc i) x e = there (at-mem l i x e)
-
-  -- and each of these has a place
-  pub mem-at : (l : List A) (x : A) → Mem x l → (i : ℕ) × (getElem? l i ≡ some x)
-  mem-at [] x m = absurd (not-nil m)
-  mem-at (y ∷ l) x m = ⊎-elim (λ e. (0, ap some (sym e))) (λ k. let r = mem-at l x k in (suc (r .0), r .1)) (cases-cons m)
-
-  -- it stands before the end,
-  pub at-below : (l : List A) (i : ℕ) (x : A) → getElem? l i ≡ some x → i < length l
-  at-below [] i x e = absurd (let z : _≡_ {A = ℕ} 0 1 = cc in omega arith)
-  at-below (y ∷ l) zero x e = omega arith
-  at-below (y ∷ l) (suc i) x e = let h = at-below l i x e in omega arith
-
-  -- a list has the same before its end, whatever follows,
-  pub at-earlier : (l rest : List A) (i : ℕ) → i < length l → getElem? (l ++ rest) i ≡ getElem? l i
-  at-earlier [] rest i h = absurd (omega arith)
-  at-earlier (y ∷ l) rest zero h = refl
-  at-earlier (y ∷ l) rest (suc i) h = at-earlier l rest i (omega arith)
-
-  -- so that what it has stays there
-  pub at-kept : (l rest : List A) (i : ℕ) (x : A) → getElem? l i ≡ some x → getElem? (l ++ rest) i ≡ some x
-  at-kept l rest i x e = at-earlier l rest i (at-below l i x e) ∙ e
-
-  -- one element more stands at the end,
-  pub at-last : (l : List A) (x : A) → getElem? (l ++ x ∷ []) (length l) ≡ some x
-  at-last [] x = refl
-  at-last (y ∷ l) x = at-last l x
-
-  -- and all others where they were
-  pub at-cases : (l : List A) (y : A) (i : ℕ) (x : A) → getElem? (l ++ y ∷ []) i ≡ some x → (getElem? l i ≡ some x) ⊎ ((i ≡ length l) × (y ≡ x))
-  at-cases [] y zero x e = inr (refl, cc)
-  at-cases [] y (suc i) x e = absurd (let z : _≡_ {A = ℕ} 0 1 = cc in omega arith)
-  at-cases (z ∷ l) y zero x e = inl e
-  at-cases (z ∷ l) y (suc i) x e = ⊎-elim inl (λ r. inr (ap suc (r .0), r .1)) (at-cases l y i x e)
+-- a record of another id changes nothing
+pub other-kept : (id : ℕ) (o : Option Record) (y : Record) → (y .id ≡ id → ⊥) → currentOf id o y ≡ o
+unfolding currentOf
+other-kept id none y ne = rw (ne-eqb (y .id) id ne)
+other-kept id (some c) y ne = rw (ne-eqb (y .id) id ne)
 
 -- ---- the order of two records
 
@@ -102,7 +69,7 @@ module _ (id : ℕ) (rs : List Record) (y : Record) where
   pub current-first : NoneOf id rs → y .id ≡ id → IsCurrent id (rs ++ y ∷ []) (length rs) y
   current-first h i =
       record {
-        there = at-last rs y;
+        there = at-seam rs y [];
         ofId = i;
         year = also {P = λ p s. s .year ≤ y .year} (λ p s e j. absurd (h p s e j)) (λ j. omega arith);
         revision = also {P = λ p s. s .year ≡ y .year → s .revision ≤ y .revision} (λ p s e j. absurd (h p s e j)) (λ j k. omega arith);
@@ -114,7 +81,7 @@ module _ (id : ℕ) (rs : List Record) (y : Record) where
     pub current-taken : y .id ≡ id → NotBelow y c → IsCurrent id (rs ++ y ∷ []) (length rs) y
     current-taken i h =
         record {
-          there = at-last rs y;
+          there = at-seam rs y [];
           ofId = i;
           year = also {P = λ p s. s .year ≤ y .year} (λ p s e j. years h (current .year p s e j)) (λ j. omega arith);
           revision = also {P = λ p s. s .year ≡ y .year → s .revision ≤ y .revision} (λ p s e j k. revisions s h (current .year p s e j) (current .revision p s e j) k) (λ j k. omega arith);

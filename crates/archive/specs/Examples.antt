@@ -6,7 +6,7 @@ use Prim.Native.Nat.{ℕ, _+_, _-_, _*_, _^_}
 use lib.ListN.{take, drop}
 use Rattle.cells.specs.Lists.{ascii}
 use Rattle.archive.specs.declared.Record.{Record}
-use Rattle.archive.specs.declared.RecordCount.the-variants as Counts
+use Rattle.archive.specs.declared.RecordCount.the-variants as RecordCounts
 use Rattle.archive.specs.declared.FoundRecord.the-variants as Found
 use Rattle.archive.specs.Archive.{bigEndian, numberAt, countHeld, recordBytes, recordIn, Outcome, answered, refusedAt, refusedBy, mapOutcome, bindOutcome, outcomeNumber, handedBack, recordsOf, currentAmong, countRecords, recordAt, currentRecord, writeRecord, recordCountAnswer, recordAnswer}
 use Rattle.archive.specs.Records.{archiveOf}
@@ -85,22 +85,22 @@ abbrev entry : ℕ → ℕ → ℕ → Record
 entry year revision count = record { id = 1; year = year; revision = revision; low = count; high = 0 }
 
 -- the highest year, whatever its revision; then the highest revision; then the last
-counts-by-year : (currentAmong 1 none (entry 2026 1 7 ∷ entry 2025 9 8 ∷ []) ≡ some (entry 2026 1 7)) × (currentAmong 1 none (entry 2025 9 8 ∷ entry 2026 1 7 ∷ []) ≡ some (entry 2026 1 7))
+current-by-year : (currentAmong 1 none (entry 2026 1 7 ∷ entry 2025 9 8 ∷ []) ≡ some (entry 2026 1 7)) × (currentAmong 1 none (entry 2025 9 8 ∷ entry 2026 1 7 ∷ []) ≡ some (entry 2026 1 7))
 unfolding currentAmong
-counts-by-year = (refl, refl)
+current-by-year = (refl, refl)
 
-counts-by-revision : (currentAmong 1 none (entry 2026 2 7 ∷ entry 2026 1 8 ∷ []) ≡ some (entry 2026 2 7)) × (currentAmong 1 none (entry 2026 1 8 ∷ entry 2026 2 7 ∷ []) ≡ some (entry 2026 2 7))
+current-by-revision : (currentAmong 1 none (entry 2026 2 7 ∷ entry 2026 1 8 ∷ []) ≡ some (entry 2026 2 7)) × (currentAmong 1 none (entry 2026 1 8 ∷ entry 2026 2 7 ∷ []) ≡ some (entry 2026 2 7))
 unfolding currentAmong
-counts-by-revision = (refl, refl)
+current-by-revision = (refl, refl)
 
-counts-last : currentAmong 1 none (entry 2026 1 7 ∷ entry 2026 1 8 ∷ first ∷ []) ≡ some (entry 2026 1 8)
+current-last : currentAmong 1 none (entry 2026 1 7 ∷ entry 2026 1 8 ∷ first ∷ []) ≡ some (entry 2026 1 8)
 unfolding currentAmong
-counts-last = refl
+current-last = refl
 
 -- of the id alone
-counts-of-id : (currentAmong 258 none (entry 2027 1 7 ∷ first ∷ entry 2028 1 8 ∷ []) ≡ some first) × (currentAmong 2 none (entry 2027 1 7 ∷ first ∷ []) ≡ none)
+current-of-id : (currentAmong 258 none (entry 2027 1 7 ∷ first ∷ entry 2028 1 8 ∷ []) ≡ some first) × (currentAmong 2 none (entry 2027 1 7 ∷ first ∷ []) ≡ none)
 unfolding currentAmong
-counts-of-id = (refl, refl)
+current-of-id = (refl, refl)
 
 -- ---- the calls
 
@@ -148,7 +148,7 @@ unfolding handedBack
 handed-back = refl
 
 -- the answers of the code
-code-counts : map recordCountAnswer (Counts.Number 3 ∷ Counts.Broken 4 ∷ []) ≡ answered 3 ∷ refusedAt 13 4 ∷ []
+code-counts : map recordCountAnswer (RecordCounts.Number 3 ∷ RecordCounts.Broken 4 ∷ []) ≡ answered 3 ∷ refusedAt 13 4 ∷ []
 code-counts = refl
 
 code-records : map recordAnswer (Found.Is first ∷ Found.Broken 4 ∷ Found.Absent ∷ []) ≡ answered first ∷ refusedAt 13 4 ∷ refusedBy 14 ∷ []

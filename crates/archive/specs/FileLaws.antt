@@ -1,26 +1,26 @@
 -- Laws of files: a record that was written reads back; a file in front of other bytes is read before them, so that a file of records is read as these, and one record
--- more behind a sound file is read behind the others; a sound file is the file of its records, and of one list only; what `write_record` leaves. Rests on `ByteLaws` and
--- `StepLaws`. Assumes nothing.
+-- more behind a sound file is read behind the others; a sound file is the file of its records, and of one list only; what `write_record` leaves. Rests on `PlaceLaws`,
+-- `OutcomeLaws`, `ByteLaws` and `StepLaws`. Assumes nothing.
 use mathlib.Core.Path.{_≡_, refl, sym, ap, ap₂, _∙_, subst}
 use mathlib.Core.Logic.{_↔_, _⊎_, inl, inr, ⊎-elim}
 use mathlib.Core.Bool.{Bool, true, false, cond, _&&_}
 use mathlib.Core.List.{List, [], _∷_, _++_, flatMap, append-assoc, List·Memᴰ·head as here, List·Memᴰ·tail as there, List·Memᴰ·not-nil as not-nil, List·Memᴰ·cases-cons as cases-cons}
-use mathlib.Core.Option.{some}
 use Prim.Native.Nat.{ℕ, zero, suc, _+_, _-_, _*_, _^_, _≤_, _<_}
 use native.Mathlib.Nat.{add-zero, le-of-eq}
 use native.Mathlib.Omega.{arith}
 use lib.Dec.{eqb, leb}
 use lib.ListN.{length, getD, getElem?, take, drop, replicate, length-append, take-append-drop, drop-of-length-le, List·getD-append}
 use lib.Seq.{getD-drop, take-add, take-at, drop-drop, drop-append-le}
-use borrow.Author.Tests.{eqb-true, le-leb, leb-true, leb-false}
+use borrow.Author.Tests.{le-leb, leb-true, leb-false}
 use Rattle.cells.specs.Lists.{padded, ascii}
 use Rattle.cells.specs.ArrayLaws.{padded-room}
 use Rattle.archive.specs.declared.Record.{Record}
 use Rattle.archive.specs.Archive.{Outcome, answered, refusedAt, refusedBy, mapOutcome, bindOutcome, outcomeNumber, handedBack, LeavesOutcome, orAbsent, bigEndian, numberAt, countHeld, recordBytes, recordSize, recordIn, isWhole, recordsOf, recordAt, writeRecord}
 use Rattle.archive.specs.Records.{archiveOf, AreBytes, InRange, AllInRange}
 use Rattle.archive.specs.ByteLaws.{count-words, count-bytes, numberAt-append, numberAt-front, numberAt-lt, numberAt-split, numberAt-bigEndian, numberAt-here, numberAt-past, bigEndian-numberAt}
-use Rattle.archive.specs.OutcomeLaws.{map-map}
-use Rattle.archive.specs.StepLaws.{readFrom, whole-long, read-none, read-broken, read-whole}
+use Rattle.archive.specs.PlaceLaws.{at-seam}
+use Rattle.archive.specs.OutcomeLaws.{map-map, answered-refusedAt}
+use Rattle.archive.specs.StepLaws.{whole-iff, readFrom, whole-long, read-none, read-broken, read-whole}
 
 -- ---- a record that was written
 
@@ -87,23 +87,6 @@ count-read bytes = count-words (recordIn bytes) ∙ swap (numberAt bytes 16 8) (
 
 -- ---- a whole record is the record that is read
 
-both : (a b : Bool) → (a && b) ≡ true → (a ≡ true) × (b ≡ true)
-both true b e = (refl, e)
-both false b e = let z : _≡_ {A = ℕ} 0 1 = cc in absurd (omega arith)
-
-two-marks : (bytes : List ℕ) → 24 ≤ length bytes → getD bytes 0 0 ≡ 84 → getD bytes 1 0 ≡ 89 → ascii "TY" ≡ take 2 bytes
-unfolding ascii
-two-marks [] h t y = absurd (omega arith)
-two-marks (a ∷ []) h t y = absurd (omega arith)
-two-marks (a ∷ b ∷ bytes) h t y = cc
-
-whole-mark : (bytes : List ℕ) → isWhole bytes ≡ true → ascii "TY" ≡ take 2 bytes
-unfolding isWhole ascii
-whole-mark bytes e =
-    let l = whole-long bytes e in
-    let m = both (eqb (getD bytes 0 0) 84) (eqb (getD bytes 1 0) 89) (both (leb 24 (length bytes)) _ e .1) in
-    two-marks bytes l (eqb-true (getD bytes 0 0) 84 (m .0)) (eqb-true (getD bytes 1 0) 89 (m .1))
-
 take-parts : (at n m : ℕ) (bytes : List ℕ) → take n (drop at bytes) ++ take m (drop (at + n) bytes) ≡ take (n + m) (drop at bytes)
 take-parts at n m bytes = sym (take-add n m (drop at bytes) ∙ ap (λ (l : List ℕ). take n (drop at bytes) ++ take m l) (drop-drop n at bytes))
 
@@ -118,7 +101,7 @@ unfolding recordIn
 whole-back bytes f e =
     let l = whole-long bytes e in
     fields (recordIn bytes) (take 2 bytes) (take 2 (drop 2 bytes)) (take 2 (drop 4 bytes)) (take 2 (drop 6 bytes)) (take 16 (drop 8 bytes))
-    (whole-mark bytes e)
+    (sym (whole-iff bytes .0 e .1))
     (bigEndian-numberAt bytes 2 2 f (omega arith))
     (bigEndian-numberAt bytes 4 2 f (omega arith))
     (bigEndian-numberAt bytes 6 2 f (omega arith))
@@ -169,9 +152,6 @@ module _ (bytes behind : List ℕ) (whole : isWhole bytes ≡ true) where
 
 -- ---- what is read, record by record
 
-no-answer : {A : Type 0} {a : A} {n place : ℕ} → refusedAt n place ≡ answered a → ⊥
-no-answer e = let z : _≡_ {A = ℕ} 0 1 = cc in omega arith
-
 -- what an outcome was before a record was put in front of it
 map-nil : (r : Record) (o : Outcome (List Record)) → mapOutcome (λ rs. r ∷ rs) o ≡ answered [] → ⊥
 unfolding mapOutcome
@@ -199,7 +179,7 @@ module _ (place : ℕ) (bytes : List ℕ) where
   -- bytes that are not a whole record are read as some records only where there are none
   read-rest : (rs : List Record) → readFrom place bytes ≡ answered rs → isWhole bytes ≡ false → (n : ℕ) → length bytes ≡ n → (bytes ≡ []) × (rs ≡ [])
   read-rest rs e b zero l = let z = read-none place bytes l in (no-bytes bytes l, cc)
-  read-rest rs e b (suc n) l = absurd (no-answer (sym (read-broken place bytes (omega arith) b) ∙ e))
+  read-rest rs e b (suc n) l = absurd (answered-refusedAt rs 13 place (sym e ∙ read-broken place bytes (omega arith) b))
 
   -- no record is read from no byte only
   pub read-nil : readFrom place bytes ≡ answered [] → bytes ≡ []
@@ -273,10 +253,6 @@ file-reads-back rs f = read-archive 0 rs f
 range-cons : (r : Record) (rs : List Record) → InRange r → AllInRange rs → AllInRange (r ∷ rs)
 range-cons r rs f g s m = ⊎-elim (λ e. subst InRange (sym e) f) (g s) (cases-cons m)
 
-seam : (before : List Record) (r : Record) (behind : List Record) → getElem? (before ++ r ∷ behind) (length before) ≡ some r
-seam [] r behind = refl
-seam (b ∷ before) r behind = seam before r behind
-
 -- and so is every record in it
 pub record-reads-back : (before : List Record) (r : Record) (behind : List Record) → AllInRange before → InRange r → AllInRange behind
     → recordAt (archiveOf before ++ recordBytes r ++ archiveOf behind) (length before) ≡ answered r
@@ -286,7 +262,7 @@ record-reads-back before r behind f g h =
     ∙ ap (λ (o : Outcome (List Record)). bindOutcome o (λ rs. orAbsent (getElem? rs (length before))))
     (read-append before 0 (archiveOf before) (archiveOf (r ∷ behind)) (read-archive 0 before f)
     ∙ ap (mapOutcome (λ (ss : List Record). before ++ ss)) (read-archive (0 + length before) (r ∷ behind) (range-cons r behind g h)))
-    ∙ ap orAbsent (seam before r behind)
+    ∙ ap orAbsent (at-seam before r behind)
 
 -- a file that is read is the file of its records
 read-archiveOf : (rs : List Record) (place : ℕ) (file : List ℕ) → AreBytes file → readFrom place file ≡ answered rs → (file ≡ archiveOf rs) × AllInRange rs

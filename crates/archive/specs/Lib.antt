@@ -3,6 +3,7 @@
 pub mod Archive
 pub mod Records
 pub mod Inner
+pub mod PlaceLaws
 pub mod StepLaws
 pub mod OutcomeLaws
 pub mod ByteLaws

@@ -67,6 +67,13 @@ module _ {A B : Type 0} where
       (λ e. absurd (refusedAt-refusedBy m place n e), λ r. absurd (answered-refusedAt (r .0) m place (sym (r .1))))
   bind-refusedBy (refusedBy m) f n new = (λ e. absurd (new (cc)), λ r. absurd (answered-refusedBy (r .0) m (sym (r .1))))
 
+-- a value that was put through f
+pub map-answered : {A B : Type 0} (f : A → B) (a : Outcome A) (y : B) → (mapOutcome f a ≡ answered y) ↔ ((x : A) × (a ≡ answered x) × (f x ≡ y))
+unfolding mapOutcome
+map-answered f (answered x) y = (λ e. (x, refl, answered-inj (f x) y e), λ s. ap answered (ap f (answered-inj x (s .0) (s .1)) ∙ s .2))
+map-answered f (refusedAt n place) y = (λ e. absurd (answered-refusedAt y n place (sym e)), λ s. absurd (answered-refusedAt (s .0) n place (sym (s .1))))
+map-answered f (refusedBy n) y = (λ e. absurd (answered-refusedBy y n (sym e)), λ s. absurd (answered-refusedBy (s .0) n (sym (s .1))))
+
 -- one function after another
 pub map-map : {A B C : Type 0} (f : B → C) (g : A → B) (o : Outcome A) → mapOutcome f (mapOutcome g o) ≡ mapOutcome (λ a. f (g a)) o
 unfolding mapOutcome

@@ -1,13 +1,15 @@
--- Laws of reading record by record: fuel that is enough is enough (`records-enough`); what is read where nothing is left, where a whole record stands, and where a
+-- Laws of reading record by record: what a whole record is; fuel that is enough is enough (`records-enough`); what is read where nothing is left, where a whole record stands, and where a
 -- broken one does. Rests on `Archive`. Assumes nothing.
 use mathlib.Core.Path.{_≡_, refl, sym, ap, _∙_}
+use mathlib.Core.Logic.{_↔_}
 use mathlib.Core.Bool.{Bool, true, false, _&&_}
 use mathlib.Core.List.{List, [], _∷_}
 use Prim.Native.Nat.{ℕ, zero, suc, _-_, _≤_, _<_}
 use native.Mathlib.Omega.{arith}
-use lib.Dec.{leb}
-use lib.ListN.{length, drop, length-drop}
-use borrow.Author.Tests.{eq-eqb, ne-eqb, leb-true}
+use lib.Dec.{eqb, leb}
+use lib.ListN.{length, take, drop, length-drop}
+use borrow.Author.Tests.{eq-eqb, ne-eqb, eqb-true, leb-true, le-leb}
+use Rattle.cells.specs.Lists.{ascii}
 use Rattle.archive.specs.declared.Record.{Record}
 use Rattle.archive.specs.Archive.{Outcome, answered, refusedAt, mapOutcome, recordIn, isWhole, recordsFrom}
 
@@ -15,14 +17,36 @@ use Rattle.archive.specs.Archive.{Outcome, answered, refusedAt, mapOutco
 abbrev pub readFrom : ℕ → List ℕ → Outcome (List Record)
 readFrom place bytes = recordsFrom (length bytes) place bytes
 
-both-first : (a b : Bool) → (a && b) ≡ true → a ≡ true
-both-first true b e = refl
-both-first false b e = e
+both : (a b : Bool) → (a && b) ≡ true → (a ≡ true) × (b ≡ true)
+both true b e = (refl, e)
+both false b e = let z : _≡_ {A = ℕ} 0 1 = cc in absurd (omega arith)
 
--- bytes that are shorter than a record do not hold one
+-- bytes begin with a record exactly if they are as many as it has, and begin with its mark
+pub whole-iff : (bytes : List ℕ) → (isWhole bytes ≡ true) ↔ ((24 ≤ length bytes) × (take 2 bytes ≡ ascii "TY"))
+unfolding isWhole ascii
+whole-iff bytes = (there bytes, λ h. back bytes (h .0) (h .1))
+  where
+    there : (bytes : List ℕ) → isWhole bytes ≡ true → (24 ≤ length bytes) × (take 2 bytes ≡ ascii "TY")
+    there [] e = absurd (let z : _≡_ {A = ℕ} 0 1 = cc in omega arith)
+    there (a ∷ []) e = absurd (let z : _≡_ {A = ℕ} 0 1 = cc in omega arith)
+    there (a ∷ b ∷ bytes) e =
+        let r = both (leb 24 (length (a ∷ b ∷ bytes))) _ e in
+        let s = both (eqb a 84) (eqb b 89) (r .1) in
+        let p : a ≡ 84 = eqb-true a 84 (s .0) in
+        let q : b ≡ 89 = eqb-true b 89 (s .1) in
+        (leb-true 24 (length (a ∷ b ∷ bytes)) (r .0), cc)
+
+    back : (bytes : List ℕ) → 24 ≤ length bytes → take 2 bytes ≡ ascii "TY" → isWhole bytes ≡ true
+    back [] h e = absurd (omega arith)
+    back (a ∷ []) h e = absurd (omega arith)
+    back (a ∷ b ∷ bytes) h e =
+        let p : a ≡ 84 = cc in
+        let q : b ≡ 89 = cc in
+        rw (le-leb 24 (length (a ∷ b ∷ bytes)) h, eq-eqb a 84 p, eq-eqb b 89 q)
+
+-- so bytes that are shorter than a record do not hold one
 pub whole-long : (bytes : List ℕ) → isWhole bytes ≡ true → 24 ≤ length bytes
-unfolding isWhole
-whole-long bytes e = leb-true 24 (length bytes) (both-first (leb 24 (length bytes)) _ e)
+whole-long bytes e = whole-iff bytes .0 e .0
 
 -- no byte is left
 pub records-none : (n place : ℕ) (bytes : List ℕ) → length bytes ≡ 0 → recordsFrom n place bytes ≡ answered []

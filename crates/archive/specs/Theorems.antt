@@ -5,7 +5,8 @@ use mathlib.Core.Path.{_≡_}
 use mathlib.Core.Logic.{_↔_, _⊎_}
 use mathlib.Core.List.{List, [], _∷_, _++_, List·Memᴰ as Mem}
 use Prim.Native.Nat.{ℕ, _-_, _≤_, _<_}
-use lib.ListN.{length, take, replicate}
+use mathlib.Core.Option.{some}
+use lib.ListN.{length, getElem?, take, replicate}
 use Rattle.archive.specs.declared.Record.{Record}
 use Rattle.archive.specs.Archive.{answered, refusedAt, refusedBy, LeavesOutcome, numberAt, countHeld, recordBytes, recordSize, recordIn, recordsOf, countRecords, recordAt, currentRecord, writeRecord}
 use Rattle.archive.specs.Records.{archiveOf, AreBytes, InRange, AllInRange, Begins, IsBroken, IsCurrent, NotBelow}
@@ -76,6 +77,14 @@ record-refused = Broken.record-refused
 pub current-refused : (file : List ℕ) (id place : ℕ) → (currentRecord file id ≡ refusedAt 13 place) ↔ (recordsOf file ≡ refusedAt 13 place)
 current-refused = Broken.current-refused
 
+-- Of a sound file the number of records and the record at a place are those of the records that are read.
+pub count-answers : (file : List ℕ) (n : ℕ) → (countRecords file ≡ answered n) ↔ ((rs : List Record) × (recordsOf file ≡ answered rs) × (length rs ≡ n))
+count-answers = Broken.count-answers
+
+pub record-answers : (file : List ℕ) (place : ℕ) (r : Record)
+    → (recordAt file place ≡ answered r) ↔ ((rs : List Record) × (recordsOf file ≡ answered rs) × (getElem? rs place ≡ some r))
+record-answers = Broken.record-answers
+
 -- "14 when a sound file has no record of the id or at the place, after 13"
 pub record-absent : (file : List ℕ) (place : ℕ) → (recordAt file place ≡ refusedBy 14) ↔ ((rs : List Record) × (recordsOf file ≡ answered rs) × (length rs ≤ place))
 record-absent = Broken.record-absent
@@ -116,10 +125,14 @@ module _ (file : List ℕ) (rs : List Record) (sound : recordsOf file ≡ answer
   pub append-other : (id : ℕ) → (r .id ≡ id → ⊥) → currentRecord longer id ≡ currentRecord file id
   append-other = Append.append-other file rs sound r longer append-reads
 
-  -- and is current exactly if its year and revision are not below those of the former current record, if there is one,
+  -- and is current exactly if its year and revision are not below those of the former current record, if there is one;
   pub append-current : IsCurrent (r .id) (rs ++ r ∷ []) (length rs) r ↔ ((c : Record) → currentRecord file (r .id) ≡ answered c → NotBelow r c)
   append-current = Append.append-current file rs sound r longer append-reads
 
-  -- which else goes on to be current.
+  -- so that it is what is given then,
+  pub append-given : ((c : Record) → currentRecord file (r .id) ≡ answered c → NotBelow r c) → currentRecord longer (r .id) ≡ answered r
+  append-given h = current-iff longer (r .id) r .1 (rs ++ r ∷ [], length rs, append-reads, append-current .1 h)
+
+  -- and else the former one.
   pub append-below : (c : Record) → currentRecord file (r .id) ≡ answered c → (NotBelow r c → ⊥) → currentRecord longer (r .id) ≡ answered c
   append-below = Append.append-below file rs sound r longer append-reads

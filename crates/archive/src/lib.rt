@@ -13,10 +13,10 @@ ghost use Rattle.refusal.specs.Refusal.{verdictNumber};
 ghost use Rattle.archive.specs.Archive.{countRecords, recordAt, currentRecord, writeRecord, recordCountAnswer, recordAnswer, LeavesOutcome};
 
 mod bytes;
-mod newest;
+mod candidate;
 mod output;
 
-use newest::Newest;
+use candidate::Candidate;
 
 // An entry of the archive: the count's low and high word.
 pub struct Record {
@@ -93,16 +93,16 @@ pub fn record_at(file: &[u8], place: usize) -> FoundRecord
 pub fn current_record(file: &[u8], id: u16) -> FoundRecord
     ensures { λ r. ⌜ recordAnswer r ≡ currentRecord (now (file .entry)) id ⌝ }
 {
-    let mut current = Newest::Nothing;
+    let mut current = Candidate::Nothing;
     let mut place = 0;
     let mut at = 0;
     while at < file.len() {
         if !bytes::is_whole(file, at) {
             return FoundRecord::Broken(place);
         }
-        current = newest::current_of(current, bytes::record_from(file, at), id);
+        current = candidate::current_of(current, bytes::record_from(file, at), id);
         at += 24;
         place += 1;
     }
-    newest::told(current)
+    candidate::told(current)
 }

@@ -15,7 +15,7 @@ fn byte_in(word: u64, k: usize) -> u8
     ((word >> (8 * k)) % 256) as u8
 }
 
-// Byte i of the two of a mark or a field, counted from the highest.
+// Byte i of a record, one of the first eight: the mark, and the fields of two bytes.
 fn field_byte(record: Record, i: usize) -> u8
     requires { ⌜ i < 8 ⌝ }
     ensures { λ r. ⌜ r ≡ getD (recordBytes «record») i 0 ⌝ }

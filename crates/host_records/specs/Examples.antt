@@ -2,9 +2,8 @@
 use mathlib.Core.Path.{_≡_, refl}
 use mathlib.Core.List.{List, [], _∷_, _++_, map}
 use Prim.Native.Nat.{ℕ}
-use lib.ListN.{take}
 use Rattle.archive.specs.declared.Record.{Record}
-use Rattle.archive.specs.Archive.{recordBytes, answered, refusedAt, refusedBy}
+use Rattle.archive.specs.Archive.{recordBytes, writeRecord, answered, refusedAt, refusedBy}
 use Rattle.host_records.specs.Calls.{recordFor, recordWords, recordsCounted, recordFound, currentFound}
 
 -- plot 258 of the year 2026, revision 772, with the count 2 ^ 64 * 3 + 5; and a later revision, with another count
@@ -14,8 +13,17 @@ first = recordFor 258 2026 772 5 3
 abbrev second : Record
 second = recordFor 258 2026 773 6 0
 
+-- the numbers in the order in which a host hands them in, low word before high word, and in which it gets them
+fields : first ≡ record { id = 258; year = 2026; revision = 772; low = 5; high = 3 }
+fields = refl
+
 words : recordWords first ≡ 258 ∷ 2026 ∷ 772 ∷ 5 ∷ 3 ∷ []
 words = refl
+
+-- what is written of them: in the file the high word stands first
+written : writeRecord first 24 ≡ answered (84 ∷ 89 ∷ 1 ∷ 2 ∷ 7 ∷ 234 ∷ 3 ∷ 4 ∷ 0 ∷ 0 ∷ 0 ∷ 0 ∷ 0 ∷ 0 ∷ 0 ∷ 3 ∷ 0 ∷ 0 ∷ 0 ∷ 0 ∷ 0 ∷ 0 ∷ 0 ∷ 5 ∷ [])
+unfolding writeRecord
+written = refl
 
 -- the file of both, and with the first byte of a third
 abbrev both : List ℕ

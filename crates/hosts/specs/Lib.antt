@@ -10,3 +10,4 @@ pub mod Examples
 pub mod WordExamples
 pub mod RecordLaws
 pub mod RecordTheorems
+pub mod RecordExamples

@@ -5,14 +5,14 @@ use Prim.Native.Nat.{_-_}
 use lib.ListN.{length}
 use borrow.Author.Tests.{not-true, not-false}
 use Rattle.archive.specs.Archive.{currentRecord}
-use Rattle.archive.specs.Inner.{newestOf}
+use Rattle.archive.specs.Inner.{candidateOf}
 use Rattle.archive.proofs.ReadingLaws.{Ahead, ahead-broken, ahead-long, toCompare, current-start, current-step, current-end}
 use borrow.Author.Needs.{needs}
 use Rattle.archive.proofs.current_record.Statement.{statement}
 use Rattle.archive.proofs.current_record.Tie as tie
 
 abbrev Inv-loop : tie.InvT-loop
-Inv-loop file id current₀ place₀ at₀ current place at = Ahead file (currentRecord file id) (toCompare file id (newestOf current)) place at
+Inv-loop file id current₀ place₀ at₀ current place at = Ahead file (currentRecord file id) (toCompare file id (candidateOf current)) place at
 
 abbrev μ-loop : tie.MeasureT-loop
 μ-loop file id current₀ place₀ at₀ current place at = length file - at

@@ -1,8 +1,8 @@
--- `archive::newest::replaces` meets its contract: the year, and then the revision.
+-- `archive::candidate::replaces` meets its contract: the year, and then the revision.
 -- Assumes nothing.
 use Rattle.archive.proofs.ReadingLaws.{replaces-year, replaces-same, replaces-not}
-use Rattle.archive.proofs.newest.replaces.Statement.{statement}
-use Rattle.archive.proofs.newest.replaces.Tie as tie
+use Rattle.archive.proofs.candidate.replaces.Statement.{statement}
+use Rattle.archive.proofs.candidate.replaces.Tie as tie
 
 returns : tie.Need-returns
 returns c = replaces-year _ _ (c .if1 .taken)

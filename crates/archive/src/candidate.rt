@@ -1,12 +1,13 @@
-// Which record of a plot id counts, record by record. Private helpers.
+// Which record of a plot id counts, record by record: the candidate is the one that counts so far.
+// Private helpers.
 use crate::FoundRecord;
 use crate::Record;
 ghost use mathlib.Core.Path.{_≡_};
 ghost use Rattle.archive.specs.Archive.{orAbsent, replaces, currentOf, recordAnswer};
-ghost use Rattle.archive.specs.Inner.{newestOf};
+ghost use Rattle.archive.specs.Inner.{candidateOf};
 
 // The record that counts so far.
-pub enum Newest {
+pub enum Candidate {
     Nothing,
     Is(Record),
 }
@@ -26,29 +27,29 @@ fn replaces(record: Record, before: Record) -> bool
 }
 
 // The one of an id that counts, with one record more.
-pub fn current_of(current: Newest, record: Record, id: u16) -> Newest
-    ensures { λ r. ⌜ newestOf r ≡ currentOf id (newestOf current) «record» ⌝ }
+pub fn current_of(current: Candidate, record: Record, id: u16) -> Candidate
+    ensures { λ r. ⌜ candidateOf r ≡ currentOf id (candidateOf current) «record» ⌝ }
 {
     if record.id != id {
         return current;
     }
     match current {
-        Newest::Nothing => Newest::Is(record),
-        Newest::Is(before) => {
+        Candidate::Nothing => Candidate::Is(record),
+        Candidate::Is(before) => {
             if replaces(record, before) {
-                return Newest::Is(record);
+                return Candidate::Is(record);
             }
-            Newest::Is(before)
+            Candidate::Is(before)
         }
     }
 }
 
 // The answer.
-pub fn told(current: Newest) -> FoundRecord
-    ensures { λ r. ⌜ recordAnswer r ≡ orAbsent (newestOf current) ⌝ }
+pub fn told(current: Candidate) -> FoundRecord
+    ensures { λ r. ⌜ recordAnswer r ≡ orAbsent (candidateOf current) ⌝ }
 {
     match current {
-        Newest::Nothing => FoundRecord::Absent,
-        Newest::Is(record) => FoundRecord::Is(record),
+        Candidate::Nothing => FoundRecord::Absent,
+        Candidate::Is(record) => FoundRecord::Is(record),
     }
 }

@@ -1,9 +1,9 @@
--- `archive::newest::told` meets its contract: the record, or that there is none.
+-- `archive::candidate::told` meets its contract: the record, or that there is none.
 -- Assumes nothing.
 use Rattle.archive.proofs.ReadingLaws.{none-told, one-told}
 use borrow.Author.Needs.{needs}
-use Rattle.archive.proofs.newest.told.Statement.{statement}
-use Rattle.archive.proofs.newest.told.Tie as tie
+use Rattle.archive.proofs.candidate.told.Statement.{statement}
+use Rattle.archive.proofs.candidate.told.Tie as tie
 
 returns : tie.Need-returns
 returns c = none-told _ (c .enum-told .given .1)
