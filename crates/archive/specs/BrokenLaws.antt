@@ -1,5 +1,5 @@
 -- Laws of broken records: the reading of a file stops at the earliest broken record, with its place, and else reads to the end (`reading`); which calls are refused by
--- that, and where a sound file has no record at a place. Rests on `StepLaws` and `OutcomeLaws`. Assumes nothing.
+-- that, what they answer of a sound file, and where it has no record at a place. Rests on `PlaceLaws`, `StepLaws` and `OutcomeLaws`. Assumes nothing.
 use mathlib.Core.Path.{_≡_, refl, sym, ap, _∙_, subst}
 use mathlib.Core.Logic.{_↔_, _⊎_, inl, inr, ⊎-elim}
 use mathlib.Core.Bool.{Bool, true, false}
@@ -190,7 +190,7 @@ unfolding currentRecord
 current-refused file id place =
     bind-refusedAt (λ rs. orAbsent (currentAmong id none rs)) (recordsOf file) 13 place (λ rs. orAbsent-refusedAt (currentAmong id none rs) 13 place)
 
--- ---- 14
+-- ---- what they answer of a sound file
 
 -- the number of records is that of those that are read,
 pub count-answers : (file : List ℕ) (n : ℕ) → (countRecords file ≡ answered n) ↔ ((rs : List Record) × (recordsOf file ≡ answered rs) × (length rs ≡ n))
@@ -206,6 +206,8 @@ record-answers file place r =
       λ e. let s = b .0 e in (s .0, s .1, orAbsent-answered (getElem? (s .0) place) r .0 (s .2)),
       λ s. b .1 (s .0, s .1, orAbsent-answered (getElem? (s .0) place) r .1 (s .2)),
     )
+
+-- ---- 14
 
 -- a sound file has no record at a place exactly if it has fewer
 pub record-absent : (file : List ℕ) (place : ℕ) → (recordAt file place ≡ refusedBy 14) ↔ ((rs : List Record) × (recordsOf file ≡ answered rs) × (length rs ≤ place))

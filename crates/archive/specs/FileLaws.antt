@@ -1,6 +1,6 @@
 -- Laws of files: a record that was written reads back; a file in front of other bytes is read before them, so that a file of records is read as these, and one record
 -- more behind a sound file is read behind the others; a sound file is the file of its records, and of one list only; what `write_record` leaves. Rests on `PlaceLaws`,
--- `OutcomeLaws`, `ByteLaws` and `StepLaws`. Assumes nothing.
+-- `OutcomeLaws`, `ByteLaws`, `StepLaws` and `BrokenLaws`. Assumes nothing.
 use mathlib.Core.Path.{_≡_, refl, sym, ap, ap₂, _∙_, subst}
 use mathlib.Core.Logic.{_↔_, _⊎_, inl, inr, ⊎-elim}
 use mathlib.Core.Bool.{Bool, true, false, cond, _&&_}
@@ -9,16 +9,17 @@ use Prim.Native.Nat.{ℕ, zero, suc, _+_, _-_, _*_, _^_, _≤_, _<_}
 use native.Mathlib.Nat.{add-zero, le-of-eq}
 use native.Mathlib.Omega.{arith}
 use lib.Dec.{eqb, leb}
-use lib.ListN.{length, getD, getElem?, take, drop, replicate, length-append, take-append-drop, drop-of-length-le, List·getD-append}
+use lib.ListN.{length, getD, take, drop, replicate, length-append, take-append-drop, drop-of-length-le, List·getD-append}
 use lib.Seq.{getD-drop, take-add, take-at, drop-drop, drop-append-le}
 use borrow.Author.Tests.{le-leb, leb-true, leb-false}
 use Rattle.cells.specs.Lists.{padded, ascii}
 use Rattle.cells.specs.ArrayLaws.{padded-room}
 use Rattle.archive.specs.declared.Record.{Record}
-use Rattle.archive.specs.Archive.{Outcome, answered, refusedAt, refusedBy, mapOutcome, bindOutcome, outcomeNumber, handedBack, LeavesOutcome, orAbsent, bigEndian, numberAt, countHeld, recordBytes, recordSize, recordIn, isWhole, recordsOf, recordAt, writeRecord}
+use Rattle.archive.specs.Archive.{Outcome, answered, refusedAt, refusedBy, mapOutcome, outcomeNumber, handedBack, LeavesOutcome, bigEndian, numberAt, countHeld, recordBytes, recordSize, recordIn, isWhole, recordsOf, recordAt, writeRecord}
 use Rattle.archive.specs.Records.{archiveOf, AreBytes, InRange, AllInRange}
 use Rattle.archive.specs.ByteLaws.{count-words, count-bytes, numberAt-append, numberAt-front, numberAt-lt, numberAt-split, numberAt-bigEndian, numberAt-here, numberAt-past, bigEndian-numberAt}
 use Rattle.archive.specs.PlaceLaws.{at-seam}
+use Rattle.archive.specs.BrokenLaws.{record-answers}
 use Rattle.archive.specs.OutcomeLaws.{map-map, answered-refusedAt}
 use Rattle.archive.specs.StepLaws.{whole-iff, readFrom, whole-long, read-none, read-broken, read-whole}
 
@@ -256,13 +257,14 @@ range-cons r rs f g s m = ⊎-elim (λ e. subst InRange (sym e) f) (g s) (cases-
 -- and so is every record in it
 pub record-reads-back : (before : List Record) (r : Record) (behind : List Record) → AllInRange before → InRange r → AllInRange behind
     → recordAt (archiveOf before ++ recordBytes r ++ archiveOf behind) (length before) ≡ answered r
-unfolding recordAt recordsOf archiveOf flatMap mapOutcome bindOutcome orAbsent
-record-reads-back before r behind f g h =
-    ap (λ (l : List ℕ). recordAt l (length before)) (append-assoc (archiveOf before) (recordBytes r) (archiveOf behind))
-    ∙ ap (λ (o : Outcome (List Record)). bindOutcome o (λ rs. orAbsent (getElem? rs (length before))))
-    (read-append before 0 (archiveOf before) (archiveOf (r ∷ behind)) (read-archive 0 before f)
-    ∙ ap (mapOutcome (λ (ss : List Record). before ++ ss)) (read-archive (0 + length before) (r ∷ behind) (range-cons r behind g h)))
-    ∙ ap orAbsent (at-seam before r behind)
+unfolding recordsOf archiveOf flatMap mapOutcome
+record-reads-back before r behind f g h = record-answers (archiveOf before ++ recordBytes r ++ archiveOf behind) (length before) r .1 (before ++ r ∷ behind, reads, at-seam before r behind)
+  where
+    reads : recordsOf (archiveOf before ++ recordBytes r ++ archiveOf behind) ≡ answered (before ++ r ∷ behind)
+    reads =
+        ap recordsOf (append-assoc (archiveOf before) (recordBytes r) (archiveOf behind))
+        ∙ read-append before 0 (archiveOf before) (archiveOf (r ∷ behind)) (read-archive 0 before f)
+        ∙ ap (mapOutcome (λ (ss : List Record). before ++ ss)) (read-archive (0 + length before) (r ∷ behind) (range-cons r behind g h))
 
 -- a file that is read is the file of its records
 read-archiveOf : (rs : List Record) (place : ℕ) (file : List ℕ) → AreBytes file → readFrom place file ≡ answered rs → (file ≡ archiveOf rs) × AllInRange rs

@@ -6,9 +6,9 @@ pub mod Inner
 pub mod PlaceLaws
 pub mod StepLaws
 pub mod OutcomeLaws
+pub mod BrokenLaws
 pub mod ByteLaws
 pub mod FileLaws
-pub mod BrokenLaws
 pub mod CurrentLaws
 pub mod AppendLaws
 pub mod Theorems
