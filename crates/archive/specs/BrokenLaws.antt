@@ -4,7 +4,7 @@ use mathlib.Core.Path.{_≡_, refl, sym, ap, _∙_, subst}
 use mathlib.Core.Logic.{_↔_, _⊎_, inl, inr, ⊎-elim}
 use mathlib.Core.Bool.{Bool, true, false}
 use mathlib.Core.List.{List, [], _∷_}
-use mathlib.Core.Option.{none, some}
+use mathlib.Core.Option.{none, some, Option}
 use Prim.Native.Nat.{ℕ, zero, suc, _+_, _*_, _-_, _≤_, _<_}
 use native.Mathlib.Omega.{arith}
 use borrow.Author.Tests.{leb-true, leb-false, ltb-false, ltb-true}
@@ -13,7 +13,7 @@ use lib.ListN.{length, getElem?, drop, length-drop}
 use lib.Seq.{drop-drop}
 use Rattle.cells.specs.Lists.{ascii}
 use Rattle.archive.specs.declared.Record.{Record}
-use Rattle.archive.specs.Archive.{Outcome, answered, refusedAt, refusedBy, mapOutcome, orAbsent, recordIn, isWhole, recordsOf, countRecords, recordAt, currentAmong, currentRecord}
+use Rattle.archive.specs.Archive.{Outcome, answered, refusedAt, refusedBy, mapOutcome, orAbsent, recordIn, isWhole, recordsOf, countRecords, recordAt, currentAmong, currentRecord, bindOutcome}
 use Rattle.archive.specs.Records.{Begins, IsBroken}
 use Rattle.archive.specs.PlaceLaws.{absent-iff}
 use Rattle.archive.specs.StepLaws.{whole-iff, readFrom, read-none, read-broken, read-whole}
@@ -171,6 +171,35 @@ broken-iff file place = (
         go false q true r = absurd (s .first place (omega arith) (ltb-true place (s .place) r) b)
         go false q false r = let l = ltb-false (s .place) place q in let m = ltb-false place (s .place) r in omega arith
 
+-- ---- of which kinds the answers are
+
+-- a value, 13 with the place that the file is refused with, or 14
+pub data Kind {A : Type 0} (file : List ℕ) (o : Outcome A) : Type 0 where
+  value : (x : A) → o ≡ answered x → Kind file o
+  broken : (place : ℕ) → recordsOf file ≡ refusedAt 13 place → o ≡ refusedAt 13 place → Kind file o
+  absent : o ≡ refusedBy 14 → Kind file o
+
+-- the records of a file,
+pub records-kind : (file : List ℕ) → Kind file (recordsOf file)
+records-kind file = ⊎-elim (λ s. value (s .0) (s .1)) (λ s. broken (s .0) (s .1) (s .1)) (sound-or-broken file)
+
+-- and one that is picked from them
+pub picked-kind : (file : List ℕ) (pick : List Record → Option Record) → Kind file (bindOutcome (recordsOf file) (λ rs. orAbsent (pick rs)))
+unfolding bindOutcome orAbsent
+picked-kind file pick = go (records-kind file)
+  where
+    picked : Outcome (List Record) → Outcome Record
+    picked a = bindOutcome a (λ rs. orAbsent (pick rs))
+
+    one : (r : Option Record) → picked (recordsOf file) ≡ orAbsent r → Kind file (picked (recordsOf file))
+    one none e = absent e
+    one (some r) e = value r e
+
+    go : Kind file (recordsOf file) → Kind file (picked (recordsOf file))
+    go (value rs e) = one (pick rs) (ap picked e)
+    go (broken place e q) = broken place e (ap picked e)
+    go (absent e) = absurd (never-absent file 14 e)
+
 -- ---- the calls
 
 -- Each is refused by 13 where the file is, and then only, with that place: how many records there are,
@@ -189,6 +218,25 @@ pub current-refused : (file : List ℕ) (id place : ℕ) → (currentRecord file
 unfolding currentRecord
 current-refused file id place =
     bind-refusedAt (λ rs. orAbsent (currentAmong id none rs)) (recordsOf file) 13 place (λ rs. orAbsent-refusedAt (currentAmong id none rs) 13 place)
+
+-- ---- each answers a value, 13 or 14
+
+kinds-told : {A : Type 0} (file : List ℕ) (o : Outcome A) → Kind file o → ((x : A) × (o ≡ answered x)) ⊎ (((place : ℕ) × (o ≡ refusedAt 13 place)) ⊎ (o ≡ refusedBy 14))
+kinds-told file o (value x e) = inl (x, e)
+kinds-told file o (broken place q e) = inr (inl (place, e))
+kinds-told file o (absent e) = inr (inr e)
+
+-- the record at a place,
+pub record-told : (file : List ℕ) (place : ℕ)
+    → ((r : Record) × (recordAt file place ≡ answered r)) ⊎ (((p : ℕ) × (recordAt file place ≡ refusedAt 13 p)) ⊎ (recordAt file place ≡ refusedBy 14))
+unfolding recordAt
+record-told file place = kinds-told file (recordAt file place) (picked-kind file (λ rs. getElem? rs place))
+
+-- and the current one
+pub current-told : (file : List ℕ) (id : ℕ)
+    → ((r : Record) × (currentRecord file id ≡ answered r)) ⊎ (((p : ℕ) × (currentRecord file id ≡ refusedAt 13 p)) ⊎ (currentRecord file id ≡ refusedBy 14))
+unfolding currentRecord
+current-told file id = kinds-told file (currentRecord file id) (picked-kind file (currentAmong id none))
 
 -- ---- what they answer of a sound file
 

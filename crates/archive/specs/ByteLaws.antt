@@ -55,6 +55,24 @@ pub getD-bigEndian : (k n i : ℕ) → i < k → getD (bigEndian k n) i 0 ≡ n 
 getD-bigEndian zero n i h = absurd (omega arith)
 getD-bigEndian (suc k) n i h = each-byte k n i h (λ l. getD-bigEndian k (n / 256) i l) (ℕ-discrete i k)
 
+-- ---- what is written are bytes
+
+-- bytes behind bytes are bytes,
+pub bytes-append : (xs ys : List ℕ) → AreBytes xs → AreBytes ys → AreBytes (xs ++ ys)
+bytes-append [] ys f g i = g i
+bytes-append (x ∷ xs) ys f g zero = f 0
+bytes-append (x ∷ xs) ys f g (suc i) = bytes-append xs ys (λ j. f (suc j)) g i
+
+-- and so are those of a number
+pub bytes-bigEndian : (k n : ℕ) → AreBytes (bigEndian k n)
+unfolding bigEndian
+bytes-bigEndian zero n i = lit< tt
+bytes-bigEndian (suc k) n i = bytes-append (bigEndian k (n / 256)) (n % 256 ∷ []) (bytes-bigEndian k (n / 256)) last i
+  where
+    last : AreBytes (n % 256 ∷ [])
+    last zero = omega arith
+    last (suc i) = lit< tt
+
 -- ---- a number cut in two
 
 module _ (p high low : ℕ) where

@@ -1,4 +1,4 @@
--- Laws of the current record: what `currentAmong` tells is the current record in words (`current-told`), of which there is one (`current-once`), and so is what
+-- Laws of the current record: what `currentAmong` tells is the current record in words (`among-told`), of which there is one (`current-once`), and so is what
 -- `currentRecord` answers; what one record more changes. Rests on `PlaceLaws`, `OutcomeLaws` and `BrokenLaws`. Assumes nothing.
 use mathlib.Core.Path.{_≡_, refl, sym, ap, _∙_, subst}
 use mathlib.Core.Logic.{_↔_, inl, inr, ⊎-elim}
@@ -143,8 +143,8 @@ told-all id rs o [] h = rw (append-nil rs) h
 told-all id rs o (y ∷ behind) h =
     rw (append-snoc rs y behind) at (told-all id (rs ++ y ∷ []) (currentOf id o y) behind (told-next id rs o y h))
 
-current-told : (id : ℕ) (rs : List Record) → Told id rs (currentAmong id none rs)
-current-told id rs = told-all id [] none rs (λ p s e i. let z : _≡_ {A = ℕ} 0 1 = cc in omega arith)
+among-told : (id : ℕ) (rs : List Record) → Told id rs (currentAmong id none rs)
+among-told id rs = told-all id [] none rs (λ p s e i. let z : _≡_ {A = ℕ} 0 1 = cc in omega arith)
 
 -- ---- the current record
 
@@ -159,7 +159,7 @@ current-once id rs p q r s c d =
 
 -- the record that is told is the current one,
 pub among-some : (id : ℕ) (rs : List Record) (r : Record) → (currentAmong id none rs ≡ some r) ↔ ((place : ℕ) × IsCurrent id rs place r)
-among-some id rs r = (λ e. subst (Told id rs) e (current-told id rs), λ c. go (currentAmong id none rs) (current-told id rs) (c .0) (c .1))
+among-some id rs r = (λ e. subst (Told id rs) e (among-told id rs), λ c. go (currentAmong id none rs) (among-told id rs) (c .0) (c .1))
   where
     go : (o : Option Record) → Told id rs o → (place : ℕ) → IsCurrent id rs place r → o ≡ some r
     go none h place c = absurd (h place r (c .there) (c .ofId))
@@ -167,7 +167,7 @@ among-some id rs r = (λ e. subst (Told id rs) e (current-told id rs), λ c. go 
 
 -- and none is told where none is of the id
 pub among-none : (id : ℕ) (rs : List Record) → (currentAmong id none rs ≡ none) ↔ NoneOf id rs
-among-none id rs = (λ e. subst (Told id rs) e (current-told id rs), λ h. go (currentAmong id none rs) (current-told id rs) h)
+among-none id rs = (λ e. subst (Told id rs) e (among-told id rs), λ h. go (currentAmong id none rs) (among-told id rs) h)
   where
     go : (o : Option Record) → Told id rs o → NoneOf id rs → o ≡ none
     go none c h = refl

@@ -2,6 +2,7 @@
 use mathlib.Core.Path.{_≡_, refl}
 use mathlib.Core.List.{List, [], _∷_, _++_, map}
 use mathlib.Core.Option.{none, some}
+use native.Mathlib.Omega.{arith}
 use Prim.Native.Nat.{ℕ, _+_, _-_, _*_, _^_}
 use lib.ListN.{take, drop}
 use Rattle.cells.specs.Lists.{ascii}
@@ -9,7 +10,7 @@ use Rattle.archive.specs.declared.Record.{Record}
 use Rattle.archive.specs.declared.RecordCount.the-variants as RecordCounts
 use Rattle.archive.specs.declared.FoundRecord.the-variants as Found
 use Rattle.archive.specs.Archive.{bigEndian, numberAt, countHeld, recordBytes, recordIn, Outcome, answered, refusedAt, refusedBy, mapOutcome, bindOutcome, outcomeNumber, handedBack, recordsOf, currentAmong, countRecords, recordAt, currentRecord, writeRecord, recordCountAnswer, recordAnswer}
-use Rattle.archive.specs.Records.{archiveOf}
+use Rattle.archive.specs.Records.{archiveOf, InRange}
 
 -- ---- numbers in bytes
 
@@ -49,6 +50,9 @@ last = record { id = 2 ^ 16 - 1; year = 2 ^ 16 - 1; revision = 2 ^ 16 - 1; low =
 last-bytes : recordBytes last ≡ ascii "TY" ++ bigEndian 22 (256 ^ 22 - 1)
 unfolding recordBytes
 last-bytes = refl
+
+last-fits : InRange last
+last-fits = record { id = omega arith; year = omega arith; revision = omega arith; low = omega arith; high = omega arith }
 
 last-read : recordIn (recordBytes last) ≡ last
 unfolding recordIn recordBytes

@@ -8,7 +8,7 @@ use mathlib.Core.List.{List, [], _∷_, _++_, flatMap, append-assoc, List·Mem�
 use Prim.Native.Nat.{ℕ, zero, suc, _+_, _-_, _*_, _^_, _≤_, _<_}
 use native.Mathlib.Nat.{add-zero, le-of-eq}
 use native.Mathlib.Omega.{arith}
-use lib.Dec.{eqb, leb}
+use lib.Dec.{eqb, leb, lit<}
 use lib.ListN.{length, getD, take, drop, replicate, length-append, take-append-drop, drop-of-length-le, List·getD-append}
 use lib.Seq.{getD-drop, take-add, take-at, drop-drop, drop-append-le}
 use borrow.Author.Tests.{le-leb, leb-true, leb-false}
@@ -17,7 +17,7 @@ use Rattle.cells.specs.ArrayLaws.{padded-room}
 use Rattle.archive.specs.declared.Record.{Record}
 use Rattle.archive.specs.Archive.{Outcome, answered, refusedAt, refusedBy, mapOutcome, outcomeNumber, handedBack, LeavesOutcome, bigEndian, numberAt, countHeld, recordBytes, recordSize, recordIn, isWhole, recordsOf, recordAt, writeRecord}
 use Rattle.archive.specs.Records.{archiveOf, AreBytes, InRange, AllInRange}
-use Rattle.archive.specs.ByteLaws.{count-words, count-bytes, numberAt-append, numberAt-front, numberAt-lt, numberAt-split, numberAt-bigEndian, numberAt-here, numberAt-past, bigEndian-numberAt}
+use Rattle.archive.specs.ByteLaws.{count-words, count-bytes, numberAt-append, numberAt-front, numberAt-lt, numberAt-split, numberAt-bigEndian, numberAt-here, numberAt-past, bigEndian-numberAt, bytes-append, bytes-bigEndian}
 use Rattle.archive.specs.PlaceLaws.{at-seam}
 use Rattle.archive.specs.BrokenLaws.{record-answers}
 use Rattle.archive.specs.OutcomeLaws.{map-map, answered-refusedAt}
@@ -265,6 +265,26 @@ record-reads-back before r behind f g h = record-answers (archiveOf before ++ re
         ap recordsOf (append-assoc (archiveOf before) (recordBytes r) (archiveOf behind))
         ∙ read-append before 0 (archiveOf before) (archiveOf (r ∷ behind)) (read-archive 0 before f)
         ∙ ap (mapOutcome (λ (ss : List Record). before ++ ss)) (read-archive (0 + length before) (r ∷ behind) (range-cons r behind g h))
+
+-- its numbers are bytes
+bytes-mark : AreBytes (ascii "TY")
+unfolding ascii
+bytes-mark zero = lit< tt
+bytes-mark (suc zero) = lit< tt
+bytes-mark (suc (suc i)) = lit< tt
+
+bytes-record : (r : Record) → AreBytes (recordBytes r)
+unfolding recordBytes
+bytes-record r =
+    let fields = bytes-append (ascii "TY" ++ bigEndian 2 (r .id)) (bigEndian 2 (r .year)) (bytes-append (ascii "TY") (bigEndian 2 (r .id)) bytes-mark (bytes-bigEndian 2 (r .id))) (bytes-bigEndian 2 (r .year)) in
+    bytes-append (ascii "TY" ++ bigEndian 2 (r .id) ++ bigEndian 2 (r .year) ++ bigEndian 2 (r .revision)) (bigEndian 16 (countHeld r))
+    (bytes-append (ascii "TY" ++ bigEndian 2 (r .id) ++ bigEndian 2 (r .year)) (bigEndian 2 (r .revision)) fields (bytes-bigEndian 2 (r .revision)))
+    (bytes-bigEndian 16 (countHeld r))
+
+pub bytes-archive : (rs : List Record) → AreBytes (archiveOf rs)
+unfolding archiveOf flatMap
+bytes-archive [] i = lit< tt
+bytes-archive (r ∷ rs) i = bytes-append (recordBytes r) (archiveOf rs) (bytes-record r) (bytes-archive rs) i
 
 -- a file that is read is the file of its records
 read-archiveOf : (rs : List Record) (place : ℕ) (file : List ℕ) → AreBytes file → readFrom place file ≡ answered rs → (file ≡ archiveOf rs) × AllInRange rs

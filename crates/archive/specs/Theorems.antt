@@ -49,13 +49,17 @@ module _ (r : Record) (old new : List ℕ) (n : ℕ) (written : LeavesOutcome (w
 
 -- ---- 2. "a file of records has one reading"
 
--- A file is sound exactly if it is the file of a list of records, of which it is the reading,
+-- A file of bytes is sound exactly if it is the file of a list of records, which is then its reading,
 pub sound-iff : (file : List ℕ) → AreBytes file → (rs : List Record) → (recordsOf file ≡ answered rs) ↔ ((file ≡ archiveOf rs) × AllInRange rs)
 sound-iff = File.sound-iff
 
 -- and it is so of one list only.
 pub one-reading : (rs ss : List Record) → AllInRange rs → AllInRange ss → archiveOf rs ≡ archiveOf ss → rs ≡ ss
 one-reading = File.one-reading
+
+-- (The file of any records has bytes only.)
+pub archive-bytes : (rs : List Record) → AreBytes (archiveOf rs)
+archive-bytes = File.bytes-archive
 
 -- ---- 3. 13, "handed back with the place of the earliest such record"
 
@@ -77,7 +81,16 @@ record-refused = Broken.record-refused
 pub current-refused : (file : List ℕ) (id place : ℕ) → (currentRecord file id ≡ refusedAt 13 place) ↔ (recordsOf file ≡ refusedAt 13 place)
 current-refused = Broken.current-refused
 
--- Of a sound file the number of records and the record at a place are those of the records that are read.
+-- Else the number of records is given, and a record or 14.
+pub record-told : (file : List ℕ) (place : ℕ)
+    → ((r : Record) × (recordAt file place ≡ answered r)) ⊎ (((p : ℕ) × (recordAt file place ≡ refusedAt 13 p)) ⊎ (recordAt file place ≡ refusedBy 14))
+record-told = Broken.record-told
+
+pub current-told : (file : List ℕ) (id : ℕ)
+    → ((r : Record) × (currentRecord file id ≡ answered r)) ⊎ (((p : ℕ) × (currentRecord file id ≡ refusedAt 13 p)) ⊎ (currentRecord file id ≡ refusedBy 14))
+current-told = Broken.current-told
+
+-- Number and record are those of the records that are read.
 pub count-answers : (file : List ℕ) (n : ℕ) → (countRecords file ≡ answered n) ↔ ((rs : List Record) × (recordsOf file ≡ answered rs) × (length rs ≡ n))
 count-answers = Broken.count-answers
 

@@ -1,10 +1,10 @@
--- Laws of the exported functions of the archive: what a call with a least number of answer words leaves, by what it answers; of which kinds the answers of the reading
--- calls are, when these return 0 and what is left after a refusal; and that what one call writes the others read. Rests on `RefusedLaws`, on `Calls` and `CallLaws` of
+-- Laws of the exported functions of the archive: what a call with a least number of answer words leaves, by what it answers; when the reading calls return 0 and what is
+-- left after a refusal; and that what one call writes the others read. Rests on `RefusedLaws`, on `Calls` and `CallLaws` of
 -- `host_records`, and on `Theorems`, `OutcomeLaws` and `BrokenLaws` of `archive`. Assumes nothing.
 use mathlib.Core.Path.{_≡_, refl, sym, ap, _∙_, subst}
 use mathlib.Core.Logic.{_↔_, _⊎_, inl, inr, ⊎-elim}
 use mathlib.Core.List.{List, [], _∷_, _++_}
-use mathlib.Core.Option.{Option, none, some}
+use mathlib.Core.Option.{none}
 use Prim.Native.Nat.{ℕ, _+_, _-_, _≤_, _<_}
 use native.Mathlib.Decide.{decLt}
 use native.Mathlib.Omega.{arith}
@@ -13,11 +13,11 @@ use lib.Seq.{take-at}
 use Rattle.cells.specs.Lists.{padded}
 use Rattle.cells.specs.ArrayLaws.{padded-room}
 use Rattle.archive.specs.declared.Record.{Record}
-use Rattle.archive.specs.Archive.{Outcome, answered, refusedAt, refusedBy, mapOutcome, bindOutcome, orAbsent, outcomeNumber, handedBack, LeavesOutcome, recordSize, recordBytes, recordsOf, countRecords, recordAt, currentAmong, currentRecord, writeRecord}
+use Rattle.archive.specs.Archive.{Outcome, answered, refusedAt, refusedBy, mapOutcome, outcomeNumber, handedBack, LeavesOutcome, recordSize, recordBytes, recordsOf, countRecords, recordAt, currentAmong, currentRecord, writeRecord}
 use Rattle.archive.specs.Records.{InRange, NotBelow}
 use Rattle.archive.specs.Theorems as Archive
 use Rattle.archive.specs.OutcomeLaws.{map-map}
-use Rattle.archive.specs.BrokenLaws.{never-absent}
+use Rattle.archive.specs.BrokenLaws.{Kind, value, broken, absent, records-kind, picked-kind, never-absent}
 use Rattle.host_records.specs.Calls.{recordWords, unlessShort, recordsCounted, recordFound, currentFound}
 use Rattle.hosts.specs.RefusedLaws.{no-numbers}
 use Rattle.host_records.specs.CallLaws.{leaves-as, unless-short, unless-enough}
@@ -61,35 +61,6 @@ module _ {A : Type 0} (f : A → List ℕ) (o : Outcome A) (needed : ℕ) (answe
     pub left-none : (k : ℕ) → o ≡ refusedBy k → (n ≡ k) × (answer′ ≡ replicate (length answer) 0)
     unfolding outcomeNumber handedBack mapOutcome
     left-none k e = let l = enough (refusedBy k) e in (l .0, l .1 ∙ no-numbers (length answer))
-
--- ---- of which kinds the answers of a reading call are
-
--- a value, 13 with the place that the file is refused with, or 14
-pub data Kind {A : Type 0} (file : List ℕ) (o : Outcome A) : Type 0 where
-  value : (x : A) → o ≡ answered x → Kind file o
-  broken : (place : ℕ) → recordsOf file ≡ refusedAt 13 place → o ≡ refusedAt 13 place → Kind file o
-  absent : o ≡ refusedBy 14 → Kind file o
-
--- the records of a file,
-pub records-kind : (file : List ℕ) → Kind file (recordsOf file)
-records-kind file = ⊎-elim (λ s. value (s .0) (s .1)) (λ s. broken (s .0) (s .1) (s .1)) (Archive.sound-or-broken file)
-
--- and one that is picked from them
-pub picked-kind : (file : List ℕ) (pick : List Record → Option Record) → Kind file (bindOutcome (recordsOf file) (λ rs. orAbsent (pick rs)))
-unfolding bindOutcome orAbsent
-picked-kind file pick = go (records-kind file)
-  where
-    picked : Outcome (List Record) → Outcome Record
-    picked a = bindOutcome a (λ rs. orAbsent (pick rs))
-
-    one : (r : Option Record) → picked (recordsOf file) ≡ orAbsent r → Kind file (picked (recordsOf file))
-    one none e = absent e
-    one (some r) e = value r e
-
-    go : Kind file (recordsOf file) → Kind file (picked (recordsOf file))
-    go (value rs e) = one (pick rs) (ap picked e)
-    go (broken place e q) = broken place e (ap picked e)
-    go (absent e) = absurd (never-absent file 14 e)
 
 -- ---- when a reading call returns 0, and what is left after a refusal
 
@@ -233,8 +204,11 @@ module _ (r : Record) (fits : InRange r) (out out′ : List ℕ) (written : Leav
   longer-earlier : (place : ℕ) → place < getD count′ 0 0 → recordAt longer place ≡ recordAt file place
   longer-earlier place h = ap (λ (l : List ℕ). recordAt l place) longer-is ∙ Archive.append-earlier file rs sound r fits place (omega (arith, number))
 
+  longer-other : (other : ℕ) → (r .id ≡ other → ⊥) → currentRecord longer other ≡ currentRecord file other
+  longer-other other ne = ap (λ (l : List ℕ). currentRecord l other) longer-is ∙ Archive.append-other file rs sound r fits other ne
+
   longer-current : ((c : Record) → currentRecord file (r .id) ≡ answered c → NotBelow r c) → currentRecord longer (r .id) ≡ answered r
-  longer-current h = Archive.current-iff longer (r .id) r .1 (rs ++ r ∷ [], length rs, longer-reads, Archive.append-current file rs sound r fits .1 h)
+  longer-current h = ap (λ (l : List ℕ). currentRecord l (r .id)) longer-is ∙ Archive.append-given file rs sound r fits h
 
   longer-below : (c : Record) → currentRecord file (r .id) ≡ answered c → (NotBelow r c → ⊥) → currentRecord longer (r .id) ≡ answered c
   longer-below c e h = ap (λ (l : List ℕ). currentRecord l (r .id)) longer-is ∙ Archive.append-below file rs sound r fits c e h
@@ -260,6 +234,15 @@ module _ (r : Record) (fits : InRange r) (out out′ : List ℕ) (written : Leav
   appended-earlier place h answer before behind m n former now =
       let same = ap (λ (o : Outcome Record). unlessShort 5 (length answer) (mapOutcome recordWords o)) (longer-earlier place h) in
       let l = leaves-told _ (recordFound file place (length answer)) answer behind n now same in
+      (former .number ∙ sym (l .0), former .words ∙ sym (l .1))
+
+  -- and so has `cuttings_current_record` of every other id,
+  pub appended-other : (other : ℕ) → (r .id ≡ other → ⊥) → (answer before behind : List ℕ) (m n : ℕ)
+      → LeavesOutcome (currentFound file other (length answer)) answer before m → LeavesOutcome (currentFound longer other (length answer)) answer behind n → (m ≡ n) × (before ≡ behind)
+  unfolding currentFound
+  appended-other other ne answer before behind m n former now =
+      let same = ap (λ (o : Outcome Record). unlessShort 5 (length answer) (mapOutcome recordWords o)) (longer-other other ne) in
+      let l = leaves-told _ (currentFound file other (length answer)) answer behind n now same in
       (former .number ∙ sym (l .0), former .words ∙ sym (l .1))
 
   module _ (answer before behind : List ℕ) (m n : ℕ) (five : 5 ≤ length answer)

@@ -78,7 +78,12 @@ module _ (id year revision low high : ℕ) (fits : InRange (recordFor id year re
       → LeavesOutcome (recordFound file place (length answer)) answer before m → LeavesOutcome (recordFound longer place (length answer)) answer behind n → (m ≡ n) × (before ≡ behind)
   appended-earlier = Laws.appended-earlier (recordFor id year revision low high) fits out out′ written file count count′ counted
 
-  -- and `cuttings_current_record` of the id gives the five numbers where it gave none before, or one whose year and revision are not higher,
+  -- `cuttings_current_record` of every other id gives what it gave,
+  pub appended-other : (other : ℕ) → (id ≡ other → ⊥) → (answer before behind : List ℕ) (m n : ℕ)
+      → LeavesOutcome (currentFound file other (length answer)) answer before m → LeavesOutcome (currentFound longer other (length answer)) answer behind n → (m ≡ n) × (before ≡ behind)
+  appended-other = Laws.appended-other (recordFor id year revision low high) fits out out′ written file count count′ counted
+
+  -- and that of the id gives the five numbers where it gave none before, or one whose year and revision are not higher,
   module _ (answer before behind : List ℕ) (m n : ℕ) (five : 5 ≤ length answer)
       (former : LeavesOutcome (currentFound file id (length answer)) answer before m) (now : LeavesOutcome (currentFound longer id (length answer)) answer behind n) where
     pub appended-current : ((m ≡ 14) ⊎ ((m ≡ 0) × ((getD before 1 0 < year) ⊎ ((getD before 1 0 ≡ year) × (getD before 2 0 ≤ revision)))))
