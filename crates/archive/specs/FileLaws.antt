@@ -13,7 +13,7 @@ use lib.ListN.{length, getD, take, drop, replicate, length-append, take-append-d
 use lib.Seq.{getD-drop, take-add, take-at, drop-drop, drop-append-le}
 use borrow.Author.Tests.{le-leb, leb-true, leb-false}
 use Rattle.cells.specs.Lists.{padded, ascii}
-use Rattle.cells.specs.ArrayLaws.{padded-room}
+use Rattle.cells.specs.ArrayLaws.{padded-room, padded-empty}
 use Rattle.archive.specs.declared.Record.{Record}
 use Rattle.archive.specs.Archive.{Outcome, answered, refusedAt, refusedBy, mapOutcome, outcomeNumber, handedBack, LeavesOutcome, bigEndian, numberAt, countHeld, recordBytes, recordSize, recordIn, isWhole, recordsOf, recordAt, writeRecord}
 use Rattle.archive.specs.Records.{archiveOf, AreBytes, InRange, AllInRange}
@@ -346,7 +346,4 @@ module _ (r : Record) (old new : List ℕ) (n : ℕ) (written : LeavesOutcome (w
 
   -- else it is refused by 8, and the output is left zero
   pub write-refused : (n ≡ 0 → ⊥) → (n ≡ 8) × (new ≡ replicate (length old) 0)
-  write-refused h = ⊎-elim (λ a. absurd (h (a .1))) (λ a. (a .1, a .2 ∙ padded-room [] (length old) (omega arith) ∙ ap (λ (k : ℕ). replicate k 0) (none-less (length old)))) write-ends
-    where
-      none-less : (k : ℕ) → k - 0 ≡ k
-      none-less k = omega arith
+  write-refused h = ⊎-elim (λ a. absurd (h (a .1))) (λ a. (a .1, a .2 ∙ padded-empty (length old))) write-ends

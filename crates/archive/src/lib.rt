@@ -18,7 +18,7 @@ mod output;
 
 use candidate::Candidate;
 
-// An entry of the archive: the count's low and high word.
+// A record of an archive file; its count is two words, low and high.
 pub struct Record {
     pub id: u16,
     pub year: u16,

@@ -229,6 +229,22 @@ padded-room ns count h =
         ∙ getD-append-add ns (replicate (count - length ns) 0) (i - length ns) 0
         ∙ getD-replicate (count - length ns) (i - length ns) 0 0 (omega arith))
 
+-- no numbers are zeros
+pub padded-empty : (count : ℕ) → padded [] count ≡ replicate count 0
+unfolding padded
+padded-empty count = listOf-ext {A = ℕ} (λ k. getD [] k 0) (λ k. 0) count (λ k h. refl) ∙ sym (replicate-listOf 0 count 0)
+
+-- a zero behind the last number says nothing
+pub padded-zero : (ns : List ℕ) (count : ℕ) → padded (ns ++ 0 ∷ []) count ≡ padded ns count
+unfolding padded
+padded-zero ns count = listOf-ext (λ k. getD (ns ++ 0 ∷ []) k 0) (λ k. getD ns k 0) count (λ k h. same ns k)
+  where
+    same : (ns : List ℕ) (k : ℕ) → getD (ns ++ 0 ∷ []) k 0 ≡ getD ns k 0
+    same [] zero = refl
+    same [] (suc k) = refl
+    same (n ∷ ns) zero = refl
+    same (n ∷ ns) (suc k) = same ns k
+
 -- a loop that writes numbers into lent words in order, from the first word to the last: before it,
 pub padded-start : (f : ℕ → ℕ) (ws : List ℕ) → Filled 0 f (λ k. getD ws k 0) (length ws) 0 ws
 padded-start f ws = filled-start 0 f (λ k. getD ws k 0) (length ws) 0 ws refl (λ k h. refl) (λ k h. absurd (omega arith))

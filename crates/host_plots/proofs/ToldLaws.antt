@@ -24,12 +24,13 @@ use Rattle.children.specs.declared.Children.the-variants as C
 use Rattle.rectangle.specs.Board.{Board}
 use Rattle.board.specs.Board.{boardOf}
 use Rattle.children.specs.Children.{placeTile, childrenAnswer, PlacesTiles}
+use Rattle.cells.specs.ArrayLaws.{padded-zero}
 use Rattle.cells.specs.Lists.{padded, wordsFor}
 use Rattle.plot_file.specs.declared.MadePlot.{MadePlot}
 use Rattle.plot_file.specs.PlotFile.{Plot, noPlot, plotIn, ReadsPlot}
 use Rattle.plot_file.specs.Theorems.{accepted-plot}
 use Rattle.host_words.specs.Layout.{boardWords, AnswersWords, AnswersList}
-use Rattle.host_words.specs.AnswerLaws.{numbers-zero, numbers-one, tells-one, tells-no, tells-struct}
+use Rattle.host_words.specs.AnswerLaws.{numbers-one, tells-one, tells-no, tells-struct}
 use Rattle.host_tiles.specs.TileBytes.{bytesFor, structBytes}
 use Rattle.host_tiles.specs.TileByteLaws.{stored-bytes, none-storable}
 use Rattle.host_plots.specs.Calls.{AnswersPlot}
@@ -69,7 +70,7 @@ tells-tiles old new r f a d ts e s z t =
     let c : ts .count ≡ length (f (valueOr d a)) = ap (λ (x : Tiles). x .count) s ∙ count-tilesOf (f (valueOr d a)) in
     tells-struct old new r (λ x. length (f x) ∷ []) a d (ts .count ∷ 0 ∷ 0 ∷ 0 ∷ []) e
     (numbers-one (ts .count) (length old) ∙ ap (λ (n : ℕ). padded (n ∷ []) (length old)) c)
-    (ap (λ (ps : List Path). padded (length ps ∷ []) (length old)) z ∙ numbers-zero [] (length old)) t
+    (ap (λ (ps : List Path). padded (length ps ∷ []) (length old)) z ∙ padded-zero [] (length old)) t
 
 -- ---- `orbit`
 

@@ -4,7 +4,7 @@ use mathlib.Core.Path.{_≡_, refl, sym, ap, _∙_}
 use mathlib.Core.List.{List, [], _∷_}
 use Prim.Native.Nat.{ℕ, zero, suc, _≤_, _<_}
 use lib.ListN.{length, getD}
-use Rattle.cells.specs.ArrayLaws.{listOf-ext}
+use Rattle.cells.specs.ArrayLaws.{padded-zero}
 use Rattle.cells.specs.Lists.{padded}
 use Rattle.refusal.specs.declared.Refusal.{Refusal}
 use Rattle.refusal.specs.declared.Verdict.{Verdict}
@@ -25,15 +25,6 @@ pub first-behind : (i word : ℕ) → (i ≡ 0 → ⊥) → 0 ≡ getD (word ∷
 first-behind zero word n = absurd (n refl)
 first-behind (suc i) word n = refl
 
--- a zero is nothing
-pub word-zero : (count : ℕ) → padded (0 ∷ []) count ≡ padded [] count
-unfolding padded
-word-zero count = listOf-ext {A = ℕ} (λ k. getD (0 ∷ []) k 0) (λ k. getD [] k 0) count (λ k h. zeros k)
-  where
-    zeros : (k : ℕ) → _≡_ {A = ℕ} (getD (0 ∷ []) k 0) (getD [] k 0)
-    zeros zero = refl
-    zeros (suc k) = refl
-
 -- ---- values, places and refusals
 
 module _ (old new : List ℕ) where
@@ -47,7 +38,7 @@ module _ (old new : List ℕ) where
 
   pub leaves-refusal : (q : Refusal) (r : ℕ) → r ≡ refusalNumber q → new ≡ padded (0 ∷ []) (length old) → LeavesOutcome (refusedBy (refusalNumber q)) old new r
   unfolding outcomeNumber handedBack
-  leaves-refusal q r n e = record { number = n; words = e ∙ word-zero (length old) }
+  leaves-refusal q r n e = record { number = n; words = e ∙ padded-zero [] (length old) }
 
 -- ---- a record, or why there is none
 

@@ -1,12 +1,12 @@
 -- Laws of answers in words: answers of fewer words than four; what is told of a value and of a refusal; and an answer where the shapes are right, or not.
 -- Rests on `Layout`, refusal's `RefusalLaws` and graph's `GraphLaws`. Assumes nothing.
 use mathlib.Core.Path.{_≡_, refl, sym, ap, _∙_, subst}
-use mathlib.Core.List.{List, [], _∷_, _++_}
-use Prim.Native.Nat.{ℕ, zero, suc}
+use mathlib.Core.List.{List, [], _∷_}
+use Prim.Native.Nat.{ℕ}
 use native.Mathlib.Omega.{arith}
-use lib.ListN.{length, getD}
+use lib.ListN.{length}
 use borrow.Author.Tests.{eq-eqb, ne-eqb}
-use Rattle.cells.specs.ArrayLaws.{listOf-ext}
+use Rattle.cells.specs.ArrayLaws.{padded-zero}
 use Rattle.cells.specs.Parts.{clearedFrom}
 use Rattle.cells.specs.Lists.{padded}
 use Rattle.refusal.specs.declared.Refusal.{Refusal}
@@ -19,25 +19,14 @@ use Rattle.host_words.specs.Layout.{unless, AnswersWords}
 
 -- ---- words in order
 
-getD-zero : (ns : List ℕ) (k : ℕ) → getD (ns ++ 0 ∷ []) k 0 ≡ getD ns k 0
-getD-zero [] zero = refl
-getD-zero [] (suc k) = refl
-getD-zero (n ∷ ns) zero = refl
-getD-zero (n ∷ ns) (suc k) = getD-zero ns k
-
--- a zero behind the last word says nothing
-pub numbers-zero : (ns : List ℕ) (count : ℕ) → padded (ns ++ 0 ∷ []) count ≡ padded ns count
-unfolding padded
-numbers-zero ns count = listOf-ext (λ k. getD (ns ++ 0 ∷ []) k 0) (λ k. getD ns k 0) count (λ k h. getD-zero ns k)
-
 pub numbers-none : (count : ℕ) → padded (0 ∷ 0 ∷ 0 ∷ 0 ∷ []) count ≡ padded [] count
-numbers-none count = numbers-zero (0 ∷ 0 ∷ 0 ∷ []) count ∙ numbers-zero (0 ∷ 0 ∷ []) count ∙ numbers-zero (0 ∷ []) count ∙ numbers-zero [] count
+numbers-none count = padded-zero (0 ∷ 0 ∷ 0 ∷ []) count ∙ padded-zero (0 ∷ 0 ∷ []) count ∙ padded-zero (0 ∷ []) count ∙ padded-zero [] count
 
 pub numbers-two : (a b count : ℕ) → padded (a ∷ b ∷ 0 ∷ 0 ∷ []) count ≡ padded (a ∷ b ∷ []) count
-numbers-two a b count = numbers-zero (a ∷ b ∷ 0 ∷ []) count ∙ numbers-zero (a ∷ b ∷ []) count
+numbers-two a b count = padded-zero (a ∷ b ∷ 0 ∷ []) count ∙ padded-zero (a ∷ b ∷ []) count
 
 pub numbers-one : (a count : ℕ) → padded (a ∷ 0 ∷ 0 ∷ 0 ∷ []) count ≡ padded (a ∷ []) count
-numbers-one a count = numbers-two a 0 count ∙ numbers-zero (a ∷ []) count
+numbers-one a count = numbers-two a 0 count ∙ padded-zero (a ∷ []) count
 
 -- words that are cleared hold nothing
 pub cleared-none : (ws ws′ : List ℕ) → ws′ ≡ clearedFrom 0 ws → ws′ ≡ padded [] (length ws)

@@ -1,6 +1,6 @@
 -- Laws of the exported functions of the archive: what a call with a least number of answer words leaves, by what it answers; when the reading calls return 0 and what is
--- left after a refusal; and that what one call writes the others read. Rests on `RefusedLaws`, on `Calls` and `CallLaws` of
--- `host_records`, and on `Theorems`, `OutcomeLaws` and `BrokenLaws` of `archive`. Assumes nothing.
+-- left after a refusal; and that what one call writes the others read. Rests on `Calls` and `CallLaws` of `host_records`, and on
+-- `Theorems`, `OutcomeLaws` and `BrokenLaws` of `archive`. Assumes nothing.
 use mathlib.Core.Path.{_≡_, refl, sym, ap, _∙_, subst}
 use mathlib.Core.Logic.{_↔_, _⊎_, inl, inr, ⊎-elim}
 use mathlib.Core.List.{List, [], _∷_, _++_}
@@ -11,7 +11,7 @@ use native.Mathlib.Omega.{arith}
 use lib.ListN.{length, getD, getElem?, take, replicate, length-append}
 use lib.Seq.{take-at}
 use Rattle.cells.specs.Lists.{padded}
-use Rattle.cells.specs.ArrayLaws.{padded-room}
+use Rattle.cells.specs.ArrayLaws.{padded-room, padded-empty}
 use Rattle.archive.specs.declared.Record.{Record}
 use Rattle.archive.specs.Archive.{Outcome, answered, refusedAt, refusedBy, mapOutcome, outcomeNumber, handedBack, LeavesOutcome, recordSize, recordBytes, recordsOf, countRecords, recordAt, currentAmong, currentRecord, writeRecord}
 use Rattle.archive.specs.Records.{InRange, NotBelow}
@@ -19,7 +19,6 @@ use Rattle.archive.specs.Theorems as Archive
 use Rattle.archive.specs.OutcomeLaws.{map-map}
 use Rattle.archive.specs.BrokenLaws.{Kind, value, broken, absent, records-kind, picked-kind, never-absent}
 use Rattle.host_records.specs.Calls.{recordWords, unlessShort, recordsCounted, recordFound, currentFound}
-use Rattle.hosts.specs.RefusedLaws.{no-numbers}
 use Rattle.host_records.specs.CallLaws.{leaves-as, unless-short, unless-enough}
 
 -- ---- what a call leaves, by what it answers
@@ -36,7 +35,7 @@ module _ {A : Type 0} (f : A → List ℕ) (o : Outcome A) (needed : ℕ) (answe
   unfolding outcomeNumber handedBack
   left-short h =
       let l = leaves-told _ (refusedBy 8) answer answer′ n left (sym (unless-short needed (length answer) (mapOutcome f o) h)) in
-      (l .0, l .1 ∙ no-numbers (length answer))
+      (l .0, l .1 ∙ padded-empty (length answer))
 
   module _ (h : needed ≤ length answer) where
     enough : (b : Outcome A) → o ≡ b → (n ≡ outcomeNumber (mapOutcome f b)) × (answer′ ≡ padded (handedBack (mapOutcome f b)) (length answer))
@@ -60,7 +59,7 @@ module _ {A : Type 0} (f : A → List ℕ) (o : Outcome A) (needed : ℕ) (answe
     -- with another refusal its number, and they are zero.
     pub left-none : (k : ℕ) → o ≡ refusedBy k → (n ≡ k) × (answer′ ≡ replicate (length answer) 0)
     unfolding outcomeNumber handedBack mapOutcome
-    left-none k e = let l = enough (refusedBy k) e in (l .0, l .1 ∙ no-numbers (length answer))
+    left-none k e = let l = enough (refusedBy k) e in (l .0, l .1 ∙ padded-empty (length answer))
 
 -- ---- when a reading call returns 0, and what is left after a refusal
 

@@ -7,7 +7,7 @@ use native.Mathlib.Omega.{arith}
 use lib.ListN.{length, getD, replicate, length-replicate}
 use Rattle.cells.specs.Lists.{listOf, padded, wordsFor}
 use Rattle.cells.specs.ListLaws.{cleared-all}
-use Rattle.cells.specs.ArrayLaws.{listOf-ext, replicate-listOf}
+use Rattle.cells.specs.ArrayLaws.{listOf-ext, replicate-listOf, padded-empty}
 use Rattle.refusal.specs.Refusal.{Answer, refused, given, mapAnswer, refusalOf, valueOr}
 use Rattle.rectangle.specs.Board.{noBoard}
 use Rattle.path_count.specs.PathCounts.{countsFor}
@@ -22,13 +22,9 @@ use Rattle.hosts.specs.ReturnLaws.{map-number}
 zeros : (f : ℕ → ℕ) (n : ℕ) → ((k : ℕ) → f k ≡ 0) → listOf f n ≡ replicate n 0
 zeros f n z = listOf-ext f (λ k. 0) n (λ k h. z k) ∙ sym (replicate-listOf 0 n 0)
 
-pub no-numbers : (n : ℕ) → padded [] n ≡ replicate n 0
-unfolding padded
-no-numbers n = zeros (λ k. getD [] k 0) n (λ k. refl)
-
 pub no-sets : (n : ℕ) → wordsFor [] n ≡ replicate n 0
 unfolding wordsFor
-no-sets n = no-numbers n
+no-sets n = padded-empty n
 
 pub no-counts : (n : ℕ) → countsFor [] n ≡ replicate n 0
 no-counts n =
@@ -41,11 +37,11 @@ no-counts n =
 
 pub no-edges : (n : ℕ) → edgesFor [] n ≡ replicate n 0
 unfolding edgesFor
-no-edges n = no-numbers n
+no-edges n = padded-empty n
 
 pub no-tiles : (n : ℕ) → bytesFor [] n ≡ replicate n 0
 unfolding bytesFor
-no-tiles n = no-numbers n
+no-tiles n = padded-empty n
 
 pub zero-at : (n k : ℕ) → getD (replicate {A = ℕ} n 0) k 0 ≡ 0
 zero-at zero k = refl
@@ -80,7 +76,7 @@ module _ {A : Type 0} where
 
     -- and the answer words are zero
     pub words-zero : new ≡ replicate (length old) 0
-    words-zero = told .words ∙ ap (λ (ns : List ℕ). padded ns (length old)) (nothing-put f a [] was-refused) ∙ no-numbers (length old)
+    words-zero = told .words ∙ ap (λ (ns : List ℕ). padded ns (length old)) (nothing-put f a [] was-refused) ∙ padded-empty (length old)
 
 -- ---- what else is lent
 

@@ -10,6 +10,7 @@ use Prim.Native.Nat.{ℕ, _+_, _*_, _/_, _≤_, _<_}
 use lib.ListN.{length, getD, take, drop, replicate}
 use Rattle.cells.specs.WordLaws.{Small}
 use Rattle.cells.specs.Set.{value}
+use Rattle.cells.specs.ArrayLaws.{padded-empty}
 use Rattle.cells.specs.Lists.{wordsFor, padded}
 use Rattle.refusal.specs.Refusal.{Answer, given, mapAnswer}
 use Rattle.tile.specs.Path.{Path, readTile}
@@ -32,7 +33,7 @@ use Rattle.host_plots.specs.Calls.{orbitShape, fileShape, placed, orbitFor, rea
 use Rattle.host_counts.specs.Calls.{counted, AnswersCount, generated, AnswersGraph}
 use Rattle.host_tilings.specs.Calls.{tilingShape, searched, AnswersSingle, numbered}
 use Rattle.hosts.specs.ReturnLaws.{zero-given, unless-same, placed-refuses, counted-refuses, generated-refuses, searched-refuses, numbered-refuses, orbitFor-refuses, read-refuses}
-use Rattle.hosts.specs.RefusedLaws.{no-numbers, no-counts, no-sets, no-edges, no-tiles, no-board, nothing-put, was-refused, words-zero, none-left}
+use Rattle.hosts.specs.RefusedLaws.{no-counts, no-sets, no-edges, no-tiles, no-board, nothing-put, was-refused, words-zero, none-left}
 use Rattle.hosts.specs.HandedOnLaws as HandedOn
 use Rattle.hosts.specs.CuttingLaws as Cutting
 
@@ -195,7 +196,7 @@ single-tiling-refused a out answer out′ answer′ r told h = (
 pub tiling-refused : (a : Answer (List ℕ)) (out answer out′ answer′ : List ℕ) (r : ℕ) → AnswersList padded a out answer out′ answer′ r → 0 < r
     → (out′ ≡ replicate (length out) 0) × (answer′ ≡ replicate (length answer) 0)
 tiling-refused a out answer out′ answer′ r told h = (
-  none-left a (was-refused _ a answer answer′ r (told .answered) h) [] (λ ns. padded ns (length out)) (told .outLeft) ∙ no-numbers (length out),
+  none-left a (was-refused _ a answer answer′ r (told .answered) h) [] (λ ns. padded ns (length out)) (told .outLeft) ∙ padded-empty (length out),
   words-zero _ a answer answer′ r (told .answered) h,
 )
 

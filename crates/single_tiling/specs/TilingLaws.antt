@@ -11,7 +11,7 @@ use native.Mathlib.Omega.{arith}
 use borrow.Author.Tests.{eqb-true, leb-true}
 use lib.Dec.{leb}
 use lib.ListN.{length, getD, replicate}
-use Rattle.cells.specs.ArrayLaws.{listOf-ext, replicate-listOf}
+use Rattle.cells.specs.ArrayLaws.{padded-empty}
 use Rattle.cells.specs.ListLaws.{setsIn, setsIn-wordsFor}
 use Rattle.cells.specs.Lists.{wordsFor}
 use Rattle.refusal.specs.Refusal.{Answer, refused, given, mapAnswer, bindAnswer, valueOr}
@@ -191,7 +191,7 @@ words-back xs free count h i small = setsIn-wordsFor xs count (four-each (length
 -- no set: the words are zero
 pub words-zero : (count : ℕ) → wordsFor [] count ≡ replicate count 0
 unfolding wordsFor
-words-zero count = listOf-ext (λ k. getD {A = ℕ} [] k 0) (λ k. 0) count (λ k h. refl) ∙ sym (replicate-listOf 0 count 0)
+words-zero count = padded-empty count
 
 -- a board of no columns is full
 pub no-cells-full : (b : Board) → b .width ≡ 0 → isFull b ≡ true
