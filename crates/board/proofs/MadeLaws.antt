@@ -1,16 +1,21 @@
--- What `new`, `l_board`, `t_board`, `with_marks` and `mark_tile_at_position` hand back. Rests on `Board` and on the laws of sizes. Assumes nothing.
+-- What `new`, `l_board`, `t_board`, `with_hole`, `with_marks` and `mark_tile_at_position` hand back. Rests on `Board`, on `HoleLaws` and on the laws of sizes. Assumes nothing.
 use Prim.Native.Nat.{ℕ, _+_, _-_, _*_, _≤_, _<_}
 use mathlib.Core.Path.{_≡_, refl, sym, ap, ap₂, _∙_}
-use mathlib.Core.Bool.{true, false}
+use mathlib.Core.Bool.{true, false, So, not, and-false}
 use native.Mathlib.Nat.{mul-zero, mul-le-mul, le-mul-of-pos-right}
 use native.Mathlib.Omega.{arith}
+use borrow.Author.Tests.{le-ltb}
+use lib.Dec.{ltb}
+use lib.IntN.{pos}
 use Rattle.cells.specs.declared.Cells.{Cells}
-use Rattle.cells.specs.Set.{setOf, unionOf, number}
+use Rattle.cells.specs.Set.{hasCell, setOf, withCell, unionOf, number}
+use Rattle.direction.specs.Direction.{Position, at}
 use Rattle.refusal.specs.declared.Verdict.the-variants as Verdicts
 use Rattle.refusal.specs.Refusal.{Answer, refused, refusalOf, valueOr, verdictNumber}
-use Rattle.rectangle.specs.Board.{boardAt, Board, noBoard, sizeOk, lay}
-use Rattle.rectangle.specs.BoardLaws.{sizeOk-wide, sizeOk-high}
-use Rattle.board.specs.Board.{ofMarks, boardOf, shapeMark, shaped, lBoard, tBoard, MakesBoard}
+use Rattle.rectangle.specs.Board.{boardAt, Board, noBoard, cellOf, below, inside, marks, freeAt, sizeOk, valid, lay}
+use Rattle.rectangle.specs.BoardLaws.{sizeOk-wide, sizeOk-high, inside-iff, isMarked-marks, valid-width, valid-height}
+use Rattle.board.specs.Board.{ofMarks, boardOf, shapeMark, shaped, lBoard, tBoard, fixAt, withHole, MakesBoard}
+use Rattle.board.specs.HoleLaws.{withHole-given}
 use Rattle.board.specs.declared.RectangularBoard.{RectangularBoard}
 use Rattle.board.specs.declared.MadeBoard.{MadeBoard}
 
@@ -29,7 +34,7 @@ module _ (w h rows low high : ℕ) where
         board = ap boardOf s ∙ rw e (λ i. record { width = w; height = h; fixed = p i; laid = q i });
       }
 
-pub makes-refused : (a : Answer Board) (r : MadeBoard) → a ≡ refused 4 → (boardOf (r .board) ≡ noBoard) × (verdictNumber (r .verdict) ≡ 4) → MakesBoard a r
+pub makes-refused : (a : Answer Board) (r : MadeBoard) {n : ℕ} → a ≡ refused n → (boardOf (r .board) ≡ noBoard) × (verdictNumber (r .verdict) ≡ n) → MakesBoard a r
 unfolding refusalOf valueOr
 makes-refused a r e h = record { verdict = rw e (h .1); board = rw e (h .0) }
 
@@ -47,6 +52,46 @@ lay-parts b piece s t p q =
 pub with-parts : (b : RectangularBoard) (n : ℕ) (t : Cells) (x : RectangularBoard) → x ≡ ofMarks (b .width) (b .height) (b .fixed) t → number t ≡ n - number (b .fixed) → boardOf x ≡ boardAt (boardOf b) n
 with-parts b n t x s q =
     ap boardOf s ∙ (λ i. record { width = b .width; height = b .height; fixed = number (b .fixed); laid = q i })
+
+-- ---- a hole
+
+module _ (b : Board) (row column : ℕ) where
+  abbrev there : Position
+  there = at (pos row) (pos column)
+
+  pub hole-below : b .height ≤ row → freeAt b there ≡ false
+  unfolding freeAt inside below
+  hole-below h = rw (le-ltb row (b .height) h)
+
+  pub hole-beside : b .width ≤ column → freeAt b there ≡ false
+  unfolding freeAt inside below
+  hole-beside h = rw (le-ltb column (b .width) h, and-false (ltb row (b .height)))
+
+  -- what both kinds of marks together say of a cell of the rectangle
+  module _ (ok : valid b ≡ true) (high : row < b .height) (wide : column < b .width) where
+    pub hole-cell : 16 * row + column < 256
+    hole-cell = omega (arith, valid-width b ok, valid-height b ok)
+
+    told : freeAt b there ≡ not (hasCell (marks b) (16 * row + column))
+    unfolding freeAt cellOf
+    told = rw (inside-iff (b .width) (b .height) row column .1 (high, wide)) (ap not (isMarked-marks b (16 * row + column) hole-cell))
+
+    pub hole-marked : hasCell (marks b) (16 * row + column) ≡ true → freeAt b there ≡ false
+    hole-marked e = told ∙ ap not e
+
+    pub hole-free : hasCell (marks b) (16 * row + column) ≡ false → So (freeAt b there)
+    hole-free e = told ∙ ap not e
+
+-- the board with a free cell fixed, by its parts
+pub makes-hole : (b : RectangularBoard) (row column : ℕ) → valid (boardOf b) ≡ true → So (freeAt (boardOf b) (at (pos row) (pos column))) → (f : Cells) → number f ≡ withCell (number (b .fixed)) (16 * row + column)
+    → (x : RectangularBoard) → x ≡ ofMarks (b .width) (b .height) f (b .laid) → MakesBoard (withHole (boardOf b) row column) (record { verdict = Verdicts.Accepted; board = x })
+unfolding fixAt cellOf refusalOf valueOr
+makes-hole b row column ok free f p x s =
+    let is = withHole-given (boardOf b) row column ok free in
+    record {
+      verdict = rw is;
+      board = ap boardOf s ∙ rw is (λ i. record { width = b .width; height = b .height; fixed = p i; laid = number (b .laid) });
+    }
 
 -- ---- L and T
 

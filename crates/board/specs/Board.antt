@@ -1,13 +1,15 @@
 -- Definitions: what the struct of the code stands for, which of them are accepted, and the boards that are made. What stands in quotation marks is
--- 01's, from its section Boards. Assumes nothing.
+-- 01's, from its section Boards, or 02's, from its request 2. Assumes nothing.
 use mathlib.Core.Path.{_≡_}
 use mathlib.Core.Bool.{Bool, cond, _&&_, _||_}
 use Prim.Native.Nat.{ℕ, _+_, _*_, _/_, _%_}
+use lib.IntN.{pos}
 use lib.Dec.{ltb, leb}
 use Rattle.cells.specs.declared.Cells.{Cells}
-use Rattle.cells.specs.Set.{setOf, number}
-use Rattle.refusal.specs.Refusal.{Answer, refused, given, refusalOf, valueOr, verdictNumber, refusalNumber}
-use Rattle.rectangle.specs.Board.{Board, inside, noBoard, positionOf, sizeOk, acceptBoard}
+use Rattle.cells.specs.Set.{setOf, withCell, number}
+use Rattle.refusal.specs.Refusal.{Answer, refused, given, bindAnswer, refusalOf, valueOr, verdictNumber, refusalNumber}
+use Rattle.direction.specs.Direction.{Position, at}
+use Rattle.rectangle.specs.Board.{Board, inside, noBoard, cellOf, positionOf, freeAt, sizeOk, acceptBoard}
 use Rattle.board.specs.declared.RectangularBoard.{RectangularBoard}
 use Rattle.board.specs.declared.MadeBoard.{MadeBoard}
 use Rattle.board.specs.declared.FreeCells.{FreeCells}
@@ -56,6 +58,19 @@ lBoard n scale = shaped (n * scale) (2 * scale) scale 0 scale
 unfoldable pub tBoard : ℕ → ℕ → Answer Board
 unfolding shaped
 tBoard n scale = shaped ((2 * n + 1) * scale) (2 * scale) scale (n * scale) ((n + 1) * scale)
+
+-- ---- holes: the buildings of request 2
+
+-- "mark that cell as fixed": the board with the cell at a position fixed
+unfoldable pub fixAt : Board → Position → Board
+unfolding cellOf withCell
+fixAt b p = record { width = b .width; height = b .height; fixed = withCell (b .fixed) (cellOf p); laid = b .laid }
+
+-- the board with a hole at a row and a column: refusal 4 for a board that is not accepted, then "15 when a cell is outside the board or marked already"
+unfoldable pub withHole : Board → ℕ → ℕ → Answer Board
+unfolding acceptBoard bindAnswer freeAt fixAt
+withHole b row column =
+    bindAnswer (acceptBoard b) (λ b. cond (freeAt b (at (pos row) (pos column))) (given (fixAt b (at (pos row) (pos column)))) (refused 15))
 
 -- ---- the answers of the code
 

@@ -10,12 +10,13 @@ use choice::ChosenCell;
 use refusal::Refusal;
 use refusal::Verdict;
 ghost use mathlib.Core.Path.{_≡_};
+ghost use mathlib.Core.Bool.{true};
 ghost use mathlib.Core.List.{[], _∷_};
 ghost use Rattle.cells.specs.Set.{unionOf, value, number};
-ghost use Rattle.refusal.specs.Refusal.{mapAnswer, refusalOf, verdictNumber};
-ghost use Rattle.rectangle.specs.Board.{noBoard, boardAt, marks, freeCount, isFull, lay};
+ghost use Rattle.refusal.specs.Refusal.{mapAnswer, refusalOf, refusalNumber, verdictNumber};
+ghost use Rattle.rectangle.specs.Board.{noBoard, boardAt, marks, freeCount, isFull, lay, valid};
 ghost use Rattle.choice.specs.Choice.{chosenCount, chosenAnswer};
-ghost use Rattle.board.specs.Board.{boardOf, ofMarks, readBoard, shaped, newBoard, lBoard, tBoard, MakesBoard, freeCellsAnswer, allMarkedAnswer};
+ghost use Rattle.board.specs.Board.{boardOf, ofMarks, readBoard, shaped, newBoard, lBoard, tBoard, withHole, MakesBoard, freeCellsAnswer, allMarkedAnswer};
 
 mod shape;
 
@@ -71,10 +72,10 @@ impl RectangularBoard {
             return made(0, 0, 0, 0, 0);
         }
         if 8 < scale {
-            return refused();
+            return refused(Refusal::BadBoard);
         }
         if 16 < n {
-            return refused();
+            return refused(Refusal::BadBoard);
         }
         made(n * scale, 2 * scale, scale, 0, scale)
     }
@@ -87,10 +88,10 @@ impl RectangularBoard {
             return made(0, 0, 0, 0, 0);
         }
         if 8 < scale {
-            return refused();
+            return refused(Refusal::BadBoard);
         }
         if 16 < n {
-            return refused();
+            return refused(Refusal::BadBoard);
         }
         made(
             (2 * n + 1) * scale,
@@ -99,6 +100,18 @@ impl RectangularBoard {
             n * scale,
             (n + 1) * scale,
         )
+    }
+
+    // The board with the cell at a row and a column fixed; refusal 15 for a cell that is outside the
+    // rectangle or has a mark of either kind.
+    pub fn with_hole(self, row: usize, column: usize) -> MadeBoard
+        ensures { λ r. ⌜ MakesBoard (withHole (boardOf self) row column) r ⌝ }
+    {
+        let verdict = self.check();
+        match verdict {
+            Verdict::Accepted => holed(self, row, column),
+            Verdict::Refused(refusal) => refused(refusal),
+        }
     }
 
     // Whether the size is right, no mark is outside the rectangle and no cell is both fixed and
@@ -184,7 +197,7 @@ fn made(width: usize, height: usize, rows: usize, low: usize, high: usize) -> Ma
     ensures { λ r. ⌜ MakesBoard (shaped width height rows low high) r ⌝ }
 {
     if !rectangle::size_ok(width, height) {
-        return refused();
+        return refused(Refusal::BadBoard);
     }
     let fixed = shape::shape_marks(width, height, rows, low, high);
     MadeBoard {
@@ -193,13 +206,41 @@ fn made(width: usize, height: usize, rows: usize, low: usize, high: usize) -> Ma
     }
 }
 
+// An accepted board with the cell at a row and a column fixed, or a refusal.
+fn holed(board: RectangularBoard, row: usize, column: usize) -> MadeBoard
+    requires { ⌜ valid (boardOf board) ≡ true ⌝ }
+    ensures { λ r. ⌜ MakesBoard (withHole (boardOf board) row column) r ⌝ }
+{
+    let fixed = board.fixed;
+    if board.height <= row {
+        return refused(Refusal::BadHole);
+    }
+    if board.width <= column {
+        return refused(Refusal::BadHole);
+    }
+    let cell = 16 * row + column;
+    let marks = board.marks();
+    if marks.has_cell(cell) {
+        return refused(Refusal::BadHole);
+    }
+    MadeBoard {
+        verdict: Verdict::Accepted,
+        board: RectangularBoard::of_marks(
+            board.width,
+            board.height,
+            fixed.with_cell(cell),
+            board.laid,
+        ),
+    }
+}
+
 // A refusal in a board's place.
-fn refused() -> MadeBoard
-    ensures { λ r. ⌜ (boardOf (r .board) ≡ noBoard) × (verdictNumber (r .verdict) ≡ 4) ⌝ }
+fn refused(refusal: Refusal) -> MadeBoard
+    ensures { λ r. ⌜ (boardOf (r .board) ≡ noBoard) × (verdictNumber (r .verdict) ≡ refusalNumber refusal) ⌝ }
 {
     let none = Cells::of_words(0, 0, 0, 0);
     MadeBoard {
-        verdict: Verdict::Refused(Refusal::BadBoard),
+        verdict: Verdict::Refused(refusal),
         board: RectangularBoard::of_marks(0, 0, none, none),
     }
 }

@@ -2,7 +2,7 @@
 -- sets share a cell; how many cells a set has. Rests on `BitLaws`. Assumes nothing.
 use mathlib.Core.Path.{_≡_, refl, sym, ap, _∙_, subst}
 use mathlib.Core.Logic.{_≢_, _↔_}
-use mathlib.Core.Bool.{Bool, true, false, So, cond}
+use mathlib.Core.Bool.{Bool, true, false, So, cond, _||_, or-true, or-false}
 use Prim.Native.Nat.{ℕ, zero, suc, _+_, _-_, _*_, _/_, _^_, _≤_, _<_, zero-le, min, max}
 use native.Mathlib.Nat.{one-mul, zero-mul, add-zero}
 use native.Mathlib.Decide.{ℕ-discrete, decLt}
@@ -30,6 +30,14 @@ bit-free n c e = let other = eqb-false (bit n c) 1 e in omega (arith, bit-le n c
 
 pub hasCell-none : (cell : ℕ) → hasCell 0 cell ≡ false
 hasCell-none cell = hasCell-false 0 cell (zero-bit cell)
+
+-- sets with the same cells are the same
+pub hasCell-ext : (n m : ℕ) → n < 2 ^ 256 → m < 2 ^ 256 → ((c : ℕ) → c < 256 → hasCell n c ≡ hasCell m c) → n ≡ m
+hasCell-ext n m hn hm h = bit-ext 256 n m hn hm (λ c i. go c (hasCell n c) refl (sym (h c i)))
+  where
+    go : (c : ℕ) (t : Bool) → hasCell n c ≡ t → hasCell m c ≡ hasCell n c → bit n c ≡ bit m c
+    go c true e f = hasCell-iff n c .0 e ∙ sym (hasCell-iff m c .0 (f ∙ e))
+    go c false e f = bit-free n c e ∙ sym (bit-free m c (f ∙ e))
 
 -- ---- the set of the cells of which a test holds
 
@@ -114,6 +122,19 @@ bit-withCell-other n c d h = go (ltb c 256)
     go true = sum (bit n c) refl (bit-le n c)
     go false = refl
 
+-- the cells of a set with one cell more
+pub hasCell-withCell : (n c d : ℕ) → c < 256 → hasCell (withCell n c) d ≡ (hasCell n d || eqb c d)
+unfolding hasCell
+hasCell-withCell n c d h = go (ℕ-discrete d c)
+  where
+    go : Dec (d ≡ c) → eqb (bit (withCell n c) d) 1 ≡ (eqb (bit n d) 1 || eqb c d)
+    go (yes e) =
+        eq-eqb (bit (withCell n c) d) 1 (ap (bit (withCell n c)) e ∙ bit-withCell-same n c h)
+        ∙ sym (ap (λ t. eqb (bit n d) 1 || t) (eq-eqb c d (sym e)) ∙ or-true (eqb (bit n d) 1))
+    go (no e) =
+        ap (λ (x : ℕ). eqb x 1) (bit-withCell-other n c d e)
+        ∙ sym (ap (λ t. eqb (bit n d) 1 || t) (ne-eqb c d (λ q. e (sym q))) ∙ or-false (eqb (bit n d) 1))
+
 pub withCell-lt : (k n c : ℕ) → n < 2 ^ k → c < k → withCell n c < 2 ^ k
 unfolding withCell
 withCell-lt k n c h i = go (ltb c 256)
@@ -153,6 +174,14 @@ module _ (n m : ℕ) where
   bit-intersectionOf c h = bit-fromBits (λ d. min (bit n d) (bit m d)) least 256 c h
 
   -- disjoint sets are joined by `+`
+  pub hasCell-unionOf : (c : ℕ) → c < 256 → hasCell (unionOf n m) c ≡ (hasCell n c || hasCell m c)
+  hasCell-unionOf c h = go (hasCell n c) (hasCell m c) refl refl
+    where
+      go : (x y : Bool) → hasCell n c ≡ x → hasCell m c ≡ y → hasCell (unionOf n m) c ≡ (x || y)
+      go true y e f = hasCell-iff (unionOf n m) c .1 (omega (arith, bit-unionOf c h, hasCell-iff n c .0 e, bit-le m c))
+      go false true e f = hasCell-iff (unionOf n m) c .1 (omega (arith, bit-unionOf c h, hasCell-iff m c .0 f, bit-le n c))
+      go false false e f = hasCell-false (unionOf n m) c (omega (arith, bit-unionOf c h, bit-free n c e, bit-free m c f))
+
   pub unionOf-disjoint : n < 2 ^ 256 → m < 2 ^ 256 → Disjoint n m → unionOf n m ≡ n + m
   unionOf-disjoint hn hm d =
       bit-ext 256 (unionOf n m) (n + m) unionOf-lt (add-lt 256 n m hn hm d)

@@ -1,6 +1,7 @@
 -- Laws of what the code hands on: a verdict and what was made, read as an answer; a mark, a tile's body and a record that were read; the
 -- way through the file; and the plot at the end. Rests on `Inner`, `ReadLaws`, `TilesLaws` and the laws of stored tiles. Assumes nothing.
 use mathlib.Core.Path.{_≡_, refl, sym, ap, _∙_, subst}
+use mathlib.Core.Logic.{⊎-elim}
 use mathlib.Core.Bool.{Bool, true, false, So, cond}
 use mathlib.Core.List.{List, [], _++_}
 use Prim.Native.Nat.{ℕ, zero, suc, _+_, _*_, _≤_, _<_}
@@ -22,9 +23,10 @@ use Rattle.tile.specs.Inner.{CleanTile}
 use Rattle.board.specs.declared.RectangularBoard.{RectangularBoard}
 use Rattle.board.specs.declared.MadeBoard.{MadeBoard}
 use Rattle.rectangle.specs.Board.{Board, noBoard, sizeOk, inside, below}
-use Rattle.board.specs.Board.{boardOf, shapeMark, shaped, newBoard, lBoard, tBoard, MakesBoard}
+use Rattle.board.specs.Board.{boardOf, shapeMark, shaped, newBoard, lBoard, tBoard, withHole, MakesBoard}
+use Rattle.board.specs.HoleLaws.{withHole-refused}
 use Rattle.plot_file.specs.declared.marks.Mark.{Mark}
-use Rattle.plot_file.specs.declared.marks.Mark.the-variants.{RB, LB, TB, TI, OR, EN}
+use Rattle.plot_file.specs.declared.marks.Mark.the-variants.{RB, LB, TB, HO, TI, OR, EN}
 use Rattle.plot_file.specs.declared.MadePlot.{MadePlot}
 use Rattle.plot_file.specs.declared.marks.Marked.{Marked}
 use Rattle.plot_file.specs.declared.marks.Marked.the-variants as M
@@ -33,11 +35,11 @@ use Rattle.plot_file.specs.declared.records.Plot.{Plot as PlotSoFar}
 use Rattle.plot_file.specs.declared.records.Next.{Next}
 use Rattle.plot_file.specs.declared.records.Next.the-variants as N
 use Rattle.plot_file.specs.declared.records.Step.{Step as StepTaken}
-use Rattle.plot_file.specs.PlotFile.{Plot, noPlot, readMark, readBody, boardBody, addTiles, tileBody, Step, more, ended, onward, records, plotIn, ReadsPlot}
+use Rattle.plot_file.specs.PlotFile.{Plot, noPlot, readMark, readBody, boardBody, holeBody, addTiles, tileBody, Step, more, ended, onward, records, plotIn, ReadsPlot}
 use Rattle.plot_file.specs.Inner.{answerOf, markedAnswer, isBoard, boardFor, tilesFor, ReadsBody, plotOf, Kept, nextAnswer, Ahead, Reads, boardOnly, startAt, StepsTo, recordAt}
 use Rattle.plot_file.specs.RecordLaws.{readBody-is}
-use Rattle.plot_file.specs.ReadLaws.{readMark-behind, boardBody-at, tileBody-read, addTiles-given, addTiles-many, records-on}
-use Rattle.plot_file.proofs.TilesLaws.{count-is, none-clean, none-paths, for-paths}
+use Rattle.plot_file.specs.ReadLaws.{readMark-behind, boardBody-at, holeBody-at, tileBody-read, addTiles-given, addTiles-many, records-on}
+use Rattle.plot_file.proofs.TilesLaws.{count-is, no-paths, none-clean, none-paths, for-paths}
 
 -- ---- answers
 
@@ -83,13 +85,13 @@ unfolding newBoard lBoard tBoard
 boardFor-pos RB a b n e = shaped-pos a b 0 0 0 n e
 boardFor-pos LB a b n e = shaped-pos (a * b) (2 * b) b 0 b n e
 boardFor-pos TB a b n e = shaped-pos ((2 * a + 1) * b) (2 * b) b (a * b) ((a + 1) * b) n e
+boardFor-pos HO a b n e = shaped-pos a b 0 0 0 n e
 boardFor-pos TI a b n e = shaped-pos a b 0 0 0 n e
 boardFor-pos OR a b n e = shaped-pos a b 0 0 0 n e
 boardFor-pos EN a b n e = shaped-pos a b 0 0 0 n e
 
--- a board that is made, or its refusal
-board-told : (mark : Mark) (a b : ℕ) (r : MadeBoard) → MakesBoard (boardFor mark a b) r → answerOf (r .verdict) (boardOf (r .board)) ≡ boardFor mark a b
-board-told mark a b r m = told (boardFor mark a b) (r .verdict) noBoard (boardOf (r .board)) (boardFor-pos mark a b) (m .verdict) (m .board)
+withHole-pos : (board : Board) (row column n : ℕ) → withHole board row column ≡ refused n → 0 < n
+withHole-pos board row column n e = ⊎-elim (λ q. omega arith) (λ q. omega arith) (withHole-refused board row column n e)
 
 -- 0 by 0 is the board with no cell
 newBoard-none : valueOr noBoard (newBoard 0 0) ≡ noBoard
@@ -217,16 +219,30 @@ module _ (v : Verdict) (board : RectangularBoard) (to : ℕ) (s : StepTaken) whe
   steps-no-board q e h =
       steps-refused (mapAnswer boardOnly (answerOf v (boardOf board))) to s q (ap (λ (w : Verdict). mapAnswer boardOnly (answerOf w (boardOf board))) e) h
 
+-- a record of two bytes that make a board, which is a plot with no tiles
+reads-pair : (file : List ℕ) (at : ℕ) (a : Answer Step) (board : Answer Board) (made : MadeBoard) (s : StepTaken) → at + 2 ≤ length file
+    → a ≡ mapAnswer startAt (mapAnswer (λ (x : Board). (x, drop (at + 2) file)) board) → ((n : ℕ) → board ≡ refused n → 0 < n)
+    → MakesBoard board made → StepsTo (mapAnswer boardOnly (answerOf (made .verdict) (boardOf (made .board)))) (at + 2) s → Reads file at a s
+reads-pair file at a board made s h e positive m t =
+    reads-to file at a s (mapAnswer boardOnly (answerOf (made .verdict) (boardOf (made .board)))) (at + 2) t (omega arith) h
+    (e
+    ∙ map-map startAt (λ (x : Board). (x, drop (at + 2) file)) board
+    ∙ sym (map-map (λ p. more p (drop (at + 2) file)) boardOnly board)
+    ∙ ap (λ (x : Answer Board). mapAnswer (λ p. more p (drop (at + 2) file)) (mapAnswer boardOnly x)) (sym (told board (made .verdict) noBoard (boardOf (made .board)) positive (m .verdict) (m .board))))
+
 pub reads-board : (file : List ℕ) (at : ℕ) (mark : Mark) (made : MadeBoard) (s : StepTaken) → isBoard mark ≡ true → at + 2 ≤ length file
     → MakesBoard (boardFor mark (getD file at 0) (getD file (at + 1) 0)) made → StepsTo (mapAnswer boardOnly (answerOf (made .verdict) (boardOf (made .board)))) (at + 2) s
     → Reads file at (mapAnswer startAt (boardBody mark (drop at file))) s
-reads-board file at mark made s is h m t =
-    let board : Answer Board = boardFor mark (getD file at 0) (getD file (at + 1) 0) in
-    reads-to file at (mapAnswer startAt (boardBody mark (drop at file))) s (mapAnswer boardOnly (answerOf (made .verdict) (boardOf (made .board)))) (at + 2) t (omega arith) h
-    (ap (mapAnswer startAt) (boardBody-at mark file at is h)
-    ∙ map-map startAt (λ (x : Board). (x, drop (at + 2) file)) board
-    ∙ sym (map-map (λ p. more p (drop (at + 2) file)) boardOnly board)
-    ∙ ap (λ (x : Answer Board). mapAnswer (λ p. more p (drop (at + 2) file)) (mapAnswer boardOnly x)) (sym (board-told mark (getD file at 0) (getD file (at + 1) 0) made m)))
+reads-board file at mark made s is h =
+    reads-pair file at (mapAnswer startAt (boardBody mark (drop at file))) (boardFor mark (getD file at 0) (getD file (at + 1) 0)) made s h
+    (ap (mapAnswer startAt) (boardBody-at mark file at is h)) (boardFor-pos mark (getD file at 0) (getD file (at + 1) 0))
+
+pub reads-hole : (file : List ℕ) (at : ℕ) (plot : PlotSoFar) (made : MadeBoard) (s : StepTaken) → plot .tiles .count ≤ 0 → at + 2 ≤ length file
+    → MakesBoard (withHole (boardOf (plot .board)) (getD file at 0) (getD file (at + 1) 0)) made → StepsTo (mapAnswer boardOnly (answerOf (made .verdict) (boardOf (made .board)))) (at + 2) s
+    → Reads file at (holeBody (plotOf plot) (drop at file)) s
+reads-hole file at plot made s none h =
+    reads-pair file at (holeBody (plotOf plot) (drop at file)) (withHole (boardOf (plot .board)) (getD file at 0) (getD file (at + 1) 0)) made s h
+    (holeBody-at (plotOf plot) file at (no-paths (plot .tiles) none) h) (withHole-pos (boardOf (plot .board)) (getD file at 0) (getD file (at + 1) 0))
 
 -- the step behind some tiles more, and their record
 module _ (plot : PlotSoFar) (tiles : Tiles) (to : ℕ) (s : StepTaken) where

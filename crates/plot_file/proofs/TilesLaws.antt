@@ -1,6 +1,6 @@
 -- Laws of tiles that are put together: one tile behind some others; the tile or the orbit that a record stands for; and the loop that puts some
 -- tiles behind others. Rests on the laws of stored tiles and of orbits. Assumes nothing.
-use mathlib.Core.Path.{_≡_, sym, ap, _∙_, subst}
+use mathlib.Core.Path.{_≡_, refl, sym, ap, _∙_, subst}
 use mathlib.Core.Bool.{Bool, true, false, So}
 use mathlib.Core.List.{List, [], _∷_, _++_, append-assoc, append-nil, List·Memᴰ as Mem, List·Memᴰ·eq-of-singleton}
 use Prim.Native.Nat.{ℕ, suc, _+_, _≤_, _<_}
@@ -43,6 +43,13 @@ pub count-is : (ts : Tiles) → length (pathsIn ts) ≡ ts .count
 count-is ts = length-listOf (pathAt (ts .lens) (ts .codes)) (ts .count)
 
 -- ---- no tiles
+
+pub no-paths : (ts : Tiles) → ts .count ≤ 0 → pathsIn ts ≡ []
+no-paths ts h = length-none (pathsIn ts) (omega (arith, count-is ts))
+  where
+    length-none : (ps : List Path) → length ps ≡ 0 → ps ≡ []
+    length-none [] e = refl
+    length-none (p ∷ ps) e = absurd (omega arith)
 
 none-short : Short []
 none-short i = omega arith

@@ -14,7 +14,7 @@ use Rattle.tiles.specs.Inner.{Clean}
 use Rattle.rectangle.specs.Board.{Board}
 use Rattle.board.specs.Board.{boardOf, newBoard, lBoard, tBoard}
 use Rattle.plot_file.specs.declared.marks.Mark.{Mark}
-use Rattle.plot_file.specs.declared.marks.Mark.the-variants.{RB, LB, TB, TI, OR, EN}
+use Rattle.plot_file.specs.declared.marks.Mark.the-variants.{RB, LB, TB, HO, TI, OR, EN}
 use Rattle.plot_file.specs.declared.marks.Marked.{Marked}
 use Rattle.plot_file.specs.declared.marks.Marked.the-variants as M
 use Rattle.plot_file.specs.declared.bodies.Body.{Body}
@@ -47,6 +47,7 @@ abbrev pub isBoard : Mark → Bool
 isBoard RB = true
 isBoard LB = true
 isBoard TB = true
+isBoard HO = false
 isBoard TI = false
 isBoard OR = false
 isBoard EN = false
@@ -56,6 +57,7 @@ abbrev pub boardFor : Mark → ℕ → ℕ → Answer Board
 boardFor RB = newBoard
 boardFor LB = lBoard
 boardFor TB = tBoard
+boardFor HO = newBoard
 boardFor TI = newBoard
 boardFor OR = newBoard
 boardFor EN = newBoard

@@ -5,6 +5,7 @@ pub mod Records
 pub mod Inner
 pub mod RecordLaws
 pub mod ReadLaws
+pub mod HoleLaws
 pub mod FileLaws
 pub mod LengthLaws
 pub mod SettledLaws

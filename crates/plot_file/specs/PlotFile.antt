@@ -1,5 +1,5 @@
--- Definitions: the plot file, record by record, and what its reader answers. What stands in quotation marks is 01's, from its section The plot file. The
--- refusals of a record are tried in the order written there: mark, place, body, board or tile. Assumes nothing.
+-- Definitions: the plot file, record by record, and what its reader answers. What stands in quotation marks is 01's, from its section The plot file, or, of HO, 02's,
+-- from its request 2. The refusals of a record are tried in the order written there: mark, place, body, board, hole or tile. Assumes nothing.
 use mathlib.Core.List.{List, [], _∷_, _++_}
 use Prim.Native.Nat.{ℕ, zero, suc}
 use mathlib.Core.Path.{_≡_}
@@ -11,9 +11,9 @@ use Rattle.refusal.specs.Refusal.{Answer, refused, given, mapAnswer, bindAnswer
 use Rattle.tile.specs.Path.{Path, readPath}
 use Rattle.tiles.specs.Paths.{orbit, tilesOf}
 use Rattle.rectangle.specs.Board.{Board, noBoard}
-use Rattle.board.specs.Board.{boardOf, newBoard, lBoard, tBoard}
+use Rattle.board.specs.Board.{boardOf, newBoard, lBoard, tBoard, withHole}
 use Rattle.plot_file.specs.declared.marks.Mark.{Mark}
-use Rattle.plot_file.specs.declared.marks.Mark.the-variants.{RB, LB, TB, TI, OR, EN}
+use Rattle.plot_file.specs.declared.marks.Mark.the-variants.{RB, LB, TB, HO, TI, OR, EN}
 use Rattle.plot_file.specs.declared.MadePlot.{MadePlot}
 
 -- what a file holds: "board and tiles"
@@ -33,13 +33,14 @@ unfolding ascii
 letters RB = ascii "RB"
 letters LB = ascii "LB"
 letters TB = ascii "TB"
+letters HO = ascii "HO"
 letters TI = ascii "TI"
 letters OR = ascii "OR"
 letters EN = ascii "EN"
 
 -- all marks
 abbrev pub allMarks : List Mark
-allMarks = RB ∷ LB ∷ TB ∷ TI ∷ OR ∷ EN ∷ []
+allMarks = RB ∷ LB ∷ TB ∷ HO ∷ TI ∷ OR ∷ EN ∷ []
 
 -- whether two bytes are a mark's
 unfoldable pub spells : Mark → ℕ → ℕ → Bool
@@ -61,7 +62,7 @@ readMark (a ∷ b ∷ rest) = mapAnswer (λ mark. (mark, rest)) (markAmong allMa
 
 -- ---- bodies, each with the bytes behind it
 
--- two bytes that make a board: "1, length or body byte missing"; "4, board size"
+-- two bytes that make a board: "1, length or body byte missing"; "4, board size", and of HO "15 […] in the place of 4 for that record"
 unfoldable pub readPair : (ℕ → ℕ → Answer Board) → List ℕ → Answer (Board × List ℕ)
 unfolding mapAnswer
 readPair make [] = refused 1
@@ -91,6 +92,7 @@ unfolding readPair newBoard lBoard tBoard
 boardBody RB bytes = readPair newBoard bytes
 boardBody LB bytes = readPair lBoard bytes
 boardBody TB bytes = readPair tBoard bytes
+boardBody HO bytes = refused 3
 boardBody TI bytes = refused 3
 boardBody OR bytes = refused 3
 boardBody EN bytes = refused 3
@@ -100,6 +102,14 @@ unfoldable pub firstRecord : List ℕ → Answer Step
 unfolding readMark boardBody bindAnswer mapAnswer
 firstRecord bytes =
     bindAnswer (readMark bytes) (λ m. mapAnswer (λ r. more (record { board = r .0; tiles = [] }) (r .1)) (boardBody (m .0) (m .1)))
+
+-- "Directly after the board record any number of HO records may stand, each with a row byte and a column byte"; "an HO record after a tile is 3"
+unfoldable pub holeBody : Plot → List ℕ → Answer Step
+unfolding readPair withHole mapAnswer
+holeBody plot bytes =
+    cond (eqb (length (plot .tiles)) 0)
+    (mapAnswer (λ r. more (record { board = r .0; tiles = plot .tiles }) (r .1)) (readPair (withHole (plot .board)) bytes))
+    (refused 3)
 
 -- "6, the tiles would pass 64"
 unfoldable pub addTiles : Plot → List Path → Answer Plot
@@ -118,10 +128,11 @@ endBody plot (byte ∷ bytes) = refused 3
 
 -- "then any number of TI and OR, none included, then EN"; "3, […] a later one a board". OR: "the same body, standing for the tile's whole orbit"
 unfoldable pub laterBody : Mark → Plot → List ℕ → Answer Step
-unfolding tileBody endBody orbit
+unfolding holeBody tileBody endBody orbit
 laterBody RB plot bytes = refused 3
 laterBody LB plot bytes = refused 3
 laterBody TB plot bytes = refused 3
+laterBody HO plot bytes = holeBody plot bytes
 laterBody TI plot bytes = tileBody (λ path. path ∷ []) plot bytes
 laterBody OR plot bytes = tileBody orbit plot bytes
 laterBody EN plot bytes = endBody plot bytes

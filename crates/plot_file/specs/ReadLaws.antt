@@ -1,4 +1,4 @@
--- Laws of reading at a place of a file: what its mark, a board's body and a tile's body are, by the bytes that the code looks at; what a
+-- Laws of reading at a place of a file: what its mark, a board's body, a hole's body and a tile's body are, by the bytes that the code looks at; what a
 -- record is, by its place; what the first record and the later ones are, by their marks and bodies; and how the records go on. Rests on `PlotFile` and `RecordLaws`. Assumes nothing.
 use mathlib.Core.Path.{_≡_, refl, sym, ap, _∙_}
 use mathlib.Core.Bool.{Bool, true, false, _&&_}
@@ -12,9 +12,10 @@ use lib.Seq.{drop-cons, drop-drop}
 use Rattle.refusal.specs.Refusal.{Answer, refused, given, mapAnswer, bindAnswer}
 use Rattle.tile.specs.Path.{Path, readPath}
 use Rattle.rectangle.specs.Board.{Board}
+use Rattle.board.specs.Board.{withHole}
 use Rattle.plot_file.specs.declared.marks.Mark.{Mark}
-use Rattle.plot_file.specs.declared.marks.Mark.the-variants.{RB, LB, TB, TI, OR, EN}
-use Rattle.plot_file.specs.PlotFile.{allMarks, Plot, letters, spells, markAmong, readMark, readPair, readBody, more, ended, boardBody, firstRecord, addTiles, tileBody, endBody, laterBody, laterRecord, onward, records}
+use Rattle.plot_file.specs.declared.marks.Mark.the-variants.{RB, LB, TB, HO, TI, OR, EN}
+use Rattle.plot_file.specs.PlotFile.{allMarks, Plot, letters, spells, markAmong, readMark, readPair, readBody, more, ended, boardBody, firstRecord, holeBody, addTiles, tileBody, endBody, laterBody, laterRecord, onward, records}
 use Rattle.plot_file.specs.Inner.{isBoard, boardFor, tilesFor, startAt, recordAt}
 use Rattle.plot_file.specs.RecordLaws.{readMark-is, length-letters, records-step}
 
@@ -93,6 +94,7 @@ unfolding boardBody
 boardBody-pair RB bytes e = refl
 boardBody-pair LB bytes e = refl
 boardBody-pair TB bytes e = refl
+boardBody-pair HO bytes e = let z : _≡_ {A = ℕ} 0 1 = cc in absurd (omega arith)
 boardBody-pair TI bytes e = let z : _≡_ {A = ℕ} 0 1 = cc in absurd (omega arith)
 boardBody-pair OR bytes e = let z : _≡_ {A = ℕ} 0 1 = cc in absurd (omega arith)
 boardBody-pair EN bytes e = let z : _≡_ {A = ℕ} 0 1 = cc in absurd (omega arith)
@@ -102,6 +104,7 @@ unfolding boardBody
 boardBody-other RB bytes e = let z : _≡_ {A = ℕ} 0 1 = cc in absurd (omega arith)
 boardBody-other LB bytes e = let z : _≡_ {A = ℕ} 0 1 = cc in absurd (omega arith)
 boardBody-other TB bytes e = let z : _≡_ {A = ℕ} 0 1 = cc in absurd (omega arith)
+boardBody-other HO bytes e = refl
 boardBody-other TI bytes e = refl
 boardBody-other OR bytes e = refl
 boardBody-other EN bytes e = refl
@@ -113,6 +116,31 @@ module _ (mark : Mark) (file : List ℕ) (at : ℕ) (is : isBoard mark ≡ true)
   pub boardBody-at : at + 2 ≤ length file → boardBody mark (drop at file) ≡ mapAnswer (λ board. (board, drop (at + 2) file)) (boardFor mark (getD file at 0) (getD file (at + 1) 0))
   unfolding readPair
   boardBody-at h = boardBody-pair mark (drop at file) is ∙ ap (readPair (boardFor mark)) (two-bytes file at h)
+
+-- ---- holes
+
+pub holeBody-misplaced : (plot : Plot) (bytes : List ℕ) → 0 < length (plot .tiles) → holeBody plot bytes ≡ refused 3
+unfolding holeBody
+holeBody-misplaced plot bytes h = rw (ne-eqb (length (plot .tiles)) 0 (λ e. omega arith))
+
+-- before every tile it is a board's body, of the board that is there
+holeBody-first : (plot : Plot) (bytes : List ℕ) → plot .tiles ≡ [] → holeBody plot bytes ≡ mapAnswer startAt (readPair (withHole (plot .board)) bytes)
+unfolding holeBody
+holeBody-first plot bytes e =
+    rw (eq-eqb (length (plot .tiles)) 0 (ap length e))
+    (ap (λ (l : List Path). mapAnswer (λ r. more (record { board = r .0; tiles = l }) (r .1)) (readPair (withHole (plot .board)) bytes)) e)
+
+module _ (plot : Plot) (file : List ℕ) (at : ℕ) (none : plot .tiles ≡ []) where
+  pub holeBody-cut : length file - at < 2 → holeBody plot (drop at file) ≡ refused 1
+  unfolding mapAnswer
+  holeBody-cut h =
+      holeBody-first plot (drop at file) none ∙ ap (mapAnswer startAt) (readPair-few (withHole (plot .board)) (drop at file) (few-bytes file at h))
+
+  pub holeBody-at : at + 2 ≤ length file
+      → holeBody plot (drop at file) ≡ mapAnswer startAt (mapAnswer (λ board. (board, drop (at + 2) file)) (withHole (plot .board) (getD file at 0) (getD file (at + 1) 0)))
+  unfolding readPair
+  holeBody-at h =
+      holeBody-first plot (drop at file) none ∙ ap (λ (l : List ℕ). mapAnswer startAt (readPair (withHole (plot .board)) l)) (two-bytes file at h)
 
 -- ---- tiles
 
@@ -189,9 +217,14 @@ module _ (mark : Mark) (plot : Plot) (bytes : List ℕ) where
       go RB q = refl
       go LB q = refl
       go TB q = refl
+      go HO q = let z : _≡_ {A = ℕ} 0 1 = cc in absurd (omega arith)
       go TI q = let z : _≡_ {A = ℕ} 0 1 = cc in absurd (omega arith)
       go OR q = let z : _≡_ {A = ℕ} 0 1 = cc in absurd (omega arith)
       go EN q = let z : _≡_ {A = ℕ} 0 1 = cc in absurd (omega arith)
+
+  pub laterBody-hole : mark ≡ HO → laterBody mark plot bytes ≡ holeBody plot bytes
+  unfolding laterBody
+  laterBody-hole e = ap (λ (m : Mark). laterBody m plot bytes) e
 
   pub laterBody-tile : mark ≡ TI → laterBody mark plot bytes ≡ tileBody (tilesFor false) plot bytes
   unfolding laterBody

@@ -1,12 +1,13 @@
 -- Laws of the records of a plot file: a mark and a body are read exactly where they stand; what a later record is;
--- a record that was read left fewer bytes, so that `records` has enough turns; every refusal is one of 1 to 6. Rests on `PlotFile`, `Records` and
--- the laws of answers, paths and boards. Assumes nothing.
+-- a record that was read left fewer bytes, so that `records` has enough turns; every refusal is one of 1 to 6, or 15. Rests on `PlotFile`, `Records` and
+-- the laws of answers, paths and holes. Assumes nothing.
 use mathlib.Core.Path.{_≡_, refl, sym, ap, ap₂, _∙_, subst}
+use mathlib.Core.Logic.{_⊎_, inl, inr, ⊎-elim}
 use mathlib.Core.Bool.{Bool, true, false, So, cond, _&&_, and-eq-true-iff}
 use mathlib.Core.List.{List, [], _∷_, _++_}
 use Prim.Native.Nat.{ℕ, zero, suc, _+_, _*_, _≤_, _<_}
 use native.Mathlib.Omega.{arith}
-use borrow.Author.Tests.{eqb-true, leb-true, le-leb}
+use borrow.Author.Tests.{eqb-true, eq-eqb, leb-true, le-leb}
 use lib.Dec.{eqb, leb}
 use lib.ListN.{length, getD, take, drop, take-append-drop, length-append}
 use lib.Seq.{length-take-le, take-append-seam, drop-append-seam}
@@ -16,11 +17,12 @@ use Rattle.tile.specs.Path.{Path, codesOk, readPath}
 use Rattle.tiles.specs.Paths.{orbit}
 use Rattle.tile.specs.StoredLaws.{readPath-is, readPath-given}
 use Rattle.rectangle.specs.Board.{Board, sizeOk}
-use Rattle.board.specs.Board.{shaped, newBoard, lBoard, tBoard}
+use Rattle.board.specs.Board.{shaped, newBoard, lBoard, tBoard, withHole}
+use Rattle.board.specs.HoleLaws.{withHole-refused}
 use Rattle.plot_file.specs.declared.marks.Mark.{Mark}
-use Rattle.plot_file.specs.declared.marks.Mark.the-variants.{RB, LB, TB, TI, OR, EN}
-use Rattle.plot_file.specs.PlotFile.{allMarks, Plot, letters, spells, markAmong, readMark, readPair, readBody, Step, more, ended, boardBody, firstRecord, addTiles, tileBody, endBody, laterBody, laterRecord, onward, records, plotIn}
-use Rattle.plot_file.specs.Records.{TileRecord, ti, or, tileBytes, directions, tilesHeld}
+use Rattle.plot_file.specs.declared.marks.Mark.the-variants.{RB, LB, TB, HO, TI, OR, EN}
+use Rattle.plot_file.specs.PlotFile.{allMarks, Plot, letters, spells, markAmong, readMark, readPair, readBody, Step, more, ended, boardBody, firstRecord, holeBody, addTiles, tileBody, endBody, laterBody, laterRecord, onward, records, plotIn}
+use Rattle.plot_file.specs.Records.{Hole, TileRecord, ti, or, holeBytes, tileBytes, directions, tilesHeld}
 
 -- ---- marks
 
@@ -29,6 +31,7 @@ unfolding letters
 letters-two RB = refl
 letters-two LB = refl
 letters-two TB = refl
+letters-two HO = refl
 letters-two TI = refl
 letters-two OR = refl
 letters-two EN = refl
@@ -66,6 +69,7 @@ unfolding readMark letters
 readMark-letters RB rest = refl
 readMark-letters LB rest = refl
 readMark-letters TB rest = refl
+readMark-letters HO rest = refl
 readMark-letters TI rest = refl
 readMark-letters OR rest = refl
 readMark-letters EN rest = refl
@@ -74,6 +78,16 @@ pub length-letters : (mark : Mark) → length (letters mark) ≡ 2
 length-letters mark = ap length (letters-two mark)
 
 -- ---- bodies
+
+-- two bytes that were read
+pub readPair-given : (make : ℕ → ℕ → Answer Board) (bytes : List ℕ) (board : Board) (rest : List ℕ) → readPair make bytes ≡ given (board, rest)
+    → (a : ℕ) × (b : ℕ) × (bytes ≡ a ∷ b ∷ rest) × (make a b ≡ given board)
+unfolding readPair
+readPair-given make [] board rest e = absurd (refused-given 1 (board, rest) e)
+readPair-given make (a ∷ []) board rest e = absurd (refused-given 1 (board, rest) e)
+readPair-given make (a ∷ b ∷ bytes) board rest e =
+    let r = map-given (λ board. (board, bytes)) (make a b) (board, rest) e in
+    (a, b, ap (λ (x : Board × List ℕ). a ∷ b ∷ x .1) (r .2), r .1 ∙ ap (λ (x : Board × List ℕ). given (x .0)) (r .2))
 
 -- a body that was read is its length and its codes, and they are a path
 pub readBody-is : (bytes : List ℕ) (p : Path) (rest : List ℕ) → readBody bytes ≡ given (p, rest)
@@ -112,9 +126,17 @@ pub record TileRead (plot : Plot) (bytes : List ℕ) (next : Plot) (rest : List 
   pub codes : So (codesOk (directions tile))
   pub adds : addTiles plot (tilesHeld tile) ≡ given next
 
--- what a record leaves: a tile's leaves bytes behind it, EN ends the file
+-- the record of a hole was read: it stands in front, before every tile, and its cell was fixed
+pub record HoleRead (plot : Plot) (bytes : List ℕ) (next : Plot) (rest : List ℕ) : Type 0 where
+  pub hole : Hole
+  pub front : bytes ≡ holeBytes hole ++ rest
+  pub none : plot .tiles ≡ []
+  pub makes : withHole (plot .board) (hole .row) (hole .column) ≡ given (next .board)
+  pub same : next .tiles ≡ plot .tiles
+
+-- what a record leaves: a tile's and a hole's leave bytes behind them, EN ends the file
 abbrev pub Left : Plot → List ℕ → Step → Type 0
-Left plot bytes (more next rest) = TileRead plot bytes next rest
+Left plot bytes (more next rest) = TileRead plot bytes next rest ⊎ HoleRead plot bytes next rest
 Left plot bytes (ended next) = (bytes ≡ letters EN) × (next ≡ plot)
 
 tileBody-given : (tiles : Path → List Path) (plot : Plot) (bytes : List ℕ) (step : Step) → tileBody tiles plot bytes ≡ given step
@@ -126,19 +148,39 @@ tileBody-given tiles plot bytes step e =
     let is = readBody-is bytes (r .0 .0) (r .0 .1) (r .1) in
     (r .0 .0, r .0 .1, m .0, m .2, is .0, is .1, is .2, m .1)
 
+pub length-none : {A : Type 0} (l : List A) → length l ≡ 0 → l ≡ []
+length-none [] e = refl
+length-none (x ∷ l) e = absurd (omega arith)
+
+holeBody-left : (plot : Plot) (bytes : List ℕ) (step : Step) → holeBody plot bytes ≡ given step → Left plot (letters HO ++ bytes) step
+unfolding holeBody holeBytes letters
+holeBody-left plot bytes step e = go (eqb (length (plot .tiles)) 0) refl e
+  where
+    make : Board × List ℕ → Step
+    make r = more (record { board = r .0; tiles = plot .tiles }) (r .1)
+
+    go : (t : Bool) → eqb (length (plot .tiles)) 0 ≡ t → cond t (mapAnswer make (readPair (withHole (plot .board)) bytes)) (refused 3) ≡ given step → Left plot (letters HO ++ bytes) step
+    go true q r =
+        let m = map-given make (readPair (withHole (plot .board)) bytes) step r in
+        let p = readPair-given (withHole (plot .board)) bytes (m .0 .0) (m .0 .1) (m .1) in
+        subst (Left plot (letters HO ++ bytes)) (m .2)
+        (inr (record { hole = record { row = p .0; column = p .1 }; front = ap (λ (l : List ℕ). letters HO ++ l) (p .2); none = length-none (plot .tiles) (eqb-true (length (plot .tiles)) 0 q); makes = p .3; same = refl }))
+    go false q r = absurd (refused-given 3 step r)
+
 laterBody-left : (mark : Mark) (plot : Plot) (bytes : List ℕ) (step : Step) → laterBody mark plot bytes ≡ given step → Left plot (letters mark ++ bytes) step
 unfolding laterBody endBody letters tileBytes tilesHeld
 laterBody-left RB plot bytes step e = absurd (refused-given 3 step e)
 laterBody-left LB plot bytes step e = absurd (refused-given 3 step e)
 laterBody-left TB plot bytes step e = absurd (refused-given 3 step e)
+laterBody-left HO plot bytes step e = holeBody-left plot bytes step e
 laterBody-left TI plot bytes step e =
     let r = tileBody-given (λ path. path ∷ []) plot bytes step e in
     subst (Left plot (letters TI ++ bytes)) (r .3)
-    (record { tile = ti (r .0); front = ap (λ (l : List ℕ). letters TI ++ l) (r .4); short = r .5; codes = r .6; adds = r .7 })
+    (inl (record { tile = ti (r .0); front = ap (λ (l : List ℕ). letters TI ++ l) (r .4); short = r .5; codes = r .6; adds = r .7 }))
 laterBody-left OR plot bytes step e =
     let r = tileBody-given orbit plot bytes step e in
     subst (Left plot (letters OR ++ bytes)) (r .3)
-    (record { tile = or (r .0); front = ap (λ (l : List ℕ). letters OR ++ l) (r .4); short = r .5; codes = r .6; adds = r .7 })
+    (inl (record { tile = or (r .0); front = ap (λ (l : List ℕ). letters OR ++ l) (r .4); short = r .5; codes = r .6; adds = r .7 }))
 laterBody-left EN plot [] step e = subst (Left plot (letters EN)) (given-inj (ended plot) step e) (refl, refl)
 laterBody-left EN plot (byte ∷ bytes) step e = absurd (refused-given 3 step e)
 
@@ -164,6 +206,13 @@ laterRecord-tile (ti path) plot next rest h ok e =
     laterRecord-mark TI plot (length path ∷ path ++ rest) ∙ tileBody-more (λ path. path ∷ []) plot next path rest h ok e
 laterRecord-tile (or path) plot next rest h ok e = laterRecord-mark OR plot (length path ∷ path ++ rest) ∙ tileBody-more orbit plot next path rest h ok e
 
+-- the record of a hole in front, before every tile, is read
+pub laterRecord-hole : (hole : Hole) (plot : Plot) (board : Board) (rest : List ℕ) → plot .tiles ≡ [] → withHole (plot .board) (hole .row) (hole .column) ≡ given board
+    → laterRecord plot (holeBytes hole ++ rest) ≡ given (more (record { board = board; tiles = plot .tiles }) rest)
+unfolding laterBody holeBody readPair letters holeBytes mapAnswer
+laterRecord-hole hole plot board rest none e =
+    laterRecord-mark HO plot (hole .row ∷ hole .column ∷ rest) ∙ rw (eq-eqb (length (plot .tiles)) 0 (ap length none), e)
+
 -- EN as the last bytes is read
 pub laterRecord-end : (plot : Plot) → laterRecord plot (letters EN) ≡ given (ended plot)
 unfolding laterBody endBody letters
@@ -174,11 +223,20 @@ unfolding tileBytes
 length-tileBytes (ti path) = omega arith
 length-tileBytes (or path) = omega arith
 
+pub length-holeBytes : (hole : Hole) → length (holeBytes hole) ≡ 4
+unfolding holeBytes
+length-holeBytes hole = refl
+
 -- a later record that was read has three bytes or more
 pub laterRecord-shorter : (plot : Plot) (bytes : List ℕ) (next : Plot) (rest : List ℕ) → laterRecord plot bytes ≡ given (more next rest) → length rest + 3 ≤ length bytes
 laterRecord-shorter plot bytes next rest e =
-    let r = laterRecord-left plot bytes (more next rest) e in
-    omega (arith, ap length (r .front), length-append (tileBytes (r .tile)) rest, length-tileBytes (r .tile))
+    ⊎-elim tile hole (laterRecord-left plot bytes (more next rest) e)
+  where
+    tile : TileRead plot bytes next rest → length rest + 3 ≤ length bytes
+    tile r = omega (arith, ap length (r .front), length-append (tileBytes (r .tile)) rest, length-tileBytes (r .tile))
+
+    hole : HoleRead plot bytes next rest → length rest + 3 ≤ length bytes
+    hole r = omega (arith, ap length (r .front), length-append (holeBytes (r .hole)) rest, length-holeBytes (r .hole))
 
 -- ---- enough turns
 
@@ -212,10 +270,10 @@ pub records-step : (n : ℕ) (plot : Plot) (bytes : List ℕ) → length bytes �
 unfolding records
 records-step n plot bytes h = records-same n (suc n) plot bytes h (omega arith)
 
--- ---- every refusal is one of 1 to 6
+-- ---- every refusal is one of 1 to 6, or 15
 
 abbrev Listed : ℕ → Type 0
-Listed n = (0 < n) × (n ≤ 6)
+Listed n = ((0 < n) × (n ≤ 6)) ⊎ (n ≡ 15)
 
 refuses-onward : (f : Plot → List ℕ → Answer Plot) (a : Answer Step) → ((next : Plot) (rest : List ℕ) → Refuses Listed (f next rest)) → Refuses Listed a → Refuses Listed (onward f a)
 unfolding onward
@@ -224,17 +282,17 @@ refuses-onward f (given (more next rest)) h k n e = h next rest n e
 refuses-onward f (given (ended next)) h k n e = refuses-none Listed next n e
 
 refuses-1 : {A : Type 0} → Refuses {A = A} Listed (refused 1)
-refuses-1 = refuses-one Listed 1 (omega arith, omega arith)
+refuses-1 = refuses-one Listed 1 (inl (omega arith, omega arith))
 
 refuses-3 : {A : Type 0} → Refuses {A = A} Listed (refused 3)
-refuses-3 = refuses-one Listed 3 (omega arith, omega arith)
+refuses-3 = refuses-one Listed 3 (inl (omega arith, omega arith))
 
 refuses-5 : {A : Type 0} → Refuses {A = A} Listed (refused 5)
-refuses-5 = refuses-one Listed 5 (omega arith, omega arith)
+refuses-5 = refuses-one Listed 5 (inl (omega arith, omega arith))
 
 markAmong-listed : (marks : List Mark) (a b : ℕ) → Refuses Listed (markAmong marks a b)
 unfolding markAmong
-markAmong-listed [] a b = refuses-one Listed 2 (omega arith, omega arith)
+markAmong-listed [] a b = refuses-one Listed 2 (inl (omega arith, omega arith))
 markAmong-listed (mark ∷ marks) a b = refuses-cond Listed (spells mark a b) (given mark) (markAmong marks a b) (refuses-none Listed mark) (markAmong-listed marks a b)
 
 readMark-listed : (bytes : List ℕ) → Refuses Listed (readMark bytes)
@@ -252,13 +310,14 @@ readPair-listed make (a ∷ b ∷ rest) h = refuses-map Listed (λ board. (board
 
 shaped-listed : (w h rows low high : ℕ) → Refuses Listed (shaped w h rows low high)
 unfolding shaped
-shaped-listed w h rows low high = refuses-cond Listed (sizeOk w h) _ (refused 4) (refuses-none Listed _) (refuses-one Listed 4 (omega arith, omega arith))
+shaped-listed w h rows low high = refuses-cond Listed (sizeOk w h) _ (refused 4) (refuses-none Listed _) (refuses-one Listed 4 (inl (omega arith, omega arith)))
 
 boardBody-listed : (mark : Mark) (bytes : List ℕ) → Refuses Listed (boardBody mark bytes)
 unfolding boardBody newBoard lBoard tBoard
 boardBody-listed RB bytes = readPair-listed newBoard bytes (λ w h. shaped-listed w h 0 0 0)
 boardBody-listed LB bytes = readPair-listed lBoard bytes (λ n scale. shaped-listed (n * scale) (2 * scale) scale 0 scale)
 boardBody-listed TB bytes = readPair-listed tBoard bytes (λ n scale. shaped-listed ((2 * n + 1) * scale) (2 * scale) scale (n * scale) ((n + 1) * scale))
+boardBody-listed HO bytes = refuses-3
 boardBody-listed TI bytes = refuses-3
 boardBody-listed OR bytes = refuses-3
 boardBody-listed EN bytes = refuses-3
@@ -274,7 +333,17 @@ readBody-listed (k ∷ rest) =
 
 addTiles-listed : (plot : Plot) (paths : List Path) → Refuses Listed (addTiles plot paths)
 unfolding addTiles
-addTiles-listed plot paths = refuses-cond Listed (leb (length (plot .tiles ++ paths)) 64) _ (refused 6) (refuses-none Listed _) (refuses-one Listed 6 (omega arith, omega arith))
+addTiles-listed plot paths = refuses-cond Listed (leb (length (plot .tiles ++ paths)) 64) _ (refused 6) (refuses-none Listed _) (refuses-one Listed 6 (inl (omega arith, omega arith)))
+
+holeBody-listed : (plot : Plot) (bytes : List ℕ) → Refuses Listed (holeBody plot bytes)
+unfolding holeBody
+holeBody-listed plot bytes =
+    refuses-cond Listed (eqb (length (plot .tiles)) 0) _ (refused 3)
+    (refuses-map Listed _ (readPair (withHole (plot .board)) bytes) (readPair-listed (withHole (plot .board)) bytes hole))
+    refuses-3
+  where
+    hole : (row column : ℕ) → Refuses Listed (withHole (plot .board) row column)
+    hole row column n e = ⊎-elim (λ k. inl (omega arith, omega arith)) (λ k. inr k) (withHole-refused (plot .board) row column n e)
 
 tileBody-listed : (tiles : Path → List Path) (plot : Plot) (bytes : List ℕ) → Refuses Listed (tileBody tiles plot bytes)
 unfolding tileBody
@@ -287,6 +356,7 @@ unfolding laterBody endBody
 laterBody-listed RB plot bytes = refuses-3
 laterBody-listed LB plot bytes = refuses-3
 laterBody-listed TB plot bytes = refuses-3
+laterBody-listed HO plot bytes = holeBody-listed plot bytes
 laterBody-listed TI plot bytes = tileBody-listed (λ path. path ∷ []) plot bytes
 laterBody-listed OR plot bytes = tileBody-listed orbit plot bytes
 laterBody-listed EN plot [] = refuses-none Listed (ended plot)
@@ -299,7 +369,7 @@ records-listed (suc n) plot bytes =
     refuses-onward (records n) (laterRecord plot bytes) (λ next rest. records-listed n next rest)
     (refuses-bind Listed (readMark bytes) (λ m. laterBody (m .0) plot (m .1)) (readMark-listed bytes) (λ m. laterBody-listed (m .0) plot (m .1)))
 
-pub plotIn-refusal : (file : List ℕ) (n : ℕ) → plotIn file ≡ refused n → (0 < n) × (n ≤ 6)
+pub plotIn-refusal : (file : List ℕ) (n : ℕ) → plotIn file ≡ refused n → ((0 < n) × (n ≤ 6)) ⊎ (n ≡ 15)
 unfolding plotIn firstRecord
 plotIn-refusal file =
     refuses-onward (records (length file)) (firstRecord file) (λ next rest. records-listed (length file) next rest)

@@ -1,6 +1,6 @@
--- The theorems about plot files: which files are accepted, what is read from them, which refusals there are, and how many bytes settle a file. Each is
--- said here in words and proved in `RecordLaws`, `FileLaws`, `LengthLaws` or `SettledLaws`. The reader is `plotIn` of `PlotFile`, records as data are
--- `Records`; `ReadsPlot` says what the code's answer has to be. Assumes nothing.
+-- The theorems about plot files: which files are accepted, what is read from them, what holes are, which refusals there are, and how many bytes settle a file.
+-- Each is said here in words and proved in `RecordLaws`, `HoleLaws`, `FileLaws`, `LengthLaws` or `SettledLaws`. The reader is `plotIn` of `PlotFile`, records as
+-- data are `Records`; `ReadsPlot` says what the code's answer has to be. Assumes nothing.
 use mathlib.Core.Path.{_≡_, sym, ap, _∙_}
 use mathlib.Core.Logic.{_↔_}
 use mathlib.Core.Bool.{true}
@@ -23,14 +23,48 @@ use Rattle.plot_file.specs.FileLaws as File
 use Rattle.plot_file.specs.LengthLaws as Length
 use Rattle.plot_file.specs.SettledLaws as Settled
 
--- The accepted files are exactly the files of a board record, any number of tile records and EN, where the board's size is accepted, each path has at most
--- 32 codes 0 to 7, and there are at most 64 tiles. The plot that is read has that board and those tiles, in the order of the file.
-pub accepted-iff : (file : List ℕ) (plot : Plot) → (plotIn file ≡ given plot) ↔ ((board : BoardRecord) × (tiles : List TileRecord) × (file ≡ fileOf board tiles) × Holds board tiles plot)
+-- The accepted files are exactly the files of a board record, any number of holes, any number of tile records and EN, where the board's size is accepted, the
+-- holes are different free cells of that board, each path has at most 32 codes 0 to 7, and there are at most 64 tiles. The plot that is read has that board with
+-- the holes fixed, and those tiles, in the order of the file.
+pub accepted-iff : (file : List ℕ) (plot : Plot)
+    → (plotIn file ≡ given plot) ↔ ((board : BoardRecord) × (holes : List Hole) × (tiles : List TileRecord) × (file ≡ fileOf board holes tiles) × Holds board holes tiles plot)
 accepted-iff = File.accepted-iff
 
 -- Every byte belongs to exactly one record: equal files have the same records.
-pub file-once : (b c : BoardRecord) (ts us : List TileRecord) → fileOf b ts ≡ fileOf c us → (b ≡ c) × (ts ≡ us)
+pub file-once : (b c : BoardRecord) (hs gs : List Hole) (ts us : List TileRecord) → fileOf b hs ts ≡ fileOf c gs us → (b ≡ c) × (hs ≡ gs) × (ts ≡ us)
 file-once = File.file-once
+
+-- ---- holes
+
+module _ (board : BoardRecord) (holes : List Hole) (tiles : List TileRecord) (plot : Plot) (h : Holds board holes tiles plot) where
+  -- The fixed marks of the plot are those of the board record and those of the holes, and the size is the board record's;
+  pub fixed-marks : (cell : ℕ) → cell < 256 → hasCell (plot .board .fixed) cell ≡ (hasCell (h .outline .fixed) cell || isHole holes cell)
+  fixed-marks = ?
+
+  pub outline-size : (plot .board .width ≡ h .outline .width) × (plot .board .height ≡ h .outline .height)
+  outline-size = ?
+
+  -- each hole is one new cell, which was free;
+  pub holes-new : (size (plot .board .fixed) ≡ size (h .outline .fixed) + length holes) × (freeCount (plot .board) + length holes ≡ freeCount (h .outline))
+  holes-new = ?
+
+  -- so there are at most 256 of them.
+  pub holes-few : length holes ≤ 256
+  holes-few = ?
+
+  -- An HO record behind a tile is refused by 3, whatever stands behind its mark.
+  pub hole-after-tile : (rest : List ℕ) → 0 < length tiles
+      → plotIn (boardBytes board ++ flatMap holeBytes holes ++ flatMap tileBytes tiles ++ ascii "HO" ++ rest) ≡ refused 3
+  hole-after-tile = ?
+
+  -- Behind the board and other holes it is refused by 1 where a byte of its body is missing,
+  pub hole-cut : (rest : List ℕ) → tiles ≡ [] → length rest < 2 → plotIn (boardBytes board ++ flatMap holeBytes holes ++ ascii "HO" ++ rest) ≡ refused 1
+  hole-cut = ?
+
+  -- and else by 15 exactly if its cell is outside the board or marked already, by the board record or by a hole before it.
+  pub hole-bad : (hole : Hole) (rest : List ℕ) → tiles ≡ [] → freeAt (plot .board) (place hole) ≡ false
+      → plotIn (boardBytes board ++ flatMap holeBytes holes ++ holeBytes hole ++ rest) ≡ refused 15
+  hole-bad = ?
 
 -- An accepted file has at most `longestFile` bytes, and no smaller bound holds.
 pub accepted-length : (file : List ℕ) (plot : Plot) → plotIn file ≡ given plot → length file ≤ longestFile
@@ -50,8 +84,8 @@ settled-least = Settled.settledBy-least
 pub four-thousand-settle : (file : List ℕ) → plotIn (take 4096 file) ≡ plotIn file
 four-thousand-settle file = settled file 4096 (omega arith)
 
--- Every refusal of a file is one of 1 to 6.
-pub refusal-listed : (file : List ℕ) (n : ℕ) → plotIn file ≡ refused n → (0 < n) × (n ≤ 6)
+-- Every refusal of a file is one of 1 to 6, or 15.
+pub refusal-listed : (file : List ℕ) (n : ℕ) → plotIn file ≡ refused n → ((0 < n) × (n ≤ 6)) ⊎ (n ≡ 15)
 refusal-listed = Record.plotIn-refusal
 
 -- The board of an accepted file is valid and has no laid marks, and its tiles are at most 64 paths that can be stored. Its fixed marks are a set of 256 cells.

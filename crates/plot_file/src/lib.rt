@@ -30,9 +30,10 @@ pub struct MadePlot {
 }
 
 // The board and the tiles of a plot file, or its refusal: record by record, 1, the mark is cut or
-// missing; 2, an unknown mark; 3, the first record is no board, or a later one is; 1, a length or
-// body byte is missing (but a length over 32 is 5 before its bytes are looked for); 4, the board's
-// size; 5, a code over 7; 6, the tiles would pass 64; 3, a byte after EN.
+// missing; 2, an unknown mark; 3, the first record is no board, or a later one is, or a hole stands
+// after a tile; 1, a length or body byte is missing (but a length over 32 is 5 before its bytes are
+// looked for); 4, the board's size; 15, a hole outside the board or on a marked cell; 5, a code over
+// 7; 6, the tiles would pass 64; 3, a byte after EN.
 pub fn read_plot(file: &[u8]) -> MadePlot
     ensures { λ r. ⌜ ReadsPlot (plotIn (now (file .entry))) r ⌝ }
 {

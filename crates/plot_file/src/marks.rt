@@ -14,6 +14,7 @@ pub enum Mark {
     RB,
     LB,
     TB,
+    HO,
     TI,
     OR,
     EN,
@@ -47,6 +48,9 @@ fn mark_of(a: u8, b: u8) -> Marked
     }
     if same_pair(a, b, b'T', b'B') {
         return Marked::Is(Mark::TB);
+    }
+    if same_pair(a, b, b'H', b'O') {
+        return Marked::Is(Mark::HO);
     }
     if same_pair(a, b, b'T', b'I') {
         return Marked::Is(Mark::TI);

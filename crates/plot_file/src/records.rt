@@ -24,7 +24,7 @@ ghost use Rattle.tiles.specs.Paths.{pathsIn, tilesOf};
 ghost use Rattle.tile.specs.Inner.{CleanTile};
 ghost use Rattle.tiles.specs.Inner.{Clean};
 ghost use Rattle.board.specs.Board.{boardOf};
-ghost use Rattle.plot_file.specs.PlotFile.{noPlot, boardBody, firstRecord, addTiles, tileBody, endBody, laterBody, laterRecord};
+ghost use Rattle.plot_file.specs.PlotFile.{noPlot, boardBody, firstRecord, addTiles, tileBody, holeBody, endBody, laterBody, laterRecord};
 ghost use Rattle.plot_file.specs.Inner.{answerOf, tilesFor, plotOf, Kept, Reads, boardOnly, startAt, StepsTo, recordAt};
 
 // What has been read.
@@ -145,10 +145,28 @@ fn later_body(file: &[u8], at: usize, plot: Plot, mark: Mark) -> Step
         Mark::RB => refuse(Refusal::Misplaced),
         Mark::LB => refuse(Refusal::Misplaced),
         Mark::TB => refuse(Refusal::Misplaced),
+        Mark::HO => hole_record(file, at, plot),
         Mark::TI => tile_record(file, at, plot, false),
         Mark::OR => tile_record(file, at, plot, true),
         Mark::EN => end_record(file, at, plot),
     }
+}
+
+// The record of a hole; refusal 3 behind a tile, 1 for a missing byte, 15 for the cell.
+fn hole_record(file: &[u8], at: usize, plot: Plot) -> Step
+    requires { ⌜ (at ≤ length (now file)) × Kept plot ⌝ }
+    ensures { λ r. ⌜ Reads (now (file .entry)) at (holeBody (plotOf plot) (drop at (now (file .entry)))) r ⌝ }
+{
+    let tiles = plot.tiles;
+    let board = plot.board;
+    if 0 < tiles.count {
+        return refuse(Refusal::Misplaced);
+    }
+    if file.len() - at < 2 {
+        return refuse(Refusal::Cut);
+    }
+    let made = board.with_hole(file[at] as usize, file[at + 1] as usize);
+    started(made, at + 2)
 }
 
 // The end of the file; refusal 3 for a byte behind it.

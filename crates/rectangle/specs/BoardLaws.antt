@@ -12,7 +12,7 @@ use lib.IntN.{ℤ, pos, negsuc}
 use lib.Pow.{pow-pos}
 use Rattle.cells.specs.Set.{bit, hasCell, size}
 use Rattle.cells.specs.BitLaws.{Disjoint, bit-le, bit-ext, bit-high, zero-bit}
-use Rattle.cells.specs.SetLaws.{hasCell-iff, hasCell-false, bit-unionOf, unionOf-lt, size-zero, size-none, bit-free, hasCell-none, hasCell-setOf, setOf-lt}
+use Rattle.cells.specs.SetLaws.{hasCell-iff, hasCell-false, bit-unionOf, hasCell-unionOf, unionOf-lt, size-zero, size-none, bit-free, hasCell-none, hasCell-setOf, setOf-lt}
 use Rattle.cells.specs.FirstsLaws.{so-eq}
 use Rattle.cells.specs.Lists.{allBelow}
 use Rattle.cells.specs.ArrayLaws.{allBelow-at}
@@ -91,13 +91,8 @@ unfolding marks
 bit-marks b c h = bit-unionOf (b .fixed) (b .laid) c h
 
 pub isMarked-marks : (b : Board) (c : ℕ) → c < 256 → isMarked b c ≡ hasCell (marks b) c
-unfolding isMarked
-isMarked-marks b c h = go (hasCell (b .fixed) c) (hasCell (b .laid) c) refl refl
-  where
-    go : (x y : Bool) → hasCell (b .fixed) c ≡ x → hasCell (b .laid) c ≡ y → (x || y) ≡ hasCell (marks b) c
-    go true y e f = sym (hasCell-iff (marks b) c .1 (omega (arith, bit-marks b c h, hasCell-iff (b .fixed) c .0 e, bit-le (b .laid) c)))
-    go false true e f = sym (hasCell-iff (marks b) c .1 (omega (arith, bit-marks b c h, hasCell-iff (b .laid) c .0 f, bit-le (b .fixed) c)))
-    go false false e f = sym (hasCell-false (marks b) c (omega (arith, bit-marks b c h, bit-free (b .fixed) c e, bit-free (b .laid) c f)))
+unfolding isMarked marks
+isMarked-marks b c h = sym (hasCell-unionOf (b .fixed) (b .laid) c h)
 
 -- on a board whose size is right, the test by both kinds of marks together is that of the definition
 pub freeIn-freeAt : (b : Board) → b .width ≤ 16 → b .height ≤ 16 → (p : Position) → freeIn (b .width) (b .height) (marks b) p ≡ freeAt b p

@@ -9,7 +9,7 @@ use Rattle.refusal.specs.declared.Refusal.the-variants as R
 use Rattle.refusal.specs.declared.Verdict.{Verdict}
 use Rattle.refusal.specs.declared.Verdict.the-variants as Verdicts
 
--- the number of each refusal: 1 to 12 are 01's, 13 and 14 those of request 1 of 02
+-- the number of each refusal: 1 to 12 are 01's, 13 and 14 those of request 1 of 02, 15 that of request 2
 abbrev pub refusalNumber : Refusal → ℕ
 refusalNumber R.Cut = 1
 refusalNumber R.UnknownMark = 2
@@ -25,6 +25,7 @@ refusalNumber R.BadGraph = 11
 refusalNumber R.NoSuchTiling = 12
 refusalNumber R.BrokenRecord = 13
 refusalNumber R.NoSuchRecord = 14
+refusalNumber R.BadHole = 15
 
 -- what a call answers: refused, with the refusal's number, or a value
 pub data Answer (A : Type 0) : Type 0 where

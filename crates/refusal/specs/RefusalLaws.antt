@@ -25,6 +25,7 @@ refusalNumber-pos R.BadGraph = lit< tt
 refusalNumber-pos R.NoSuchTiling = lit< tt
 refusalNumber-pos R.BrokenRecord = lit< tt
 refusalNumber-pos R.NoSuchRecord = lit< tt
+refusalNumber-pos R.BadHole = lit< tt
 
 -- an answer with a refusal's number is that refusal
 pub refused-of : {A : Type 0} (a : Answer A) (r : Refusal) → refusalNumber r ≡ refusalOf a → a ≡ refused (refusalNumber r)

@@ -5,7 +5,7 @@ ghost use Rattle.refusal.specs.Refusal.{refusalNumber};
 
 // A plot file: Cut, UnknownMark, Misplaced. Input: BadBoard, BadTile, TooManyTiles, UnequalTiles.
 // Lent words: NoRoom, NoRoomForEdges. A path count past its limit: CountTooLarge. The tiling by
-// number: BadGraph, NoSuchTiling. An archive file: BrokenRecord, NoSuchRecord.
+// number: BadGraph, NoSuchTiling. An archive file: BrokenRecord, NoSuchRecord. A hole: BadHole.
 pub enum Refusal {
     Cut,
     UnknownMark,
@@ -21,6 +21,7 @@ pub enum Refusal {
     NoSuchTiling,
     BrokenRecord,
     NoSuchRecord,
+    BadHole,
 }
 
 // What a test of some input answers.
@@ -48,6 +49,7 @@ impl Refusal {
             Refusal::NoSuchTiling => 12,
             Refusal::BrokenRecord => 13,
             Refusal::NoSuchRecord => 14,
+            Refusal::BadHole => 15,
         }
     }
 }

@@ -1,4 +1,4 @@
--- `board::refused` meets its contract: the 0 by 0 board and refusal 4.
+-- `board::refused` meets its contract: the 0 by 0 board and the refusal.
 -- Assumes nothing.
 use mathlib.Core.Path.{refl, _∙_}
 use borrow.Author.Needs.{needs}

@@ -40,6 +40,10 @@ left6 : (c : tie.Else6) → Left 6 (c .before .before .before .before .before .b
 unfolding spells letters ascii
 left6 c x e = left5 (c .before .before) x (mark-later _ _ _ _ x (sym (c .before .same-pair6 .ensures) ∙ c .if6 .left) e)
 
+left7 : (c : tie.Else7) → Left 7 (c .before .before .before .before .before .before .before .before .before .before .before .before .before .before .args .a) (c .before .before .before .before .before .before .before .before .before .before .before .before .before .before .args .b)
+unfolding spells letters ascii
+left7 c x e = left6 (c .before .before) x (mark-later _ _ _ _ x (sym (c .before .same-pair7 .ensures) ∙ c .if7 .left) e)
+
 returns : tie.Need-returns
 unfolding spells letters ascii
 returns c = mark-here _ _ _ _ (sym (c .before .same-pair .ensures) ∙ c .if1 .taken)
@@ -65,7 +69,11 @@ unfolding spells letters ascii
 returns-6 c = left5 (c .before .before) _ (mark-here _ _ _ _ (sym (c .before .same-pair6 .ensures) ∙ c .if6 .taken))
 
 returns-7 : tie.Need-returns-7
-returns-7 c = left6 c _ (mark-none _ _)
+unfolding spells letters ascii
+returns-7 c = left6 (c .before .before) _ (mark-here _ _ _ _ (sym (c .before .same-pair7 .ensures) ∙ c .if7 .taken))
+
+returns-8 : tie.Need-returns-8
+returns-8 c = left7 c _ (mark-none _ _)
 
 pub mark-of-spec : {M : Type 1} → statement M
 mark-of-spec =
@@ -83,4 +91,6 @@ mark-of-spec =
     returns-5
     (λ c κs. search needs)
     returns-6
-    returns-7)
+    (λ c κs. search needs)
+    returns-7
+    returns-8)
