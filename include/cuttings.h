@@ -29,7 +29,8 @@
    3 a record in a wrong place, or a byte after EN; 4 the board; 5 a tile; 6 over 64 tiles; 7 two
    tiles with different numbers of cells; 8 no room; 9 a path count of 2^64 or more; 10 no room for the
    edges; 11 words that are no graph's; 12 no such tiling; 13 a record of the archive file is cut short
-   or its mark is not TY; 14 no such record.
+   or its mark is not TY; 14 no such record; 15 a hole of the plot file outside the board or on a
+   marked cell.
 
    Slices of a wrong shape are refused before anything else, in this order: 4, marks that are not 8
    words; 5, tiles that are not a multiple of 33 bytes, or a tile that is not 33; 11, a graph that is
@@ -113,7 +114,7 @@ uint64_t cuttings_orbit(const uint8_t *tile, size_t tile_len,
 /* A plot file: width, height, fixed and laid marks of its board into board, which has at least 10
    words, and its tiles, 33 bytes each, into tiles, which has at least 2112 bytes. answer[0]: how many
    tiles. The marks for another call are the 8 words from board + 2 on. Refusals: 8, by the shapes; 1
-   to 6. Stack: at most 48 KB. */
+   to 6 and 15. Stack: at most 48 KB. */
 uint64_t cuttings_read_plot(const uint8_t *file, size_t file_len,
                             uint64_t *board, size_t board_len,
                             uint8_t *tiles, size_t tiles_len,

@@ -1,17 +1,19 @@
--- The definitions compute: the sizes that 01's section Boards names, line by line, and which structs are accepted. Assumes nothing.
+-- The definitions compute: the sizes that 01's section Boards names, line by line, the holes of 02's request 2, and which structs are accepted. Assumes nothing.
 use mathlib.Core.Path.{_≡_, refl}
 use mathlib.Core.Bool.{true}
-use mathlib.Core.List.{List, [], _∷_, map}
+use mathlib.Core.List.{List, [], _∷_, _++_, map}
 use Prim.Native.Nat.{ℕ, _+_, _-_, _*_, _/_, _^_}
+use lib.IntN.{pos}
 use Rattle.cells.specs.declared.Cells.{Cells}
 use Rattle.cells.specs.Set.{number}
-use Rattle.refusal.specs.Refusal.{Answer, refused, given, mapAnswer, refusalOf, valueOr}
+use Rattle.refusal.specs.Refusal.{Answer, refused, given, mapAnswer, bindAnswer, refusalOf, valueOr}
+use Rattle.direction.specs.Direction.{at}
 use Rattle.refusal.specs.declared.Refusal.the-variants as R
 use Rattle.refusal.specs.declared.Verdict.the-variants as Verdicts
 use Rattle.board.specs.declared.FreeCells.the-variants as F
 use Rattle.board.specs.declared.AllMarked.the-variants as M
-use Rattle.rectangle.specs.Board.{Board}
-use Rattle.board.specs.Board.{boardOf, ofMarks, newBoard, lBoard, tBoard, readBoard, MakesBoard, freeCellsAnswer, allMarkedAnswer}
+use Rattle.rectangle.specs.Board.{Board, noBoard}
+use Rattle.board.specs.Board.{boardOf, ofMarks, newBoard, lBoard, tBoard, fixAt, withHole, readBoard, MakesBoard, freeCellsAnswer, allMarkedAnswer}
 
 -- ---- sizes: width, height and fixed marks
 
@@ -51,6 +53,38 @@ wide-marks = refl
 scale-0 : shapes (lBoard 3 0 ∷ tBoard 3 0 ∷ lBoard 0 0 ∷ tBoard 300 0 ∷ []) ≡ given (0, 0, 0) ∷ given (0, 0, 0) ∷ given (0, 0, 0) ∷ given (0, 0, 0) ∷ []
 unfolding shapes mapAnswer lBoard tBoard
 scale-0 = refl
+
+-- ---- holes
+
+-- 3 by 2 with one mark of either kind
+abbrev threeByTwo : Board
+threeByTwo = record { width = 3; height = 2; fixed = 1; laid = 2 }
+
+-- "mark that cell as fixed": row 1, column 2 is bit 18, and is fixed and not laid
+hole-fixed : (withHole threeByTwo 1 2 ≡ given (record { width = 3; height = 2; fixed = 1 + 2 ^ 18; laid = 2 })) × (fixAt threeByTwo (at (pos 1) (pos 2)) ≡ record { width = 3; height = 2; fixed = 1 + 2 ^ 18; laid = 2 })
+unfolding withHole
+hole-fixed = (refl, refl)
+
+-- the first free cell, and the last cell of a board
+corners : (withHole threeByTwo 0 2 ≡ given (record { width = 3; height = 2; fixed = 5; laid = 2 })) × (withHole (record { width = 16; height = 16; fixed = 0; laid = 0 }) 15 15 ≡ given (record { width = 16; height = 16; fixed = 2 ^ 255; laid = 0 }))
+unfolding withHole
+corners = (refl, refl)
+
+-- "15 when a cell is outside the board or marked already": below it, beside it, a fixed cell, a laid one, a cell of a board with none. Row 2, column 1 is outside though row 1, column 2 is not
+bad-holes : map (λ (p : ℕ × ℕ). withHole threeByTwo (p .0) (p .1)) ((2, 0) ∷ (0, 3) ∷ (2, 1) ∷ (0, 0) ∷ (0, 1) ∷ []) ++ withHole noBoard 0 0 ∷ []
+    ≡ refused 15 ∷ refused 15 ∷ refused 15 ∷ refused 15 ∷ refused 15 ∷ refused 15 ∷ []
+unfolding withHole
+bad-holes = refl
+
+-- one cell twice
+hole-twice : bindAnswer (withHole threeByTwo 1 1) (λ b. withHole b 1 1) ≡ refused 15
+unfolding withHole bindAnswer
+hole-twice = refl
+
+-- a board that is not accepted is 4, also where the cell is bad
+hole-nowhere : (withHole (record { width = 17; height = 2; fixed = 0; laid = 0 }) 0 0 ≡ refused 4) × (withHole (record { width = 2; height = 2; fixed = 1; laid = 1 }) 5 5 ≡ refused 4)
+unfolding withHole
+hole-nowhere = (refl, refl)
 
 -- ---- which boards are accepted
 

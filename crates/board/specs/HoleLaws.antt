@@ -1,21 +1,21 @@
--- Laws of a board with a hole: what `withHole` answers; and that the board with a free cell fixed is accepted, has that one fixed mark more and that one free cell less,
+-- Laws of a board with a hole: what `withHole` answers; that neighbour counts stay; and that the board with a free cell fixed is accepted, has that one fixed mark more and that one free cell less,
 -- and is else as before. Rests on `Board` and on the laws of boards by their numbers. Assumes nothing.
 use mathlib.Core.Path.{_≡_, refl, sym, ap, _∙_, subst}
 use mathlib.Core.Logic.{_⊎_, inl, inr}
 use mathlib.Core.Bool.{Bool, true, false, So, not, cond, _&&_, _||_, and-eq-true-iff, and-false, false≢true}
 use Prim.Native.Nat.{ℕ, suc, _^_, _<_}
-use native.Mathlib.Decide.{ℕ-discrete}
 use lib.IntN.{pos}
 use lib.Dec.{eqb}
-use borrow.Author.Tests.{eq-eqb, ne-eqb, eqb-true, not-true}
-use Rattle.cells.specs.Set.{bit, hasCell, withCell, size}
-use Rattle.cells.specs.SetLaws.{bit-free, hasCell-ext, hasCell-withCell, hasCell-none, withCell-lt, size-withCell-new}
+use borrow.Author.Tests.{eq-eqb, eqb-true, not-true}
+use Rattle.cells.specs.Set.{hasCell, withCell, size}
+use Rattle.cells.specs.SetLaws.{bit-free, hasCell-ext, hasCell-withCell, withCell-lt, size-withCell-new}
 use Rattle.cells.specs.ArrayLaws.{allBelow-all}
 use Rattle.direction.specs.Direction.{Position, at}
-use Rattle.refusal.specs.Refusal.{Answer, refused, given, bindAnswer}
+use Rattle.refusal.specs.Refusal.{refused, given, bindAnswer}
 use Rattle.refusal.specs.RefusalLaws.{refused-given, refused-inj, given-inj}
 use Rattle.rectangle.specs.Board.{Board, cellOf, positionOf, inside, isMarked, freeAt, isFree, freeSet, freeCount, markOk, valid, acceptBoard}
 use Rattle.rectangle.specs.BoardLaws.{acceptBoard-given, acceptBoard-refused, cellOf-lt, cellOf-positionOf, positionOf-cellOf, freeAt-inside, valid-size, valid-mark, valid-width, valid-height, hasCell-freeSet, freeSet-lt}
+use Rattle.choice.specs.Choice.{countOf}
 use Rattle.board.specs.Board.{fixAt, withHole}
 
 -- ---- what is answered
@@ -58,6 +58,13 @@ module _ (b : Board) (row column : ℕ) where
       go true q true f = absurd (refused-given n (fixAt b there) (sym e ∙ withHole-given q f))
       go true q false f = inr (refused-inj n 15 (sym e ∙ withHole-bad q f))
       go false q u f = inl (refused-inj n 4 (sym e ∙ withHole-invalid q))
+
+-- ---- a cell that is fixed
+
+-- "Neighbour counts ignore these cells": they are as before, of every cell
+pub fixAt-neighbours : (b : Board) (p : Position) (cell : ℕ) → countOf (fixAt b p) cell ≡ countOf b cell
+unfolding fixAt
+fixAt-neighbours b p cell = refl
 
 -- ---- a free cell that is fixed
 

@@ -212,6 +212,7 @@ fn holed(board: RectangularBoard, row: usize, column: usize) -> MadeBoard
     ensures { λ r. ⌜ MakesBoard (withHole (boardOf board) row column) r ⌝ }
 {
     let fixed = board.fixed;
+    let laid = board.laid;
     if board.height <= row {
         return refused(Refusal::BadHole);
     }
@@ -223,14 +224,10 @@ fn holed(board: RectangularBoard, row: usize, column: usize) -> MadeBoard
     if marks.has_cell(cell) {
         return refused(Refusal::BadHole);
     }
+    let holed = fixed.with_cell(cell);
     MadeBoard {
         verdict: Verdict::Accepted,
-        board: RectangularBoard::of_marks(
-            board.width,
-            board.height,
-            fixed.with_cell(cell),
-            board.laid,
-        ),
+        board: RectangularBoard::of_marks(board.width, board.height, holed, laid),
     }
 }
 

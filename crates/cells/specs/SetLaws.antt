@@ -165,6 +165,14 @@ module _ (n m : ℕ) where
   unfolding unionOf
   bit-unionOf c h = bit-fromBits (λ d. max (bit n d) (bit m d)) most 256 c h
 
+  pub hasCell-unionOf : (c : ℕ) → c < 256 → hasCell (unionOf n m) c ≡ (hasCell n c || hasCell m c)
+  hasCell-unionOf c h = go (hasCell n c) (hasCell m c) refl refl
+    where
+      go : (x y : Bool) → hasCell n c ≡ x → hasCell m c ≡ y → hasCell (unionOf n m) c ≡ (x || y)
+      go true y e f = hasCell-iff (unionOf n m) c .1 (omega (arith, bit-unionOf c h, hasCell-iff n c .0 e, bit-le m c))
+      go false true e f = hasCell-iff (unionOf n m) c .1 (omega (arith, bit-unionOf c h, hasCell-iff m c .0 f, bit-le n c))
+      go false false e f = hasCell-false (unionOf n m) c (omega (arith, bit-unionOf c h, bit-free n c e, bit-free m c f))
+
   pub intersectionOf-lt : intersectionOf n m < 2 ^ 256
   unfolding intersectionOf
   intersectionOf-lt = fromBits-lt (λ c. min (bit n c) (bit m c)) least 256
@@ -174,14 +182,6 @@ module _ (n m : ℕ) where
   bit-intersectionOf c h = bit-fromBits (λ d. min (bit n d) (bit m d)) least 256 c h
 
   -- disjoint sets are joined by `+`
-  pub hasCell-unionOf : (c : ℕ) → c < 256 → hasCell (unionOf n m) c ≡ (hasCell n c || hasCell m c)
-  hasCell-unionOf c h = go (hasCell n c) (hasCell m c) refl refl
-    where
-      go : (x y : Bool) → hasCell n c ≡ x → hasCell m c ≡ y → hasCell (unionOf n m) c ≡ (x || y)
-      go true y e f = hasCell-iff (unionOf n m) c .1 (omega (arith, bit-unionOf c h, hasCell-iff n c .0 e, bit-le m c))
-      go false true e f = hasCell-iff (unionOf n m) c .1 (omega (arith, bit-unionOf c h, hasCell-iff m c .0 f, bit-le n c))
-      go false false e f = hasCell-false (unionOf n m) c (omega (arith, bit-unionOf c h, bit-free n c e, bit-free m c f))
-
   pub unionOf-disjoint : n < 2 ^ 256 → m < 2 ^ 256 → Disjoint n m → unionOf n m ≡ n + m
   unionOf-disjoint hn hm d =
       bit-ext 256 (unionOf n m) (n + m) unionOf-lt (add-lt 256 n m hn hm d)

@@ -33,7 +33,7 @@ use Rattle.layers.specs.LayerCounts.{tooLarge, judgeLayer, judgeLayers, countTi
 use Rattle.expansion.specs.Plots.{acceptPlot}
 use Rattle.single_tiling.specs.SingleTiling.{readSearch}
 use Rattle.plot_file.specs.PlotFile.{plotIn}
-use Rattle.plot_file.specs.Theorems.{refusal-listed}
+use Rattle.plot_file.specs.Theorems.{refusal-positive}
 use Rattle.host_words.specs.Layout.{boardIn, resultIn, plotShape, unless, AnswersWords}
 use Rattle.host_words.specs.AnswerLaws.{unless-right}
 use Rattle.host_tiles.specs.TileBytes.{tileIn, tilesIn}
@@ -130,7 +130,7 @@ pub orbit-refuses : (t : Tile) → Refuses Positive (mapAnswer orbit (readTile t
 orbit-refuses t = refuses-map Positive orbit (readTile t) (readTile-refuses t Positive (lit< tt))
 
 pub file-refuses : (file : List ℕ) → Refuses Positive (plotIn file)
-file-refuses file n e = refusal-listed file n e .0
+file-refuses = refusal-positive
 
 -- ---- nor do wrong shapes
 

@@ -1,87 +1,45 @@
--- What an accepted file is: the bytes of a board record, of some tile records and of EN, and so in one way; and what its board and its tiles satisfy.
--- Rests on `RecordLaws` and the laws of boards, paths and orbits. Assumes nothing.
+-- What an accepted file is: the bytes of a board record, of some holes, of some tile records and of EN; what a file that begins so is; and what the board and the
+-- tiles of an accepted file satisfy. Rests on `FirstRecordLaws`, `RecordLaws`, `HoleLaws` and the laws of
+-- boards, paths and orbits. Assumes nothing.
 use mathlib.Core.Path.{_≡_, refl, sym, ap, ap₂, _∙_, subst}
 use mathlib.Core.Logic.{_↔_, _⊎_, inl, inr, ⊎-elim}
 use mathlib.Core.Bool.{Bool, true, false, So, cond}
 use mathlib.Core.List.{List, [], _∷_, _++_, flatMap, append-nil, append-assoc, List·Memᴰ as Mem, List·Memᴰ·head as here, List·Memᴰ·tail as there, List·Memᴰ·cases-cons as cases-cons, List·Memᴰ·not-nil as not-nil, List·Memᴰ·eq-of-singleton as eq-of-singleton}
-use Prim.Native.Nat.{ℕ, zero, suc, _+_, _*_, _^_, _≤_, _<_}
+use Prim.Native.Nat.{ℕ, zero, suc, _^_, _≤_, _<_, _+_}
 use native.Mathlib.Omega.{arith}
-use borrow.Author.Tests.{leb-true, le-leb}
+use borrow.Author.Tests.{leb-true, le-leb, eqb-true, eq-eqb}
 use lib.Dec.{leb}
-use lib.ListN.{length, take, drop, length-append}
-use lib.Seq.{take-append-seam, drop-append-seam, take-at, drop-at}
-use Rattle.cells.specs.Set.{setOf}
+use lib.ListN.{length, length-append}
 use Rattle.cells.specs.MemberLaws.{mem-flatMap}
-use Rattle.refusal.specs.Refusal.{Answer, refused, given, mapAnswer, bindAnswer}
-use Rattle.refusal.specs.RefusalLaws.{refused-given, given-inj, map-given, bind-given}
+use Rattle.refusal.specs.Refusal.{Answer, refused, given}
+use Rattle.refusal.specs.RefusalLaws.{refused-given, given-inj}
 use Rattle.tile.specs.Path.{Path, codesOk}
-use Rattle.tiles.specs.OrbitLaws.{orbit-length-path, orbit-codesOk}
+use Rattle.tiles.specs.Paths.{orbit}
+use Rattle.tiles.specs.OrbitLaws.{orbit-self, orbit-length-path, orbit-codesOk}
 use Rattle.tiles.specs.Inner.{Storable}
-use Rattle.rectangle.specs.Board.{Board, sizeOk, valid}
-use Rattle.board.specs.Board.{shapeMark, shaped, newBoard, lBoard, tBoard}
-use Rattle.board.specs.BoardLaws.{shaped-valid}
-use Rattle.cells.specs.SetLaws.{setOf-lt}
-use Rattle.plot_file.specs.declared.marks.Mark.{Mark}
-use Rattle.plot_file.specs.declared.marks.Mark.the-variants.{RB, LB, TB, TI, OR, EN}
-use Rattle.plot_file.specs.PlotFile.{Plot, letters, readMark, readPair, Step, more, ended, boardBody, firstRecord, addTiles, laterRecord, onward, records, plotIn}
-use Rattle.plot_file.specs.Records.{BoardRecord, rb, lb, tb, TileRecord, ti, or, boardBytes, tileBytes, fileOf, boardHeld, directions, tilesHeld, Holds}
-use Rattle.plot_file.specs.RecordLaws.{readMark-is, readMark-letters, length-letters, Left, laterRecord-left, laterRecord-tile, laterRecord-end, records-step}
-
--- ---- the first record
-
-abbrev pub plotOf : Board → List Path → Plot
-plotOf board tiles = record { board = board; tiles = tiles }
-
-readPair-given : (make : ℕ → ℕ → Answer Board) (bytes : List ℕ) (board : Board) (rest : List ℕ) → readPair make bytes ≡ given (board, rest)
-    → (a : ℕ) × (b : ℕ) × (bytes ≡ a ∷ b ∷ rest) × (make a b ≡ given board)
-unfolding readPair
-readPair-given make [] board rest e = absurd (refused-given 1 (board, rest) e)
-readPair-given make (a ∷ []) board rest e = absurd (refused-given 1 (board, rest) e)
-readPair-given make (a ∷ b ∷ bytes) board rest e =
-    let r = map-given (λ board. (board, bytes)) (make a b) (board, rest) e in
-    (a, b, ap (λ (x : Board × List ℕ). a ∷ b ∷ x .1) (r .2), r .1 ∙ ap (λ (x : Board × List ℕ). given (x .0)) (r .2))
-
-boardBody-given : (mark : Mark) (bytes : List ℕ) (board : Board) (rest : List ℕ) → boardBody mark bytes ≡ given (board, rest)
-    → (first : BoardRecord) × (letters mark ++ bytes ≡ boardBytes first ++ rest) × (boardHeld first ≡ given board)
-unfolding boardBody letters boardBytes boardHeld
-boardBody-given RB bytes board rest e =
-    let r = readPair-given newBoard bytes board rest e in (rb (r .0) (r .1), ap (λ (l : List ℕ). letters RB ++ l) (r .2), r .3)
-boardBody-given LB bytes board rest e =
-    let r = readPair-given lBoard bytes board rest e in (lb (r .0) (r .1), ap (λ (l : List ℕ). letters LB ++ l) (r .2), r .3)
-boardBody-given TB bytes board rest e =
-    let r = readPair-given tBoard bytes board rest e in (tb (r .0) (r .1), ap (λ (l : List ℕ). letters TB ++ l) (r .2), r .3)
-boardBody-given TI bytes board rest e = absurd (refused-given 3 (board, rest) e)
-boardBody-given OR bytes board rest e = absurd (refused-given 3 (board, rest) e)
-boardBody-given EN bytes board rest e = absurd (refused-given 3 (board, rest) e)
-
--- a first record that was read: a board's
-abbrev pub First : List ℕ → Step → Type 0
-First file step =
-    (first : BoardRecord) × (board : Board) × (rest : List ℕ) × (more (plotOf board []) rest ≡ step) × (file ≡ boardBytes first ++ rest) × (boardHeld first ≡ given board)
-
-pub firstRecord-given : (file : List ℕ) (step : Step) → firstRecord file ≡ given step → First file step
-unfolding firstRecord
-firstRecord-given file step e =
-    let r = bind-given (readMark file) (λ m. mapAnswer (λ r. more (plotOf (r .0) []) (r .1)) (boardBody (m .0) (m .1))) step e in
-    let m = map-given (λ r. more (plotOf (r .0) []) (r .1)) (boardBody (r .0 .0) (r .0 .1)) step (r .2) in
-    go (r .0 .0) (r .0 .1) (m .0 .0) (m .0 .1) (r .1) (m .1) (m .2)
-  where
-    go : (mark : Mark) (bytes : List ℕ) (board : Board) (rest : List ℕ) → readMark file ≡ given (mark, bytes) → boardBody mark bytes ≡ given (board, rest) → more (plotOf board []) rest ≡ step → First file step
-    go mark bytes board rest p q s =
-        let b = boardBody-given mark bytes board rest q in (b .0, board, rest, s, readMark-is file mark bytes p ∙ b .1, b .2)
-
-firstRecord-mark : (mark : Mark) (rest : List ℕ) → firstRecord (letters mark ++ rest) ≡ mapAnswer (λ r. more (plotOf (r .0) []) (r .1)) (boardBody mark rest)
-unfolding firstRecord bindAnswer
-firstRecord-mark mark rest = rw (readMark-letters mark rest)
-
--- a board record in front is read
-pub firstRecord-board : (first : BoardRecord) (board : Board) (rest : List ℕ) → boardHeld first ≡ given board → firstRecord (boardBytes first ++ rest) ≡ given (more (plotOf board []) rest)
-unfolding boardHeld boardBytes boardBody readPair letters mapAnswer
-firstRecord-board (rb a b) board rest e = firstRecord-mark RB (a ∷ b ∷ rest) ∙ rw e
-firstRecord-board (lb a b) board rest e = firstRecord-mark LB (a ∷ b ∷ rest) ∙ rw e
-firstRecord-board (tb a b) board rest e = firstRecord-mark TB (a ∷ b ∷ rest) ∙ rw e
+use Rattle.rectangle.specs.Board.{Board, freeAt, valid, freeCount, isFull}
+use Rattle.board.specs.Board.{fixAt}
+use Rattle.board.specs.HoleLaws.{withHole-is, withHole-given, fixAt-valid, fixAt-lt}
+use Rattle.plot_file.specs.declared.marks.Mark.the-variants.{EN}
+use Rattle.plot_file.specs.PlotFile.{Plot, letters, Step, more, ended, firstRecord, addTiles, laterRecord, onward, records, plotIn}
+use Rattle.plot_file.specs.Records.{BoardRecord, Hole, TileRecord, ti, or, boardBytes, holeBytes, tileBytes, fileOf, boardHeld, place, directions, tilesHeld, Holds}
+use Rattle.plot_file.specs.RecordLaws.{length-letters, TileRead, HoleRead, Left, laterRecord-left, laterRecord-tile, laterRecord-hole, laterRecord-end, records-step}
+use Rattle.plot_file.specs.HoleLaws.{holed-none, Dug, dug-none, dug-more, dug-first, dug-snoc, dug-laid, dug-lt, Counted, dug-counted, dug-few}
+use Rattle.plot_file.specs.FirstRecordLaws.{plotOf, First, firstRecord-given, firstRecord-board, boardHeld-made}
 
 -- ---- the records behind it
+
+orbit-some : (p : Path) → 1 ≤ length (orbit p)
+orbit-some p = go (orbit p) (orbit-self p)
+  where
+    go : (l : List Path) → Mem p l → 1 ≤ length l
+    go [] m = absurd (not-nil m)
+    go (q ∷ l) m = omega arith
+
+pub tilesHeld-some : (t : TileRecord) → 1 ≤ length (tilesHeld t)
+unfolding tilesHeld
+tilesHeld-some (ti p) = omega arith
+tilesHeld-some (or p) = orbit-some p
 
 pub addTiles-is : (plot : Plot) (paths : List Path) (next : Plot) → addTiles plot paths ≡ given next
     → (length (plot .tiles ++ paths) ≤ 64) × (plotOf (plot .board) (plot .tiles ++ paths) ≡ next)
@@ -109,51 +67,131 @@ onward-given next (given (ended plot)) last e = inr (ap (λ (p : Plot). given (e
 abbrev pub Fine : TileRecord → Type 0
 Fine t = (length (directions t) ≤ 32) × So (codesOk (directions t))
 
--- bytes that are tile records and EN, and what the plot before them is with their tiles
+-- bytes that are holes, tile records and EN, and what the plot before them is with their holes and tiles; behind a tile there is no hole
 record Run (plot : Plot) (bytes : List ℕ) (last : Plot) : Type 0 where
+  holes : List Hole
   run : List TileRecord
-  is : bytes ≡ flatMap tileBytes run ++ letters EN
+  is : bytes ≡ flatMap holeBytes holes ++ (flatMap tileBytes run ++ letters EN)
+  before : 0 < length (plot .tiles) → holes ≡ []
+  dug : Dug (plot .board) holes (last .board)
   paths : (t : TileRecord) → Mem t run → Fine t
-  same : last .board ≡ plot .board
   all : last .tiles ≡ plot .tiles ++ flatMap tilesHeld run
   few : length (plot .tiles) ≤ 64 → length (last .tiles) ≤ 64
 
 fine-cons : (t : TileRecord) (ts : List TileRecord) → Fine t → ((u : TileRecord) → Mem u ts → Fine u) → (u : TileRecord) → Mem u (t ∷ ts) → Fine u
 fine-cons t ts h k u m = ⊎-elim (λ e. subst Fine (sym e) h) (k u) (cases-cons m)
 
-run-end : (plot : Plot) → Run plot (letters EN) plot
+run-end : (plot : Plot) → plot .board .fixed < 2 ^ 256 → Run plot (letters EN) plot
 unfolding flatMap
-run-end plot =
-    record { run = []; is = refl; paths = λ t m. absurd (not-nil m); same = refl; all = sym (append-nil (plot .tiles)); few = λ h. h }
+run-end plot h =
+    record {
+      holes = [];
+      run = [];
+      is = refl;
+      before = λ k. refl;
+      dug = dug-none (plot .board) h;
+      paths = λ t m. absurd (not-nil m);
+      all = sym (append-nil (plot .tiles));
+      few = λ k. k;
+    }
 
-run-more : (plot : Plot) (t : TileRecord) (rest : List ℕ) (last : Plot) → Fine t → length (plot .tiles ++ tilesHeld t) ≤ 64
+run-tile : (plot : Plot) (t : TileRecord) (rest : List ℕ) (last : Plot) → Fine t → length (plot .tiles ++ tilesHeld t) ≤ 64
     → Run (plotOf (plot .board) (plot .tiles ++ tilesHeld t)) rest last → Run plot (tileBytes t ++ rest) last
 unfolding flatMap
-run-more plot t rest last h few r =
+run-tile plot t rest last h few r =
+    let none : r .holes ≡ [] = r .before (omega (arith, length-append (plot .tiles) (tilesHeld t), tilesHeld-some t)) in
+    let is : rest ≡ flatMap tileBytes (r .run) ++ letters EN =
+    r .is ∙ ap (λ (l : List Hole). flatMap holeBytes l ++ (flatMap tileBytes (r .run) ++ letters EN)) none in
     record {
+      holes = [];
       run = t ∷ r .run;
-      is = ap (λ (l : List ℕ). tileBytes t ++ l) (r .is) ∙ sym (append-assoc (tileBytes t) (flatMap tileBytes (r .run)) (letters EN));
+      is = ap (λ (l : List ℕ). tileBytes t ++ l) is ∙ sym (append-assoc (tileBytes t) (flatMap tileBytes (r .run)) (letters EN));
+      before = λ k. refl;
+      dug = subst (λ (l : List Hole). Dug (plot .board) l (last .board)) none (r .dug);
       paths = fine-cons t (r .run) h (r .paths);
-      same = r .same;
       all = r .all ∙ append-assoc (plot .tiles) (tilesHeld t) (flatMap tilesHeld (r .run));
       few = λ k. r .few few;
     }
 
-records-run : (n : ℕ) (plot : Plot) (bytes : List ℕ) (last : Plot) → records n plot bytes ≡ given last → Run plot bytes last
+run-hole : (plot : Plot) (hole : Hole) (rest : List ℕ) (last : Plot) → plot .tiles ≡ [] → So (valid (plot .board)) → So (freeAt (plot .board) (place hole))
+    → Run (plotOf (fixAt (plot .board) (place hole)) (plot .tiles)) rest last → Run plot (holeBytes hole ++ rest) last
+unfolding flatMap
+run-hole plot hole rest last none ok free r =
+    record {
+      holes = hole ∷ r .holes;
+      run = r .run;
+      is = ap (λ (l : List ℕ). holeBytes hole ++ l) (r .is) ∙ sym (append-assoc (holeBytes hole) (flatMap holeBytes (r .holes)) (flatMap tileBytes (r .run) ++ letters EN));
+      before = λ k. absurd (omega (arith, ap length none));
+      dug = dug-more (plot .board) hole (r .holes) (last .board) ok free (r .dug);
+      paths = r .paths;
+      all = r .all;
+      few = r .few;
+    }
+
+-- the plot that a later record leaves
+pub tile-plot : (plot : Plot) (bytes : List ℕ) (next : Plot) (rest : List ℕ) (l : TileRead plot bytes next rest)
+    → (length (plot .tiles ++ tilesHeld (l .tile)) ≤ 64) × (plotOf (plot .board) (plot .tiles ++ tilesHeld (l .tile)) ≡ next)
+tile-plot plot bytes next rest l = addTiles-is plot (tilesHeld (l .tile)) next (l .adds)
+
+pub hole-plot : (plot : Plot) (bytes : List ℕ) (next : Plot) (rest : List ℕ) (l : HoleRead plot bytes next rest)
+    → So (valid (plot .board)) × So (freeAt (plot .board) (place (l .hole))) × (plotOf (fixAt (plot .board) (place (l .hole))) (plot .tiles) ≡ next)
+hole-plot plot bytes next rest l =
+    let w = withHole-is (plot .board) (l .hole .row) (l .hole .column) (next .board) (l .makes) in
+    (w .0, w .1, ap₂ plotOf (sym (w .2)) (sym (l .same)))
+
+left-lt : (plot : Plot) (bytes : List ℕ) (next : Plot) (rest : List ℕ) → Left plot bytes (more next rest) → plot .board .fixed < 2 ^ 256 → next .board .fixed < 2 ^ 256
+left-lt plot bytes next rest l h = ⊎-elim tile hole l
+  where
+    tile : TileRead plot bytes next rest → next .board .fixed < 2 ^ 256
+    tile t = subst (λ (p : Plot). p .board .fixed < 2 ^ 256) (tile-plot plot bytes next rest t .1) h
+
+    hole : HoleRead plot bytes next rest → next .board .fixed < 2 ^ 256
+    hole t =
+        let w = hole-plot plot bytes next rest t in
+        subst (λ (p : Plot). p .board .fixed < 2 ^ 256) (w .2) (fixAt-lt (plot .board) (place (t .hole)) (w .0) (w .1) h)
+
+records-run : (n : ℕ) (plot : Plot) (bytes : List ℕ) (last : Plot) → plot .board .fixed < 2 ^ 256 → records n plot bytes ≡ given last → Run plot bytes last
 unfolding records
-records-run zero plot bytes last e = absurd (refused-given 1 last e)
-records-run (suc n) plot bytes last e =
-    ⊎-elim (λ r. go (r .0) (r .1) (laterRecord-left plot bytes (more (r .0) (r .1)) (r .2)) (records-run n (r .0) (r .1) last (r .3))) (λ q. end (laterRecord-left plot bytes (ended last) q))
+records-run zero plot bytes last h e = absurd (refused-given 1 last e)
+records-run (suc n) plot bytes last h e =
+    ⊎-elim (λ r. let l = laterRecord-left plot bytes (more (r .0) (r .1)) (r .2) in go (r .0) (r .1) l (records-run n (r .0) (r .1) last (left-lt plot bytes (r .0) (r .1) l h) (r .3)))
+    (λ q. end (laterRecord-left plot bytes (ended last) q))
     (onward-given (records n) (laterRecord plot bytes) last e)
   where
     go : (next : Plot) (rest : List ℕ) → Left plot bytes (more next rest) → Run next rest last → Run plot bytes last
-    go next rest l r =
-        let a = addTiles-is plot (tilesHeld (l .tile)) next (l .adds) in
-        subst (λ (b : List ℕ). Run plot b last) (sym (l .front))
-        (run-more plot (l .tile) rest last (l .short, l .codes) (a .0) (subst (λ (p : Plot). Run p rest last) (sym (a .1)) r))
+    go next rest l r = ⊎-elim tile hole l
+      where
+        tile : TileRead plot bytes next rest → Run plot bytes last
+        tile t =
+            let a = tile-plot plot bytes next rest t in
+            subst (λ (b : List ℕ). Run plot b last) (sym (t .front))
+            (run-tile plot (t .tile) rest last (t .short, t .codes) (a .0) (subst (λ (p : Plot). Run p rest last) (sym (a .1)) r))
+
+        hole : HoleRead plot bytes next rest → Run plot bytes last
+        hole t =
+            let a = hole-plot plot bytes next rest t in
+            subst (λ (b : List ℕ). Run plot b last) (sym (t .front))
+            (run-hole plot (t .hole) rest last (t .none) (a .0) (a .1) (subst (λ (p : Plot). Run p rest last) (sym (a .2)) r))
 
     end : Left plot bytes (ended last) → Run plot bytes last
-    end l = subst (λ (b : List ℕ). Run plot b last) (sym (l .0)) (subst (Run plot (letters EN)) (sym (l .1)) (run-end plot))
+    end l = subst (λ (b : List ℕ). Run plot b last) (sym (l .0)) (subst (Run plot (letters EN)) (sym (l .1)) (run-end plot h))
+
+-- ---- files that begin with a board record, holes and tile records
+
+-- holes in front are read, and the records behind them are next
+records-holes : (n : ℕ) (hs : List Hole) (b c : Board) (rest : List ℕ) → length (flatMap holeBytes hs ++ rest) ≤ n → So (valid b) → b .fixed < 2 ^ 256 → Dug b hs c
+    → records n (plotOf b []) (flatMap holeBytes hs ++ rest) ≡ records n (plotOf c []) rest
+unfolding flatMap onward
+records-holes n [] b c rest h ok lt d = ap (λ (x : Board). records n (plotOf x []) rest) (sym (d .fixes ∙ holed-none b lt))
+records-holes n (hole ∷ hs) b c rest h ok lt d =
+    let p = place hole in
+    let back : List ℕ = flatMap holeBytes hs ++ rest in
+    let join = append-assoc (holeBytes hole) (flatMap holeBytes hs) rest in
+    let first = dug-first b hole hs c ok d in
+    records-step n (plotOf b []) (holeBytes hole ++ flatMap holeBytes hs ++ rest) h
+    ∙ ap (λ (l : List ℕ). onward (records n) (laterRecord (plotOf b []) l)) join
+    ∙ ap (onward (records n)) (laterRecord-hole hole (plotOf b []) (fixAt b p) back refl (withHole-given b (hole .row) (hole .column) ok (first .0)))
+    ∙ records-holes n hs (fixAt b p) c rest (omega (arith, ap length join, length-append (holeBytes hole) back)) (fixAt-valid b p ok (first .0)) (fixAt-lt b p ok (first .0) lt) (first .1)
 
 -- tile records in front are read, and the records behind them are next
 pub records-tiles : (n : ℕ) (ts : List TileRecord) (plot : Plot) (rest : List ℕ) → length (flatMap tileBytes ts ++ rest) ≤ n → ((t : TileRecord) → Mem t ts → Fine t)
@@ -179,140 +217,135 @@ records-end : (n : ℕ) (plot : Plot) → 2 ≤ n → records n plot (letters EN
 unfolding onward
 records-end n plot h = records-step n plot (letters EN) (omega (arith, length-letters EN)) ∙ ap (onward (records n)) (laterRecord-end plot)
 
--- a file that begins with a board record and tile records
-pub plotIn-records : (first : BoardRecord) (ts : List TileRecord) (rest : List ℕ) (board : Board) → boardHeld first ≡ given board
-    → ((t : TileRecord) → Mem t ts → Fine t) → length (flatMap tilesHeld ts) ≤ 64
-    → plotIn (boardBytes first ++ (flatMap tileBytes ts ++ rest)) ≡ records (length (boardBytes first ++ (flatMap tileBytes ts ++ rest))) (plotOf board (flatMap tilesHeld ts)) rest
-unfolding plotIn onward
-plotIn-records first ts rest board e fine few =
-    let back : List ℕ = flatMap tileBytes ts ++ rest in
-    ap (onward (records (length (boardBytes first ++ back)))) (firstRecord-board first board back e)
-    ∙ records-tiles (length (boardBytes first ++ back)) ts (plotOf board []) rest (omega (arith, length-append (boardBytes first) back)) fine few
+-- records that hold a plot: their holes
+none-left : (left holes before : ℕ) → left + holes ≡ before → (left ≡ 0) ↔ (holes ≡ before)
+none-left left holes before e = (λ q. omega arith, λ q. omega arith)
+
+module _ (first : BoardRecord) (hs : List Hole) (ts : List TileRecord) (plot : Plot) (h : Holds first hs ts plot) where
+  pub holds-dug : Dug (h .outline) hs (plot .board)
+  holds-dug = record { free = h .free; once = h .once; fixes = h .fixes }
+
+  pub holds-counted : Counted (h .outline) hs (plot .board)
+  holds-counted = let made = boardHeld-made first (h .outline) (h .size) in dug-counted (h .outline) hs (plot .board) (made .0) (made .2) holds-dug
+
+  pub holds-few : length hs ≤ 256
+  holds-few = let made = boardHeld-made first (h .outline) (h .size) in dug-few (h .outline) hs (plot .board) (made .0) (made .2) holds-dug
+
+  -- no cell is free where there are as many holes as there were free cells
+  pub holds-full : isFull (plot .board) ≡ true ↔ (length hs ≡ freeCount (h .outline))
+  unfolding isFull
+  holds-full =
+      let both = none-left (freeCount (plot .board)) (length hs) (freeCount (h .outline)) (holds-counted .left) in
+      (λ e. both .0 (eqb-true (freeCount (plot .board)) 0 e), λ e. eq-eqb (freeCount (plot .board)) 0 (both .1 e))
+
+  -- a free cell of that plot can be one hole more
+  pub holds-hole : (hole : Hole) → So (freeAt (plot .board) (place hole)) → Holds first (hs ++ hole ∷ []) [] (plotOf (fixAt (plot .board) (place hole)) [])
+  unfolding flatMap
+  holds-hole hole f =
+      let made = boardHeld-made first (h .outline) (h .size) in
+      let dug = dug-snoc (h .outline) hs (plot .board) hole (made .0) (made .2) holds-dug f in
+      record {
+        outline = h .outline;
+        size = h .size;
+        free = dug .free;
+        once = dug .once;
+        fixes = dug .fixes;
+        paths = λ t m. absurd (not-nil m);
+        few = omega arith;
+        all = refl;
+      }
+
+  -- a file that begins with such records goes on with the plot that they hold
+  plotIn-records : (rest : List ℕ)
+      → plotIn (boardBytes first ++ (flatMap holeBytes hs ++ (flatMap tileBytes ts ++ rest)))
+      ≡ records (length (boardBytes first ++ (flatMap holeBytes hs ++ (flatMap tileBytes ts ++ rest)))) plot rest
+  unfolding plotIn onward
+  plotIn-records rest =
+      let back : List ℕ = flatMap tileBytes ts ++ rest in
+      let after : List ℕ = flatMap holeBytes hs ++ back in
+      let n : ℕ = length (boardBytes first ++ after) in
+      let made = boardHeld-made first (h .outline) (h .size) in
+      let few : length (flatMap tilesHeld ts) ≤ 64 = omega (arith, ap length (h .all), h .few) in
+      let long : length after ≤ n = omega (arith, length-append (boardBytes first) after) in
+      let short : length back ≤ n = omega (arith, length-append (flatMap holeBytes hs) back) in
+      ap (onward (records n)) (firstRecord-board first (h .outline) after (h .size))
+      ∙ records-holes n hs (h .outline) (plot .board) back long (made .0) (made .2) holds-dug
+      ∙ records-tiles n ts (plotOf (plot .board) []) rest short (h .paths) few
+      ∙ ap (λ (l : List Path). records n (plotOf (plot .board) l) rest) (sym (h .all))
+
+  -- so it is refused where the next record is
+  pub plotIn-refused : (rest : List ℕ) (n : ℕ) → laterRecord plot rest ≡ refused n
+      → plotIn (boardBytes first ++ (flatMap holeBytes hs ++ (flatMap tileBytes ts ++ rest))) ≡ refused n
+  unfolding onward
+  plotIn-refused rest n e =
+      let back : List ℕ = flatMap tileBytes ts ++ rest in
+      let after : List ℕ = flatMap holeBytes hs ++ back in
+      let room : length rest ≤ length (boardBytes first ++ after) =
+      omega (arith, length-append (boardBytes first) after, length-append (flatMap holeBytes hs) back, length-append (flatMap tileBytes ts) rest) in
+      plotIn-records rest ∙ records-step (length (boardBytes first ++ after)) plot rest room ∙ ap (onward (records (length (boardBytes first ++ after)))) e
 
 -- ---- accepted files
 
-pub fileOf-is : (first : BoardRecord) (ts : List TileRecord) → fileOf first ts ≡ boardBytes first ++ (flatMap tileBytes ts ++ letters EN)
-unfolding fileOf letters
-fileOf-is first ts = append-assoc (boardBytes first) (flatMap tileBytes ts) (letters EN)
+-- four parts, joined from the front or from the back
+pub joined : (p q r s : List ℕ) → p ++ q ++ r ++ s ≡ p ++ (q ++ (r ++ s))
+joined p q r s = append-assoc (p ++ q) r s ∙ append-assoc p q (r ++ s)
 
-accepted-records : (file : List ℕ) (plot : Plot) → plotIn file ≡ given plot → (board : BoardRecord) × (tiles : List TileRecord) × (file ≡ fileOf board tiles) × Holds board tiles plot
+pub fileOf-is : (first : BoardRecord) (hs : List Hole) (ts : List TileRecord)
+    → fileOf first hs ts ≡ boardBytes first ++ (flatMap holeBytes hs ++ (flatMap tileBytes ts ++ letters EN))
+unfolding fileOf letters
+fileOf-is first hs ts = joined (boardBytes first) (flatMap holeBytes hs) (flatMap tileBytes ts) (letters EN)
+
+-- a file is that of records that hold a plot
+abbrev Accepted : List ℕ → Plot → Type 0
+Accepted file plot = (board : BoardRecord) × (holes : List Hole) × (tiles : List TileRecord) × (file ≡ fileOf board holes tiles) × Holds board holes tiles plot
+
+accepted-records : (file : List ℕ) (plot : Plot) → plotIn file ≡ given plot → Accepted file plot
 unfolding plotIn
 accepted-records file plot e =
-    ⊎-elim (λ r. go (r .0) (r .1) (firstRecord-given file (more (r .0) (r .1)) (r .2)) (records-run (length file) (r .0) (r .1) plot (r .3))) (λ q. absurd (no (firstRecord-given file (ended plot) q .3)))
+    ⊎-elim (λ r. go (r .0) (r .1) (firstRecord-given file (more (r .0) (r .1)) (r .2)) (r .3)) (λ q. absurd (no (firstRecord-given file (ended plot) q .3)))
     (onward-given (records (length file)) (firstRecord file) plot e)
   where
     no : {next : Plot} {rest : List ℕ} → more next rest ≡ ended plot → ⊥
     no q = let z : _≡_ {A = ℕ} 0 1 = cc in omega arith
 
-    go : (next : Plot) (rest : List ℕ) → First file (more next rest) → Run next rest plot → (board : BoardRecord) × (tiles : List TileRecord) × (file ≡ fileOf board tiles) × Holds board tiles plot
-    go next rest f r =
+    found : (first : BoardRecord) (outline : Board) (rest : List ℕ) → file ≡ boardBytes first ++ rest → boardHeld first ≡ given outline → Run (plotOf outline []) rest plot → Accepted file plot
+    found first outline rest is held r = (
+      first,
+      r .holes,
+      r .run,
+      is ∙ ap (λ (l : List ℕ). boardBytes first ++ l) (r .is) ∙ sym (fileOf-is first (r .holes) (r .run)),
+      record {
+        outline = outline;
+        size = held;
+        free = r .dug .free;
+        once = r .dug .once;
+        fixes = r .dug .fixes;
+        paths = r .paths;
+        few = r .few (omega arith);
+        all = r .all;
+      },
+    )
+
+    go : (next : Plot) (rest : List ℕ) → First file (more next rest) → records (length file) next rest ≡ given plot → Accepted file plot
+    go next rest f q =
         let start : plotOf (f .1) [] ≡ next = cc (f .3) in
         let behind : f .2 ≡ rest = cc (f .3) in
-        let empty : length (next .tiles) ≤ 64 = subst (λ (p : Plot). length (p .tiles) ≤ 64) start (omega arith) in (
-          f .0,
-          r .run,
-          f .4 ∙ ap (λ (l : List ℕ). boardBytes (f .0) ++ l) (behind ∙ r .is) ∙ sym (fileOf-is (f .0) (r .run)),
-          record {
-            size = f .5 ∙ ap (λ (p : Plot). given (p .board)) start ∙ ap given (sym (r .same));
-            paths = r .paths;
-            few = r .few empty;
-            all = r .all ∙ ap (λ (p : Plot). p .tiles ++ flatMap tilesHeld (r .run)) (sym start);
-          },
-        )
+        found (f .0) (f .1) rest (f .4 ∙ ap (λ (l : List ℕ). boardBytes (f .0) ++ l) behind) (f .5)
+        (records-run (length file) (plotOf (f .1) []) rest plot (boardHeld-made (f .0) (f .1) (f .5) .2) (ap (λ (p : Plot). records (length file) p rest) start ∙ q))
 
-fileOf-accepted : (board : BoardRecord) (tiles : List TileRecord) (plot : Plot) → Holds board tiles plot → plotIn (fileOf board tiles) ≡ given plot
-fileOf-accepted board tiles plot h =
-    let file : List ℕ = boardBytes board ++ (flatMap tileBytes tiles ++ letters EN) in
+fileOf-accepted : (board : BoardRecord) (holes : List Hole) (tiles : List TileRecord) (plot : Plot) → Holds board holes tiles plot → plotIn (fileOf board holes tiles) ≡ given plot
+fileOf-accepted board holes tiles plot h =
+    let back : List ℕ = flatMap tileBytes tiles ++ letters EN in
+    let file : List ℕ = boardBytes board ++ (flatMap holeBytes holes ++ back) in
     let room : 2 ≤ length file =
-    omega (arith, length-append (boardBytes board) (flatMap tileBytes tiles ++ letters EN), length-append (flatMap tileBytes tiles) (letters EN), length-letters EN) in
-    ap plotIn (fileOf-is board tiles)
-    ∙ plotIn-records board tiles (letters EN) (plot .board) (h .size) (h .paths) (omega (arith, ap length (h .all), h .few))
-    ∙ records-end (length file) (plotOf (plot .board) (flatMap tilesHeld tiles)) room
-    ∙ ap (λ (l : List Path). given (plotOf (plot .board) l)) (sym (h .all))
+    omega (arith, length-append (boardBytes board) (flatMap holeBytes holes ++ back), length-append (flatMap holeBytes holes) back, length-append (flatMap tileBytes tiles) (letters EN), length-letters EN) in
+    ap plotIn (fileOf-is board holes tiles) ∙ plotIn-records board holes tiles plot h (letters EN) ∙ records-end (length file) plot room
 
--- the accepted files are the files of records whose board and tiles are accepted
-pub accepted-iff : (file : List ℕ) (plot : Plot) → (plotIn file ≡ given plot) ↔ ((board : BoardRecord) × (tiles : List TileRecord) × (file ≡ fileOf board tiles) × Holds board tiles plot)
-accepted-iff file plot = (accepted-records file plot, λ r. ap plotIn (r .2) ∙ fileOf-accepted (r .0) (r .1) plot (r .3))
-
--- ---- a file is so in one way
-
-same-cut : (p q s t : List ℕ) → length p ≡ length q → p ++ s ≡ q ++ t → (p ≡ q) × (s ≡ t)
-same-cut p q s t l e = (
-  sym (take-append-seam p s) ∙ ap (take (length p)) e ∙ take-at q t (length p) (sym l),
-  sym (drop-append-seam p s) ∙ ap (drop (length p)) e ∙ drop-at q t (length p) (sym l),
-)
-
-apart : {n m : ℕ} {s t : List ℕ} → (n ≡ m → ⊥) → n ∷ s ≡ m ∷ t → ⊥
-apart ne e = ne (cc)
-
-boardBytes-once : (b c : BoardRecord) (s t : List ℕ) → boardBytes b ++ s ≡ boardBytes c ++ t → (b ≡ c) × (s ≡ t)
-unfolding boardBytes
-boardBytes-once (rb n m) (rb k l) s t e = (cc, cc)
-boardBytes-once (lb n m) (lb k l) s t e = (cc, cc)
-boardBytes-once (tb n m) (tb k l) s t e = (cc, cc)
-boardBytes-once (rb n m) (lb k l) s t e = absurd (apart (λ z. omega arith) e)
-boardBytes-once (rb n m) (tb k l) s t e = absurd (apart (λ z. omega arith) e)
-boardBytes-once (lb n m) (rb k l) s t e = absurd (apart (λ z. omega arith) e)
-boardBytes-once (lb n m) (tb k l) s t e = absurd (apart (λ z. omega arith) e)
-boardBytes-once (tb n m) (rb k l) s t e = absurd (apart (λ z. omega arith) e)
-boardBytes-once (tb n m) (lb k l) s t e = absurd (apart (λ z. omega arith) e)
-
-body-once : (p q : Path) (s t : List ℕ) → length p ∷ p ++ s ≡ length q ∷ q ++ t → (p ≡ q) × (s ≡ t)
-body-once p q s t e = same-cut p q s t (cc) (cc)
-
-tileBytes-once : (t u : TileRecord) (v w : List ℕ) → tileBytes t ++ v ≡ tileBytes u ++ w → (t ≡ u) × (v ≡ w)
-unfolding tileBytes
-tileBytes-once (ti p) (ti q) v w e = let r = body-once p q v w (ap (drop 2) e) in (ap ti (r .0), r .1)
-tileBytes-once (or p) (or q) v w e = let r = body-once p q v w (ap (drop 2) e) in (ap or (r .0), r .1)
-tileBytes-once (ti p) (or q) v w e = absurd (apart (λ z. omega arith) e)
-tileBytes-once (or p) (ti q) v w e = absurd (apart (λ z. omega arith) e)
-
-not-end : (t : TileRecord) (v : List ℕ) → tileBytes t ++ v ≡ letters EN → ⊥
-unfolding tileBytes letters
-not-end (ti p) v e = apart (λ z. omega arith) e
-not-end (or p) v e = apart (λ z. omega arith) e
-
-tiles-once : (ts us : List TileRecord) → flatMap tileBytes ts ++ letters EN ≡ flatMap tileBytes us ++ letters EN → ts ≡ us
-unfolding flatMap
-tiles-once [] [] e = refl
-tiles-once [] (u ∷ us) e =
-    absurd (not-end u (flatMap tileBytes us ++ letters EN) (sym (append-assoc (tileBytes u) (flatMap tileBytes us) (letters EN)) ∙ sym e))
-tiles-once (t ∷ ts) [] e =
-    absurd (not-end t (flatMap tileBytes ts ++ letters EN) (sym (append-assoc (tileBytes t) (flatMap tileBytes ts) (letters EN)) ∙ e))
-tiles-once (t ∷ ts) (u ∷ us) e =
-    let r = tileBytes-once t u (flatMap tileBytes ts ++ letters EN) (flatMap tileBytes us ++ letters EN)
-    (sym (append-assoc (tileBytes t) (flatMap tileBytes ts) (letters EN)) ∙ e ∙ append-assoc (tileBytes u) (flatMap tileBytes us) (letters EN)) in
-    ap₂ _∷_ (r .0) (tiles-once ts us (r .1))
-
--- equal files have equal records
-pub file-once : (b c : BoardRecord) (ts us : List TileRecord) → fileOf b ts ≡ fileOf c us → (b ≡ c) × (ts ≡ us)
-file-once b c ts us e =
-    let r = boardBytes-once b c (flatMap tileBytes ts ++ letters EN) (flatMap tileBytes us ++ letters EN) (sym (fileOf-is b ts) ∙ e ∙ fileOf-is c us) in
-    (r .0, tiles-once ts us (r .1))
+-- the accepted files are the files of records whose board, holes and tiles are accepted
+pub accepted-iff : (file : List ℕ) (plot : Plot) → (plotIn file ≡ given plot) ↔ Accepted file plot
+accepted-iff file plot = (accepted-records file plot, λ r. ap plotIn (r .3) ∙ fileOf-accepted (r .0) (r .1) (r .2) plot (r .4))
 
 -- ---- what the board and the tiles of an accepted file satisfy
-
-abbrev Made : Board → Type 0
-Made b = (valid b ≡ true) × (b .laid ≡ 0) × (b .fixed < 2 ^ 256)
-
-shaped-made : (w h rows low high : ℕ) (b : Board) → shaped w h rows low high ≡ given b → Made b
-unfolding shaped
-shaped-made w h rows low high b e = let r = go (sizeOk w h) e in (shaped-valid w h rows low high b e, r .0, r .1)
-  where
-    made : Board
-    made = record { width = w; height = h; fixed = setOf (shapeMark w h rows low high); laid = 0 }
-
-    go : (t : Bool) → cond t (given made) (refused 4) ≡ given b → (b .laid ≡ 0) × (b .fixed < 2 ^ 256)
-    go true q =
-        let same = given-inj made b q in
-        (ap (λ (x : Board). x .laid) (sym same), subst (λ (x : Board). x .fixed < 2 ^ 256) same (setOf-lt (shapeMark w h rows low high)))
-    go false q = absurd (refused-given 4 b q)
-
-boardHeld-made : (first : BoardRecord) (b : Board) → boardHeld first ≡ given b → Made b
-unfolding boardHeld newBoard lBoard tBoard
-boardHeld-made (rb w h) b e = shaped-made w h 0 0 0 b e
-boardHeld-made (lb n scale) b e = shaped-made (n * scale) (2 * scale) scale 0 scale b e
-boardHeld-made (tb n scale) b e = shaped-made ((2 * n + 1) * scale) (2 * scale) scale (n * scale) ((n + 1) * scale) b e
 
 tilesHeld-fine : (t : TileRecord) → Fine t → Storable (tilesHeld t)
 unfolding tilesHeld
@@ -323,14 +356,16 @@ pub accepted-plot : (file : List ℕ) (plot : Plot) → plotIn file ≡ given pl
     → (valid (plot .board) ≡ true) × (plot .board .laid ≡ 0) × (length (plot .tiles) ≤ 64) × Storable (plot .tiles)
 accepted-plot file plot e =
     let r = accepted-iff file plot .0 e in
-    let made = boardHeld-made (r .0) (plot .board) (r .3 .size) in (
-      made .0,
-      made .1,
-      r .3 .few,
+    let h = r .4 in
+    let made = boardHeld-made (r .0) (h .outline) (h .size) in (
+      holds-counted (r .0) (r .1) (r .2) plot h .accepted,
+      dug-laid (h .outline) (plot .board) (r .1) (holds-dug (r .0) (r .1) (r .2) plot h) ∙ made .1,
+      h .few,
       λ q m.
-          let k = mem-flatMap tilesHeld (r .1) q .0 (subst (Mem q) (r .3 .all) m) in
-          tilesHeld-fine (k .0) (r .3 .paths (k .0) (k .1)) q (k .2),
+          let k = mem-flatMap tilesHeld (r .2) q .0 (subst (Mem q) (h .all) m) in
+          tilesHeld-fine (k .0) (h .paths (k .0) (k .1)) q (k .2),
     )
 
 pub accepted-fixed : (file : List ℕ) (plot : Plot) → plotIn file ≡ given plot → plot .board .fixed < 2 ^ 256
-accepted-fixed file plot e = let r = accepted-iff file plot .0 e in boardHeld-made (r .0) (plot .board) (r .3 .size) .2
+accepted-fixed file plot e =
+    let r = accepted-iff file plot .0 e in dug-lt (r .4 .outline) (plot .board) (r .1) (holds-dug (r .0) (r .1) (r .2) plot (r .4))

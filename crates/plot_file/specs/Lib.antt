@@ -6,7 +6,10 @@ pub mod Inner
 pub mod RecordLaws
 pub mod ReadLaws
 pub mod HoleLaws
+pub mod FirstRecordLaws
 pub mod FileLaws
+pub mod OnceLaws
+pub mod HoleRefusalLaws
 pub mod LengthLaws
 pub mod SettledLaws
 pub mod Theorems

@@ -64,7 +64,7 @@ readMark-few [] h = refl
 readMark-few (a ∷ []) h = refl
 readMark-few (a ∷ b ∷ rest) h = absurd (omega arith)
 
-readPair-few : (make : ℕ → ℕ → Answer Board) (bytes : List ℕ) → length bytes < 2 → readPair make bytes ≡ refused 1
+pub readPair-few : (make : ℕ → ℕ → Answer Board) (bytes : List ℕ) → length bytes < 2 → readPair make bytes ≡ refused 1
 unfolding readPair
 readPair-few make [] h = refl
 readPair-few make (a ∷ []) h = refl
@@ -124,7 +124,7 @@ unfolding holeBody
 holeBody-misplaced plot bytes h = rw (ne-eqb (length (plot .tiles)) 0 (λ e. omega arith))
 
 -- before every tile it is a board's body, of the board that is there
-holeBody-first : (plot : Plot) (bytes : List ℕ) → plot .tiles ≡ [] → holeBody plot bytes ≡ mapAnswer startAt (readPair (withHole (plot .board)) bytes)
+pub holeBody-first : (plot : Plot) (bytes : List ℕ) → plot .tiles ≡ [] → holeBody plot bytes ≡ mapAnswer startAt (readPair (withHole (plot .board)) bytes)
 unfolding holeBody
 holeBody-first plot bytes e =
     rw (eq-eqb (length (plot .tiles)) 0 (ap length e))

@@ -159,12 +159,14 @@ holeBody-left plot bytes step e = go (eqb (length (plot .tiles)) 0) refl e
     make : Board × List ℕ → Step
     make r = more (record { board = r .0; tiles = plot .tiles }) (r .1)
 
-    go : (t : Bool) → eqb (length (plot .tiles)) 0 ≡ t → cond t (mapAnswer make (readPair (withHole (plot .board)) bytes)) (refused 3) ≡ given step → Left plot (letters HO ++ bytes) step
+    go : (t : Bool) → eqb (length (plot .tiles)) 0 ≡ t → cond t (mapAnswer make (readPair (withHole (plot .board)) bytes)) (refused 3) ≡ given step
+        → Left plot (letters HO ++ bytes) step
     go true q r =
         let m = map-given make (readPair (withHole (plot .board)) bytes) step r in
         let p = readPair-given (withHole (plot .board)) bytes (m .0 .0) (m .0 .1) (m .1) in
+        let none : plot .tiles ≡ [] = length-none (plot .tiles) (eqb-true (length (plot .tiles)) 0 q) in
         subst (Left plot (letters HO ++ bytes)) (m .2)
-        (inr (record { hole = record { row = p .0; column = p .1 }; front = ap (λ (l : List ℕ). letters HO ++ l) (p .2); none = length-none (plot .tiles) (eqb-true (length (plot .tiles)) 0 q); makes = p .3; same = refl }))
+        (inr record { hole = record { row = p .0; column = p .1 }; front = ap (λ (l : List ℕ). letters HO ++ l) (p .2); none = none; makes = p .3; same = refl })
     go false q r = absurd (refused-given 3 step r)
 
 laterBody-left : (mark : Mark) (plot : Plot) (bytes : List ℕ) (step : Step) → laterBody mark plot bytes ≡ given step → Left plot (letters mark ++ bytes) step

@@ -1,13 +1,14 @@
--- A file's answer is settled by its first `settledBy` bytes: 4 of the board's record, at most 64 records of tiles that are accepted, of at most 35 bytes each, and
--- the 35 bytes that decide the next one. Fewer are not enough. Rests on `RecordLaws`, `FileLaws` and `LengthLaws`. Assumes nothing.
+-- A file's answer is settled by its first `settledBy` bytes: 4 of the board's record, 4 for each hole that is accepted, at most 256 of them, 35 for each tile that is
+-- accepted, at most 64 of them, and the 35 bytes that decide the next record. Fewer are not enough. Rests on `RecordLaws`, `FileLaws` and `LengthLaws`. Assumes nothing.
 use mathlib.Core.Path.{_≡_, refl, sym, ap, _∙_, subst}
+use mathlib.Core.Logic.{⊎-elim}
 use mathlib.Core.Bool.{Bool, true, false, cond}
-use mathlib.Core.List.{List, [], _∷_, _++_, flatMap, append-assoc}
+use mathlib.Core.List.{List, [], _∷_, _++_, flatMap}
 use Prim.Native.Nat.{ℕ, zero, suc, _+_, _-_, _*_, _≤_, _<_}
 use native.Mathlib.Decide.{decLt}
 use native.Mathlib.Omega.{arith}
 use borrow.Author.Tests.{leb-true, le-leb, lt-leb}
-use lib.Dec.{leb}
+use lib.Dec.{eqb, leb}
 use lib.ListN.{length, take, drop, length-append, length-take}
 use lib.Seq.{take-take, take-nil, length-take-le, take-append-add}
 use Rattle.refusal.specs.Refusal.{Answer, refused, given, mapAnswer, bindAnswer}
@@ -15,15 +16,19 @@ use Rattle.refusal.specs.RefusalLaws.{refused-inj, map-map}
 use Rattle.tile.specs.Path.{Path, readPath}
 use Rattle.tiles.specs.Paths.{orbit}
 use Rattle.tile.specs.StoredLaws.{readPath-is}
-use Rattle.rectangle.specs.Board.{Board}
-use Rattle.board.specs.Board.{newBoard, lBoard, tBoard}
+use Rattle.rectangle.specs.Board.{Board, freeCount}
+use Rattle.rectangle.specs.FreeLaws.{free-le}
+use Rattle.board.specs.Board.{newBoard, lBoard, tBoard, fixAt, withHole}
+use Rattle.board.specs.HoleLaws.{fixAt-count}
 use Rattle.plot_file.specs.declared.marks.Mark.{Mark}
-use Rattle.plot_file.specs.declared.marks.Mark.the-variants.{RB, LB, TB, TI, OR, EN}
-use Rattle.plot_file.specs.PlotFile.{allMarks, Plot, letters, markAmong, readMark, readPair, readBody, Step, more, ended, boardBody, firstRecord, addTiles, tileBody, endBody, laterBody, laterRecord, onward, records, plotIn}
-use Rattle.plot_file.specs.Records.{rb, TileRecord, ti, boardBytes, tileBytes, boardHeld, tilesHeld, settledBy}
-use Rattle.plot_file.specs.RecordLaws.{readBody-is, readBody-path, laterRecord-left, laterRecord-mark, records-same, records-step}
-use Rattle.plot_file.specs.FileLaws.{plotOf, Fine, addTiles-is, firstRecord-given, plotIn-records}
-use Rattle.plot_file.specs.LengthLaws.{tilesHeld-some, length-boardBytes, longPath, copies, copies-bytes, copies-held, copies-all, longPath-fine}
+use Rattle.plot_file.specs.declared.marks.Mark.the-variants.{RB, LB, TB, HO, TI, OR, EN}
+use Rattle.plot_file.specs.PlotFile.{allMarks, Plot, letters, markAmong, readMark, readPair, readBody, Step, more, ended, boardBody, firstRecord, holeBody, addTiles, tileBody, endBody, laterBody, laterRecord, onward, records, plotIn}
+use Rattle.plot_file.specs.Records.{rb, ti, boardBytes, holeBytes, tileBytes, place, tilesHeld, settledBy}
+use Rattle.plot_file.specs.RecordLaws.{readMark-is, length-letters, readPair-given, readBody-is, readBody-path, TileRead, HoleRead, laterRecord-left, laterRecord-mark, length-tileBytes, length-holeBytes, records-same}
+use Rattle.plot_file.specs.HoleLaws.{holes-bytes, length-holesBelow}
+use Rattle.plot_file.specs.FirstRecordLaws.{firstRecord-given}
+use Rattle.plot_file.specs.FileLaws.{tilesHeld-some, Fine, tile-plot, hole-plot, plotIn-refused, joined}
+use Rattle.plot_file.specs.LengthLaws.{length-boardBytes, longPath, copies, copies-bytes, longPath-fine, allHoles, longPlot, longPlot-tiles, longest-held}
 
 -- ---- answers
 
@@ -51,6 +56,7 @@ unfolding boardBody mapAnswer
 boardBody-cut RB n bytes = readPair-cut newBoard n bytes
 boardBody-cut LB n bytes = readPair-cut lBoard n bytes
 boardBody-cut TB n bytes = readPair-cut tBoard n bytes
+boardBody-cut HO n bytes = refl
 boardBody-cut TI n bytes = refl
 boardBody-cut OR n bytes = refl
 boardBody-cut EN n bytes = refl
@@ -82,11 +88,17 @@ firstRecord-cut n file =
 
 -- ---- a later record of bytes that are cut: at most 35 bytes
 
--- b answers as a does, of bytes of which m or more are left behind the record
-abbrev Like : ℕ → Answer Step → Answer Step → Type 0
-Like m (refused k) b = b ≡ refused k
-Like m (given (more next rest)) b = (k : ℕ) × (m ≤ k) × (b ≡ given (more next (take k rest)))
-Like m (given (ended next)) b = b ≡ given (ended next)
+-- b answers of the first n of some bytes as a does of all of them, and of what is behind the record as many bytes are left
+abbrev Like : ℕ → List ℕ → Answer Step → Answer Step → Type 0
+Like n bytes (refused k) b = b ≡ refused k
+Like n bytes (given (more next rest)) b = (k : ℕ) × (n + length rest ≤ k + length bytes) × (b ≡ given (more next (take k rest)))
+Like n bytes (given (ended next)) b = b ≡ given (ended next)
+
+-- two bytes more in front
+like-mark : (n : ℕ) (front bytes : List ℕ) (a b : Answer Step) → length front ≡ 2 + length bytes → Like n bytes a b → Like (suc (suc n)) front a b
+like-mark n front bytes (refused k) b e l = l
+like-mark n front bytes (given (more next rest)) b e l = let h = l .1 in (l .0, omega arith, l .2)
+like-mark n front bytes (given (ended next)) b e l = l
 
 drop-take : (k n : ℕ) (l : List ℕ) → k ≤ n → drop k (take n l) ≡ take (n - k) (drop k l)
 drop-take zero n l h = let e : n ≡ n - 0 = omega arith in ap (λ (i : ℕ). take i l) e
@@ -128,10 +140,10 @@ readBody-cut n (k ∷ rest) h = go (leb k 32) refl
     go true e = inner (omega (arith, leb-true k 32 e)) (leb k (length rest)) refl
     go false e = refl
 
-tileBody-cut : (tiles : Path → List Path) (m n : ℕ) (plot : Plot) (bytes : List ℕ) → 32 + m ≤ n → Like m (tileBody tiles plot bytes) (tileBody tiles plot (take (suc n) bytes))
+tileBody-cut : (tiles : Path → List Path) (n : ℕ) (plot : Plot) (bytes : List ℕ) → 32 ≤ n → Like (suc n) bytes (tileBody tiles plot bytes) (tileBody tiles plot (take (suc n) bytes))
 unfolding tileBody mapAnswer bindAnswer
-tileBody-cut tiles m n plot bytes h =
-    subst (Like m (bindAnswer (readBody bytes) rest)) (sym (ap (λ (a : Answer (Path × List ℕ)). bindAnswer a rest) (readBody-cut n bytes (omega arith)))) (go (readBody bytes) refl)
+tileBody-cut tiles n plot bytes h =
+    subst (Like (suc n) bytes (bindAnswer (readBody bytes) rest)) (sym (ap (λ (a : Answer (Path × List ℕ)). bindAnswer a rest) (readBody-cut n bytes h))) (go (readBody bytes) refl)
   where
     rest : Path × List ℕ → Answer Step
     rest r = mapAnswer (λ p. more p (r .1)) (addTiles plot (tiles (r .0)))
@@ -139,70 +151,118 @@ tileBody-cut tiles m n plot bytes h =
     cut : Path × List ℕ → Path × List ℕ
     cut r = (r .0, take (n - length (r .0)) (r .1))
 
-    added : (path : Path) (back : List ℕ) → length path ≤ 32 → (a : Answer Plot) → Like m (mapAnswer (λ p. more p back) a) (mapAnswer (λ p. more p (take (n - length path) back)) a)
-    added path back s (refused k) = refl
-    added path back s (given next) = (n - length path, omega arith, refl)
+    added : (path : Path) (back : List ℕ) → length path ≤ 32 → length bytes ≡ suc (length path + length back) → (a : Answer Plot)
+        → Like (suc n) bytes (mapAnswer (λ p. more p back) a) (mapAnswer (λ p. more p (take (n - length path) back)) a)
+    added path back s long (refused k) = refl
+    added path back s long (given next) = (n - length path, omega arith, refl)
 
-    go : (a : Answer (Path × List ℕ)) → readBody bytes ≡ a → Like m (bindAnswer a rest) (bindAnswer (mapAnswer cut a) rest)
+    go : (a : Answer (Path × List ℕ)) → readBody bytes ≡ a → Like (suc n) bytes (bindAnswer a rest) (bindAnswer (mapAnswer cut a) rest)
     go (refused k) e = refl
-    go (given r) e = added (r .0) (r .1) (readBody-is bytes (r .0) (r .1) e .1) (addTiles plot (tiles (r .0)))
+    go (given r) e =
+        let is = readBody-is bytes (r .0) (r .1) e in
+        added (r .0) (r .1) (is .1) (omega (arith, ap length (is .0), length-append (r .0) (r .1))) (addTiles plot (tiles (r .0)))
 
-endBody-cut : (m n : ℕ) (plot : Plot) (bytes : List ℕ) → Like m (endBody plot bytes) (endBody plot (take (suc n) bytes))
+holeBody-cut : (n : ℕ) (plot : Plot) (bytes : List ℕ) → Like (suc (suc n)) bytes (holeBody plot bytes) (holeBody plot (take (suc (suc n)) bytes))
+unfolding holeBody mapAnswer
+holeBody-cut n plot bytes = go (eqb (length (plot .tiles)) 0)
+  where
+    make : Board × List ℕ → Step
+    make r = more (record { board = r .0; tiles = plot .tiles }) (r .1)
+
+    cut : Board × List ℕ → Board × List ℕ
+    cut r = (r .0, take n (r .1))
+
+    pair : List ℕ → Answer (Board × List ℕ)
+    pair l = readPair (withHole (plot .board)) l
+
+    read : (a : Answer (Board × List ℕ)) → pair bytes ≡ a → Like (suc (suc n)) bytes (mapAnswer make a) (mapAnswer make (mapAnswer cut a))
+    read (refused k) e = refl
+    read (given r) e =
+        let long = ap length (readPair-given (withHole (plot .board)) bytes (r .0) (r .1) e .2) in (n, omega arith, refl)
+
+    go : (t : Bool) → Like (suc (suc n)) bytes (cond t (mapAnswer make (pair bytes)) (refused 3)) (cond t (mapAnswer make (pair (take (suc (suc n)) bytes))) (refused 3))
+    go true =
+        subst (Like (suc (suc n)) bytes (mapAnswer make (pair bytes))) (sym (ap (mapAnswer make) (readPair-cut (withHole (plot .board)) n bytes))) (read (pair bytes) refl)
+    go false = refl
+
+endBody-cut : (n : ℕ) (plot : Plot) (bytes : List ℕ) → Like (suc n) bytes (endBody plot bytes) (endBody plot (take (suc n) bytes))
 unfolding endBody
-endBody-cut m n plot [] = refl
-endBody-cut m n plot (byte ∷ bytes) = refl
+endBody-cut n plot [] = refl
+endBody-cut n plot (byte ∷ bytes) = refl
 
-laterBody-cut : (mark : Mark) (m n : ℕ) (plot : Plot) (bytes : List ℕ) → 32 + m ≤ n → Like m (laterBody mark plot bytes) (laterBody mark plot (take (suc n) bytes))
+laterBody-cut : (mark : Mark) (n : ℕ) (plot : Plot) (bytes : List ℕ) → 31 ≤ n
+    → Like (suc (suc n)) bytes (laterBody mark plot bytes) (laterBody mark plot (take (suc (suc n)) bytes))
 unfolding laterBody
-laterBody-cut RB m n plot bytes h = refl
-laterBody-cut LB m n plot bytes h = refl
-laterBody-cut TB m n plot bytes h = refl
-laterBody-cut TI m n plot bytes h = tileBody-cut (λ path. path ∷ []) m n plot bytes h
-laterBody-cut OR m n plot bytes h = tileBody-cut orbit m n plot bytes h
-laterBody-cut EN m n plot bytes h = endBody-cut m n plot bytes
+laterBody-cut RB n plot bytes h = refl
+laterBody-cut LB n plot bytes h = refl
+laterBody-cut TB n plot bytes h = refl
+laterBody-cut HO n plot bytes h = holeBody-cut n plot bytes
+laterBody-cut TI n plot bytes h = tileBody-cut (λ path. path ∷ []) (suc n) plot bytes (omega arith)
+laterBody-cut OR n plot bytes h = tileBody-cut orbit (suc n) plot bytes (omega arith)
+laterBody-cut EN n plot bytes h = endBody-cut (suc n) plot bytes
 
-laterRecord-cut : (m n : ℕ) (plot : Plot) (bytes : List ℕ) → 32 + m ≤ n → Like m (laterRecord plot bytes) (laterRecord plot (take (suc (suc (suc n))) bytes))
+laterRecord-cut : (n : ℕ) (plot : Plot) (bytes : List ℕ) → 31 ≤ n
+    → Like (suc (suc (suc (suc n)))) bytes (laterRecord plot bytes) (laterRecord plot (take (suc (suc (suc (suc n)))) bytes))
 unfolding laterRecord mapAnswer bindAnswer
-laterRecord-cut m n plot bytes h =
-    subst (Like m (bindAnswer (readMark bytes) next)) (sym (ap (λ (a : Answer (Mark × List ℕ)). bindAnswer a next) (readMark-cut (suc n) bytes))) (go (readMark bytes))
+laterRecord-cut n plot bytes h =
+    subst (Like (suc (suc (suc (suc n)))) bytes (bindAnswer (readMark bytes) next)) (sym (ap (λ (a : Answer (Mark × List ℕ)). bindAnswer a next) (readMark-cut (suc (suc n)) bytes))) (go (readMark bytes) refl)
   where
     next : Mark × List ℕ → Answer Step
     next r = laterBody (r .0) plot (r .1)
 
-    go : (a : Answer (Mark × List ℕ)) → Like m (bindAnswer a next) (bindAnswer (mapAnswer (λ r. (r .0, take (suc n) (r .1))) a) next)
-    go (refused k) = refl
-    go (given r) = laterBody-cut (r .0) m n plot (r .1) h
+    go : (a : Answer (Mark × List ℕ)) → readMark bytes ≡ a
+        → Like (suc (suc (suc (suc n)))) bytes (bindAnswer a next) (bindAnswer (mapAnswer (λ r. (r .0, take (suc (suc n)) (r .1))) a) next)
+    go (refused k) e = refl
+    go (given r) e =
+        let long : length bytes ≡ 2 + length (r .1) =
+        omega (arith, ap length (readMark-is bytes (r .0) (r .1) e), length-append (letters (r .0)) (r .1), length-letters (r .0)) in
+        like-mark (suc (suc n)) bytes (r .1) (laterBody (r .0) plot (r .1)) (laterBody (r .0) plot (take (suc (suc n)) (r .1))) long (laterBody-cut (r .0) n plot (r .1) h)
 
--- a record of a tile adds one tile or more
-addTiles-more : (plot : Plot) (t : TileRecord) (next : Plot) → addTiles plot (tilesHeld t) ≡ given next → (length (next .tiles) ≤ 64) × (length (plot .tiles) < length (next .tiles))
-addTiles-more plot t next e =
-    let a = addTiles-is plot (tilesHeld t) next e in
-    let n : length (plot .tiles ++ tilesHeld t) ≡ length (next .tiles) = ap (λ (p : Plot). length (p .tiles)) (a .1) in
-    (omega (arith, a .0), omega (arith, length-append (plot .tiles) (tilesHeld t), tilesHeld-some t))
+-- ---- the records: room for 4 bytes for each cell that can be a hole, for 35 bytes for each tile that can be added, and for one record more
 
--- ---- the records: room for 35 bytes for each tile that can be added, and for one record more
+abbrev room : Plot → ℕ
+room plot = 4 * freeCount (plot .board) + 35 * (64 - length (plot .tiles)) + 35
 
-records-cut : (turns m : ℕ) (plot : Plot) (bytes : List ℕ) → length (plot .tiles) ≤ 64 → 35 * (64 - length (plot .tiles)) + 35 ≤ m → records turns plot (take m bytes) ≡ records turns plot bytes
+-- a record takes no more than its part of the room
+tile-room : (plot : Plot) (bytes : List ℕ) (next : Plot) (rest : List ℕ) → TileRead plot bytes next rest
+    → (length (next .tiles) ≤ 64) × (room next + length bytes ≤ room plot + length rest)
+tile-room plot bytes next rest l =
+    let a = tile-plot plot bytes next rest l in
+    let most = a .0 in
+    let n : length (plot .tiles ++ tilesHeld (l .tile)) ≡ length (next .tiles) = ap (λ (p : Plot). length (p .tiles)) (a .1) in
+    let free : freeCount (plot .board) ≡ freeCount (next .board) = ap (λ (p : Plot). freeCount (p .board)) (a .1) in
+    let more = length-append (plot .tiles) (tilesHeld (l .tile)) in
+    let some = tilesHeld-some (l .tile) in
+    (omega arith, omega (arith, ap length (l .front), length-append (tileBytes (l .tile)) rest, length-tileBytes (l .tile), l .short))
+
+hole-room : (plot : Plot) (bytes : List ℕ) (next : Plot) (rest : List ℕ) → length (plot .tiles) ≤ 64 → HoleRead plot bytes next rest
+    → (length (next .tiles) ≤ 64) × (room next + length bytes ≤ room plot + length rest)
+hole-room plot bytes next rest few l =
+    let a = hole-plot plot bytes next rest l in
+    let n : length (plot .tiles) ≡ length (next .tiles) = ap (λ (p : Plot). length (p .tiles)) (a .2) in
+    let free : freeCount (fixAt (plot .board) (place (l .hole))) ≡ freeCount (next .board) = ap (λ (p : Plot). freeCount (p .board)) (a .2) in
+    let less = fixAt-count (plot .board) (place (l .hole)) (a .0) (a .1) in
+    (omega arith, omega (arith, ap length (l .front), length-append (holeBytes (l .hole)) rest, length-holeBytes (l .hole)))
+
+records-cut : (turns m : ℕ) (plot : Plot) (bytes : List ℕ) → length (plot .tiles) ≤ 64 → room plot ≤ m → records turns plot (take m bytes) ≡ records turns plot bytes
 unfolding records
 records-cut zero m plot bytes few h = refl
 records-cut (suc turns) m plot bytes few h =
-    let e : m ≡ suc (suc (suc (m - 3))) = omega arith in
-    ap (λ (n : ℕ). onward (records turns) (laterRecord plot (take n bytes))) e
-    ∙ go (laterRecord plot bytes) refl (laterRecord plot (take (suc (suc (suc (m - 3)))) bytes)) (laterRecord-cut (m - 35) (m - 3) plot bytes (omega arith))
+    let e : suc (suc (suc (suc (m - 4)))) ≡ m = omega arith in
+    go (laterRecord plot bytes) refl (laterRecord plot (take m bytes))
+    (subst (λ (n : ℕ). Like n bytes (laterRecord plot bytes) (laterRecord plot (take n bytes))) e (laterRecord-cut (m - 4) plot bytes (omega arith)))
     (λ n next rest q w. records-cut turns n next rest q w)
   where
-    go : (a : Answer Step) → laterRecord plot bytes ≡ a → (b : Answer Step) → Like (m - 35) a b
-        → ((n : ℕ) (next : Plot) (rest : List ℕ) → length (next .tiles) ≤ 64 → 35 * (64 - length (next .tiles)) + 35 ≤ n → records turns next (take n rest) ≡ records turns next rest)
+    go : (a : Answer Step) → laterRecord plot bytes ≡ a → (b : Answer Step) → Like m bytes a b
+        → ((n : ℕ) (next : Plot) (rest : List ℕ) → length (next .tiles) ≤ 64 → room next ≤ n → records turns next (take n rest) ≡ records turns next rest)
         → onward (records turns) b ≡ onward (records turns) a
     go (refused k) q b l r = ap (onward (records turns)) l
     go (given (ended next)) q b l r = ap (onward (records turns)) l
     go (given (more next rest)) q b l r =
-        let left = laterRecord-left plot bytes (more next rest) q in
-        let grown = addTiles-more plot (left .tile) next (left .adds) in
-        let s = grown .0 in
-        let g = grown .1 in
+        let left = ⊎-elim (tile-room plot bytes next rest) (hole-room plot bytes next rest few) (laterRecord-left plot bytes (more next rest) q) in
+        let s = left .1 in
         let k = l .1 in
-        ap (onward (records turns)) (l .2) ∙ r (l .0) next rest (grown .0) (omega arith)
+        ap (onward (records turns)) (l .2) ∙ r (l .0) next rest (left .0) (omega arith)
 
 -- ---- the file
 
@@ -222,6 +282,7 @@ settled file n h =
         let long : length file ≡ 4 + length rest =
         omega (arith, ap length (f .4), length-append (boardBytes (f .0)) (f .2), length-boardBytes (f .0), ap length behind) in
         let left = length-take (n - 4) rest in
+        let free = free-le (plot .board) in
         records-same (length (take n file)) (length file) plot (take (n - 4) rest) (omega (arith, length-take n file)) (omega arith)
         ∙ records-cut (length file) (n - 4) plot rest (omega arith) (omega arith)
       where
@@ -229,23 +290,14 @@ settled file n h =
         tilesIn (more p r) = length (p .tiles)
         tilesIn (ended p) = 0
 
--- ---- 2,278 bytes are not enough: of 65 tiles of 32 codes the last is one too many (6), and without its last byte it is cut (1)
+-- ---- 3,302 bytes are not enough: behind 256 holes the last of 65 tiles of 32 codes is one too many (6), and without its last byte it is cut (1)
 
 many : List ℕ → List ℕ
-many rest = boardBytes (rb 1 1) ++ (flatMap tileBytes (copies 64) ++ rest)
+many rest = boardBytes (rb 16 16) ++ (flatMap holeBytes allHoles ++ (flatMap tileBytes (copies 64) ++ rest))
 
-full : Plot
-full = plotOf (record { width = 1; height = 1; fixed = 0; laid = 0 }) (flatMap tilesHeld (copies 64))
-
-many-records : (rest : List ℕ) (n : ℕ) → laterRecord full rest ≡ refused n → plotIn (many rest) ≡ refused n
-unfolding many full onward boardHeld newBoard
-many-records rest n e =
-    let held = copies-held 64 in
-    let room : length rest ≤ length (many rest) =
-    omega (arith, length-append (boardBytes (rb 1 1)) (flatMap tileBytes (copies 64) ++ rest), length-append (flatMap tileBytes (copies 64)) rest) in
-    plotIn-records (rb 1 1) (copies 64) rest (record { width = 1; height = 1; fixed = 0; laid = 0 }) refl (λ t m. subst Fine (sym (copies-all 64 t m)) longPath-fine) (omega arith)
-    ∙ records-step (length (many rest)) full rest room
-    ∙ ap (onward (records (length (many rest)))) e
+many-records : (rest : List ℕ) (n : ℕ) → laterRecord longPlot rest ≡ refused n → plotIn (many rest) ≡ refused n
+unfolding many
+many-records rest n e = plotIn-refused (rb 16 16) allHoles (copies 64) longPlot longest-held rest n e
 
 -- the tile that is one too many
 last : List ℕ
@@ -257,23 +309,31 @@ over plot path fine past =
     laterRecord-mark TI plot (length path ∷ path ++ [])
     ∙ rw (readBody-path path [] (fine .0) (fine .1), lt-leb (length (plot .tiles ++ path ∷ [])) 64 past)
 
-too-many : laterRecord full last ≡ refused 6
-unfolding last full tileBytes letters
-too-many =
-    over full longPath longPath-fine (omega (arith, copies-held 64, length-append (flatMap tilesHeld (copies 64)) (longPath ∷ [])))
+too-many : laterRecord longPlot last ≡ refused 6
+unfolding last tileBytes letters
+too-many = over longPlot longPath longPath-fine (omega (arith, longPlot-tiles, length-append (longPlot .tiles) (longPath ∷ [])))
 
-too-short : laterRecord full (take 34 last) ≡ refused 1
+too-short : laterRecord longPlot (take 34 last) ≡ refused 1
 unfolding last tileBytes laterRecord readMark laterBody tileBody readBody bindAnswer mapAnswer
 too-short = refl
 
-many-cut : take 2278 (many last) ≡ many (take 34 last)
+many-cut : take 3302 (many last) ≡ many (take 34 last)
 unfolding many
 many-cut =
-    let front : List ℕ = boardBytes (rb 1 1) ++ flatMap tileBytes (copies 64) in
-    let long : length front ≡ 2244 = omega (arith, length-append (boardBytes (rb 1 1)) (flatMap tileBytes (copies 64)), length-boardBytes (rb 1 1), copies-bytes 64) in
-    let e : 2278 ≡ length front + 34 = omega arith in
-    let join = append-assoc (boardBytes (rb 1 1)) (flatMap tileBytes (copies 64)) in
-    ap (take 2278) (sym (join last)) ∙ ap (λ (n : ℕ). take n (front ++ last)) e ∙ take-append-add front last 34 ∙ join (take 34 last)
+    let front : List ℕ = boardBytes (rb 16 16) ++ flatMap holeBytes allHoles ++ flatMap tileBytes (copies 64) in
+    let long : length front ≡ 3268 =
+    omega (
+      arith,
+      length-append (boardBytes (rb 16 16) ++ flatMap holeBytes allHoles) (flatMap tileBytes (copies 64)),
+      length-append (boardBytes (rb 16 16)) (flatMap holeBytes allHoles),
+      length-boardBytes (rb 16 16),
+      holes-bytes allHoles,
+      length-holesBelow 256,
+      copies-bytes 64,
+    ) in
+    let e : 3302 ≡ length front + 34 = omega arith in
+    let join = joined (boardBytes (rb 16 16)) (flatMap holeBytes allHoles) (flatMap tileBytes (copies 64)) in
+    ap (take 3302) (sym (join last)) ∙ ap (λ (n : ℕ). take n (front ++ last)) e ∙ take-append-add front last 34 ∙ join (take 34 last)
 
 pub settledBy-least : (n : ℕ) → ((file : List ℕ) → plotIn (take n file) ≡ plotIn file) → settledBy ≤ n
 settledBy-least n h = go (decLt n settledBy)
@@ -281,7 +341,7 @@ settledBy-least n h = go (decLt n settledBy)
     go : Dec (n < settledBy) → settledBy ≤ n
     go (no k) = omega arith
     go (yes k) =
-        let cut : plotIn (take 2278 (many last)) ≡ refused 1 = ap plotIn many-cut ∙ many-records (take 34 last) 1 too-short in
+        let cut : plotIn (take 3302 (many last)) ≡ refused 1 = ap plotIn many-cut ∙ many-records (take 34 last) 1 too-short in
         let same : refused 1 ≡ refused 6 =
-        sym cut ∙ sym (h (take 2278 (many last))) ∙ ap plotIn (take-take n 2278 (many last) (omega arith)) ∙ h (many last) ∙ many-records last 6 too-many in
+        sym cut ∙ sym (h (take 3302 (many last))) ∙ ap plotIn (take-take n 3302 (many last) (omega arith)) ∙ h (many last) ∙ many-records last 6 too-many in
         absurd (omega (arith, refused-inj 1 6 same))

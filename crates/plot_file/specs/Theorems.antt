@@ -1,25 +1,30 @@
 -- The theorems about plot files: which files are accepted, what is read from them, what holes are, which refusals there are, and how many bytes settle a file.
--- Each is said here in words and proved in `RecordLaws`, `HoleLaws`, `FileLaws`, `LengthLaws` or `SettledLaws`. The reader is `plotIn` of `PlotFile`, records as
--- data are `Records`; `ReadsPlot` says what the code's answer has to be. Assumes nothing.
+-- Each is said here in words and proved in `RecordLaws`, `HoleLaws`, `FileLaws`, `OnceLaws`, `HoleRefusalLaws`, `LengthLaws` or `SettledLaws`. The reader is
+-- `plotIn` of `PlotFile`, records as data are `Records`; `ReadsPlot` says what the code's answer has to be. Assumes nothing.
 use mathlib.Core.Path.{_≡_, sym, ap, _∙_}
-use mathlib.Core.Logic.{_↔_}
-use mathlib.Core.Bool.{true}
-use mathlib.Core.List.{List, []}
-use Prim.Native.Nat.{ℕ, _^_, _≤_, _<_}
+use mathlib.Core.Logic.{_↔_, _⊎_, ⊎-elim}
+use mathlib.Core.Bool.{true, false, So, _||_}
+use mathlib.Core.List.{List, [], _∷_, _++_, flatMap}
+use Prim.Native.Nat.{ℕ, _+_, _^_, _≤_, _<_}
 use native.Mathlib.Omega.{arith}
 use lib.ListN.{length, take}
+use Rattle.cells.specs.Set.{hasCell, size}
+use Rattle.cells.specs.Lists.{ascii}
 use Rattle.refusal.specs.Refusal.{refused, given, refusalOf, valueOr, verdictNumber}
 use Rattle.tiles.specs.Inner.{Storable}
 use Rattle.tiles.specs.Paths.{tilesOf, readTiles}
 use Rattle.tiles.specs.StoredLaws.{readTiles-tilesOf}
-use Rattle.board.specs.Board.{boardOf, readBoard}
-use Rattle.rectangle.specs.Board.{noBoard, valid}
+use Rattle.board.specs.Board.{boardOf, readBoard, fixAt}
+use Rattle.rectangle.specs.Board.{noBoard, freeAt, freeCount, isFull, valid}
 use Rattle.board.specs.BoardLaws.{readBoard-given}
 use Rattle.plot_file.specs.declared.MadePlot.{MadePlot}
 use Rattle.plot_file.specs.PlotFile.{Plot, noPlot, plotIn, ReadsPlot}
-use Rattle.plot_file.specs.Records.{BoardRecord, TileRecord, fileOf, Holds, longestFile, settledBy}
+use Rattle.plot_file.specs.Records.{BoardRecord, Hole, TileRecord, boardBytes, holeBytes, tileBytes, fileOf, place, isHole, Holds, longestFile, settledBy}
 use Rattle.plot_file.specs.RecordLaws as Record
+use Rattle.plot_file.specs.HoleLaws as Hole
 use Rattle.plot_file.specs.FileLaws as File
+use Rattle.plot_file.specs.OnceLaws as Once
+use Rattle.plot_file.specs.HoleRefusalLaws as HoleRefusal
 use Rattle.plot_file.specs.LengthLaws as Length
 use Rattle.plot_file.specs.SettledLaws as Settled
 
@@ -32,39 +37,51 @@ accepted-iff = File.accepted-iff
 
 -- Every byte belongs to exactly one record: equal files have the same records.
 pub file-once : (b c : BoardRecord) (hs gs : List Hole) (ts us : List TileRecord) → fileOf b hs ts ≡ fileOf c gs us → (b ≡ c) × (hs ≡ gs) × (ts ≡ us)
-file-once = File.file-once
+file-once = Once.file-once
 
 -- ---- holes
 
 module _ (board : BoardRecord) (holes : List Hole) (tiles : List TileRecord) (plot : Plot) (h : Holds board holes tiles plot) where
   -- The fixed marks of the plot are those of the board record and those of the holes, and the size is the board record's;
   pub fixed-marks : (cell : ℕ) → cell < 256 → hasCell (plot .board .fixed) cell ≡ (hasCell (h .outline .fixed) cell || isHole holes cell)
-  fixed-marks = ?
+  fixed-marks = Hole.dug-fixed (h .outline) (plot .board) holes (File.holds-dug board holes tiles plot h)
 
   pub outline-size : (plot .board .width ≡ h .outline .width) × (plot .board .height ≡ h .outline .height)
-  outline-size = ?
+  outline-size = Hole.dug-size (h .outline) (plot .board) holes (File.holds-dug board holes tiles plot h)
 
   -- each hole is one new cell, which was free;
   pub holes-new : (size (plot .board .fixed) ≡ size (h .outline .fixed) + length holes) × (freeCount (plot .board) + length holes ≡ freeCount (h .outline))
-  holes-new = ?
+  holes-new = let counted = File.holds-counted board holes tiles plot h in (counted .marks, counted .left)
 
-  -- so there are at most 256 of them.
+  -- so there are at most 256 of them; and where there are as many as the board record left free cells, no cell is free any more.
   pub holes-few : length holes ≤ 256
-  holes-few = ?
+  holes-few = File.holds-few board holes tiles plot h
+
+  pub holes-everywhere : isFull (plot .board) ≡ true ↔ (length holes ≡ freeCount (h .outline))
+  holes-everywhere = File.holds-full board holes tiles plot h
 
   -- An HO record behind a tile is refused by 3, whatever stands behind its mark.
   pub hole-after-tile : (rest : List ℕ) → 0 < length tiles
       → plotIn (boardBytes board ++ flatMap holeBytes holes ++ flatMap tileBytes tiles ++ ascii "HO" ++ rest) ≡ refused 3
-  hole-after-tile = ?
+  hole-after-tile = HoleRefusal.hole-after-tile board holes tiles plot h
 
   -- Behind the board and other holes it is refused by 1 where a byte of its body is missing,
   pub hole-cut : (rest : List ℕ) → tiles ≡ [] → length rest < 2 → plotIn (boardBytes board ++ flatMap holeBytes holes ++ ascii "HO" ++ rest) ≡ refused 1
-  hole-cut = ?
+  hole-cut = HoleRefusal.hole-cut board holes tiles plot h
 
-  -- and else by 15 exactly if its cell is outside the board or marked already, by the board record or by a hole before it.
+  -- and else by 15 where its cell is outside the board or marked already, by the board record or by a hole before it;
   pub hole-bad : (hole : Hole) (rest : List ℕ) → tiles ≡ [] → freeAt (plot .board) (place hole) ≡ false
       → plotIn (boardBytes board ++ flatMap holeBytes holes ++ holeBytes hole ++ rest) ≡ refused 15
-  hole-bad = ?
+  hole-bad = HoleRefusal.hole-bad board holes tiles plot h
+
+  -- a free cell is one hole more.
+  pub hole-good : (hole : Hole) → So (freeAt (plot .board) (place hole))
+      → Holds board (holes ++ hole ∷ []) [] (record { board = fixAt (plot .board) (place hole); tiles = [] })
+  hole-good = File.holds-hole board holes tiles plot h
+
+-- An HO record as the first one is refused by 3, whatever stands behind its mark.
+pub hole-first : (rest : List ℕ) → plotIn (ascii "HO" ++ rest) ≡ refused 3
+hole-first = HoleRefusal.hole-first
 
 -- An accepted file has at most `longestFile` bytes, and no smaller bound holds.
 pub accepted-length : (file : List ℕ) (plot : Plot) → plotIn file ≡ given plot → length file ≤ longestFile
@@ -87,6 +104,10 @@ four-thousand-settle file = settled file 4096 (omega arith)
 -- Every refusal of a file is one of 1 to 6, or 15.
 pub refusal-listed : (file : List ℕ) (n : ℕ) → plotIn file ≡ refused n → ((0 < n) × (n ≤ 6)) ⊎ (n ≡ 15)
 refusal-listed = Record.plotIn-refusal
+
+-- So none is 0.
+pub refusal-positive : (file : List ℕ) (n : ℕ) → plotIn file ≡ refused n → 0 < n
+refusal-positive file n e = ⊎-elim (λ h. h .0) (λ h. omega arith) (refusal-listed file n e)
 
 -- The board of an accepted file is valid and has no laid marks, and its tiles are at most 64 paths that can be stored. Its fixed marks are a set of 256 cells.
 pub accepted-plot : (file : List ℕ) (plot : Plot) → plotIn file ≡ given plot

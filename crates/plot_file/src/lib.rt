@@ -2,7 +2,7 @@
 // definition over its bytes alone (specs/PlotFile.antt), and nothing is asked of a caller.
 //
 // The core reads a slice from a place on, a record at a time: marks.rt the mark, bodies.rt the body
-// behind it, records.rt a whole record. A place is a number that goes in and comes back by value.
+// behind it, holes.rt a hole, records.rt a whole record. A place is a number that goes in and comes back by value.
 // Over the core stands the plot reader (reader.rt), a struct that holds the slice and a position in
 // it. `read_plot` makes one and goes through the file with it: it reads the record at the position,
 // and moves the position to where the next one begins.
@@ -18,6 +18,7 @@ ghost use Rattle.plot_file.specs.PlotFile.{plotIn, ReadsPlot};
 ghost use Rattle.plot_file.specs.Inner.{plotOf, Kept};
 
 mod bodies;
+mod holes;
 mod marks;
 mod reader;
 mod records;

@@ -4,6 +4,7 @@
 // The plot so far, board and tiles, goes through every record behind the first, so that a further kind
 // of record, whether it changes the board or the tiles, is a further arm of `later_body`.
 use crate::bodies;
+use crate::holes;
 use crate::marks;
 use crate::marks::Mark;
 use crate::marks::Marked;
@@ -24,7 +25,7 @@ ghost use Rattle.tiles.specs.Paths.{pathsIn, tilesOf};
 ghost use Rattle.tile.specs.Inner.{CleanTile};
 ghost use Rattle.tiles.specs.Inner.{Clean};
 ghost use Rattle.board.specs.Board.{boardOf};
-ghost use Rattle.plot_file.specs.PlotFile.{noPlot, boardBody, firstRecord, addTiles, tileBody, holeBody, endBody, laterBody, laterRecord};
+ghost use Rattle.plot_file.specs.PlotFile.{noPlot, boardBody, firstRecord, addTiles, tileBody, endBody, laterBody, laterRecord};
 ghost use Rattle.plot_file.specs.Inner.{answerOf, tilesFor, plotOf, Kept, Reads, boardOnly, startAt, StepsTo, recordAt};
 
 // What has been read.
@@ -59,7 +60,7 @@ pub fn no_plot() -> Plot
 }
 
 // A refusal in a record's place.
-fn refuse(refusal: Refusal) -> Step
+pub fn refuse(refusal: Refusal) -> Step
     ensures { λ r. ⌜ (r .next ≡ Next.Refused refusal) × Kept (r .plot) ⌝ }
 {
     Step {
@@ -106,8 +107,8 @@ fn board_record(file: &[u8], at: usize, mark: Mark) -> Step
     refuse(Refusal::Misplaced)
 }
 
-// The plot of a board that is made, or its refusal.
-fn started(made: MadeBoard, at: usize) -> Step
+// The plot of a board that is made, with no tiles, or its refusal.
+pub fn started(made: MadeBoard, at: usize) -> Step
     ensures { λ r. ⌜ StepsTo (mapAnswer boardOnly (answerOf (made .verdict) (boardOf (made .board)))) at r ⌝ }
 {
     let verdict = made.verdict;
@@ -145,28 +146,11 @@ fn later_body(file: &[u8], at: usize, plot: Plot, mark: Mark) -> Step
         Mark::RB => refuse(Refusal::Misplaced),
         Mark::LB => refuse(Refusal::Misplaced),
         Mark::TB => refuse(Refusal::Misplaced),
-        Mark::HO => hole_record(file, at, plot),
+        Mark::HO => holes::hole_record(file, at, plot),
         Mark::TI => tile_record(file, at, plot, false),
         Mark::OR => tile_record(file, at, plot, true),
         Mark::EN => end_record(file, at, plot),
     }
-}
-
-// The record of a hole; refusal 3 behind a tile, 1 for a missing byte, 15 for the cell.
-fn hole_record(file: &[u8], at: usize, plot: Plot) -> Step
-    requires { ⌜ (at ≤ length (now file)) × Kept plot ⌝ }
-    ensures { λ r. ⌜ Reads (now (file .entry)) at (holeBody (plotOf plot) (drop at (now (file .entry)))) r ⌝ }
-{
-    let tiles = plot.tiles;
-    let board = plot.board;
-    if 0 < tiles.count {
-        return refuse(Refusal::Misplaced);
-    }
-    if file.len() - at < 2 {
-        return refuse(Refusal::Cut);
-    }
-    let made = board.with_hole(file[at] as usize, file[at + 1] as usize);
-    started(made, at + 2)
 }
 
 // The end of the file; refusal 3 for a byte behind it.

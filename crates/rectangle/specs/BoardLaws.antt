@@ -12,7 +12,7 @@ use lib.IntN.{ℤ, pos, negsuc}
 use lib.Pow.{pow-pos}
 use Rattle.cells.specs.Set.{bit, hasCell, size}
 use Rattle.cells.specs.BitLaws.{Disjoint, bit-le, bit-ext, bit-high, zero-bit}
-use Rattle.cells.specs.SetLaws.{hasCell-iff, hasCell-false, bit-unionOf, hasCell-unionOf, unionOf-lt, size-zero, size-none, bit-free, hasCell-none, hasCell-setOf, setOf-lt}
+use Rattle.cells.specs.SetLaws.{hasCell-iff, bit-unionOf, hasCell-unionOf, unionOf-lt, size-zero, size-none, bit-free, hasCell-none, hasCell-setOf, setOf-lt}
 use Rattle.cells.specs.FirstsLaws.{so-eq}
 use Rattle.cells.specs.Lists.{allBelow}
 use Rattle.cells.specs.ArrayLaws.{allBelow-at}

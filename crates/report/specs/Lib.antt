@@ -10,6 +10,7 @@ pub mod ListedLaws
 pub mod MadeLaws
 pub mod CountLaws
 pub mod PlotLaws
+pub mod FullLaws
 pub mod FitLaws
 pub mod ReportLaws
 pub mod Theorems

@@ -10,7 +10,7 @@ use Rattle.refusal.specs.Refusal.{Answer, refused, given, refusalNumber, refusa
 use Rattle.refusal.specs.RefusalLaws.{refused-of}
 use Rattle.plot_file.specs.declared.MadePlot.{MadePlot}
 use Rattle.plot_file.specs.PlotFile.{Plot, plotIn, ReadsPlot}
-use Rattle.plot_file.specs.Theorems.{refusal-listed, read-accepted}
+use Rattle.plot_file.specs.Theorems.{refusal-positive, read-accepted}
 use Rattle.report.specs.Report.{refusedLine, plotLines, linesFor, report}
 use Rattle.report.specs.Inner.{HoldsPlot}
 
@@ -22,7 +22,7 @@ module _ (file : List ℕ) (r : MadePlot) (reads : ReadsPlot (plotIn file) r) wh
       go : (a : Answer Plot) → plotIn file ≡ a → (plot : Plot) × HoldsPlot plot (r .board) (r .tiles) × (report file ≡ plotLines plot)
       go (refused n) e =
           let z : 0 ≡ n = sym (ap verdictNumber v) ∙ reads .verdict ∙ ap refusalOf e in
-          absurd (omega (arith, refusal-listed file n e .0))
+          absurd (omega (arith, refusal-positive file n e))
       go (given plot) e =
           let h = read-accepted file r plot reads e in
           (plot, record { boardIs = h .0; tilesAre = h .1 }, ap linesFor e)

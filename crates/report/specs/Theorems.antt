@@ -1,13 +1,21 @@
 -- The theorems about the text that the program `plot` prints: how long it is at most, how many bytes of a file settle it, that its counts are the number of
--- cuttings, that its two counts agree, and what its tiling lines list. The text is `report` of `Report`; its examples are in `Examples`. Each is said here
--- in words and proved in `CountLaws`, `BuiltLaws`, `FitLaws`, `PlotLaws` or tiler's `NumberLaws`. What stands in quotation marks is 01's. Assumes nothing.
-use mathlib.Core.Path.{_≡_, refl, ap, ap₂, _∙_}
-use mathlib.Core.List.{List, [], _∷_, List·Memᴰ as Mem}
+-- cuttings, also of a plot with holes, that its two counts agree, what its tiling lines list, and what is printed for a plot with no free cell. The text is
+-- `report` of `Report`; its examples are in `Examples`. Each is said here in words and proved in `CountLaws`, `BuiltLaws`, `FitLaws`, `PlotLaws`, `FullLaws` or
+-- tiler's `NumberLaws`. What stands in quotation marks is 01's, or where it is said so 02's. Assumes nothing.
+use mathlib.Core.Path.{_≡_, refl, sym, ap, ap₂, _∙_, subst}
+use mathlib.Core.Logic.{⊎-elim}
+use mathlib.Core.Bool.{true}
+use mathlib.Core.List.{List, [], _∷_, _++_, flatMap, List·Memᴰ as Mem}
 use mathlib.Core.Option.{some}
 use Prim.Native.Nat.{ℕ, _≤_, _<_}
 use native.Mathlib.Omega.{arith}
 use lib.ListN.{length, take}
+use Rattle.cells.specs.Lists.{ascii}
 use Rattle.refusal.specs.Refusal.{Answer, refused, given}
+use Rattle.tile.specs.Path.{Path}
+use Rattle.tiles.specs.Paths.{equalCounts}
+use Rattle.rectangle.specs.Board.{Board, isFull}
+use Rattle.choice.specs.Choice.{countOf}
 use Rattle.covers.specs.Counts.{Exactly, Numbering, Chain}
 use Rattle.graph.specs.GraphLaws.{take-padded}
 use Rattle.tiler.specs.Graphs.{Graph, countOfGraph, nodeListOf}
@@ -15,12 +23,14 @@ use Rattle.tiler.specs.Inner.{markedPiecesOf}
 use Rattle.expansion.specs.Plots.{IsCutting, HasFreeCell, AllEdgeJoined}
 use Rattle.tiler.specs.NumberLaws.{list-chain, list-below}
 use Rattle.plot_file.specs.PlotFile.{Plot, plotIn}
-use Rattle.plot_file.specs.Theorems.{refusal-listed, accepted-plot, accepted-fixed, four-thousand-settle}
-use Rattle.report.specs.Report.{plotLayers, plotGraph, listed, linesFor, report, WritesReport}
+use Rattle.plot_file.specs.Records.{BoardRecord, Hole, TileRecord, fileOf, holed, tilesHeld, Holds}
+use Rattle.plot_file.specs.Theorems.{accepted-iff, refusal-listed, accepted-plot, accepted-fixed, four-thousand-settle}
+use Rattle.report.specs.Report.{plotLayers, plotGraph, listed, boardLine, tilesLine, plotLines, linesFor, report, WritesReport}
 use Rattle.report.specs.FitLaws.{longestText, refused-length, plot-length}
 use Rattle.report.specs.CountLaws as Count
 use Rattle.report.specs.BuiltLaws.{list-short}
 use Rattle.report.specs.PlotLaws as P
+use Rattle.report.specs.FullLaws.{full-lines}
 use Rattle.report.specs.PlotLaws.{AcceptedPlot}
 
 -- ---- 1. Refusals
@@ -54,7 +64,7 @@ unfolding report linesFor
 report-fits file = go (plotIn file) refl
   where
     go : (a : Answer Plot) → plotIn file ≡ a → length (linesFor a) ≤ longestText
-    go (refused n) is = let few = refusal-listed file n is .1 in omega (arith, refused-length n (omega arith))
+    go (refused n) is = omega (arith, refused-length n (⊎-elim (λ h. omega (arith, h .1)) (λ h. omega arith) (refusal-listed file n is)))
     go (given plot) is = plot-length plot (accepted file plot is)
 
 -- So a call with as many bytes leaves the whole text in front of them, and tells its length.
@@ -113,3 +123,51 @@ module _ (file : List ℕ) (plot : Plot) (is : plotIn file ≡ given plot) where
       -- and its nodes are the graph's.
       pub list-in-graph : (v : ℕ) → Mem v (nodeListOf g m) → v < length (g .nodes)
       list-in-graph = P.of-graph plot ok g made (λ b f l ts x y z is. list-below b f l ts x y z g is m (below-count g m line))
+
+  -- ---- 5. A plot with no free cell
+
+  -- 02, request 2: "A plot whose cells are all fixed is now possible and counts 0": by both counts, with one node, no edge and no tiling line, where the tiles have
+  -- one number of cells (else both counts are refused by 7, as ever).
+  pub full-report : isFull (plot .board) ≡ true → equalCounts (plot .tiles) ≡ true
+      → report file ≡ boardLine plot ++ tilesLine plot ++ ascii "layers 0\ngraph 0 nodes 1 edges 0\n"
+  unfolding report linesFor
+  full-report full equal = ap linesFor is ∙ full-lines plot ok full equal
+
+-- ---- 6. Plots with holes. 02, request 2: "The two counts and the numbered cuttings hold for such plots under the same conditions as for plain ones": the file of
+-- some records, whose board has the cells of the holes fixed beside the board record's own fixed marks (`holed`). Its text is that of the plot that they hold
+-- (`accepted-iff` of plot_file), and the printed numbers are those of the cuttings around the holes
+
+module _ (board : BoardRecord) (holes : List Hole) (tiles : List TileRecord) (plot : Plot) (h : Holds board holes tiles plot) where
+  read : plotIn (fileOf board holes tiles) ≡ given plot
+  read = accepted-iff (fileOf board holes tiles) plot .1 (board, holes, tiles, refl, h)
+
+  pub holes-report : report (fileOf board holes tiles) ≡ plotLines plot
+  unfolding report linesFor
+  holes-report = ap linesFor read
+
+  -- "Neighbour counts ignore these cells, as they do for LB and TB": those of the plot are those of the board record's board.
+  pub holes-uncounted : (cell : ℕ) → countOf (plot .board) cell ≡ countOf (h .outline) cell
+  unfolding holed
+  holes-uncounted cell = ap (λ (b : Board). countOf b cell) (h .fixes)
+
+  module _ (free : HasFreeCell (holed (h .outline) holes)) (joined : AllEdgeJoined (flatMap tilesHeld tiles)) where
+    free-there : HasFreeCell (plot .board)
+    free-there = subst HasFreeCell (sym (h .fixes)) free
+
+    joined-there : AllEdgeJoined (plot .tiles)
+    joined-there = subst AllEdgeJoined (sym (h .all)) joined
+
+    pub holes-layers : (n : ℕ) → plotLayers plot ≡ given n → Exactly n (IsCutting (holed (h .outline) holes) (flatMap tilesHeld tiles))
+    holes-layers n e =
+        subst (λ (ts : List Path). Exactly n (IsCutting (holed (h .outline) holes) ts)) (h .all)
+        (subst (λ (b : Board). Exactly n (IsCutting b (plot .tiles))) (h .fixes) (layers-are-cuttings (fileOf board holes tiles) plot read n e free-there joined-there))
+
+    pub holes-tilings : (g : Graph) → plotGraph plot ≡ given g
+        → Numbering (IsCutting (holed (h .outline) holes) (flatMap tilesHeld tiles)) (countOfGraph g) (markedPiecesOf g)
+    holes-tilings g made =
+        subst (λ (ts : List Path). Numbering (IsCutting (holed (h .outline) holes) ts) (countOfGraph g) (markedPiecesOf g)) (h .all)
+        (subst (λ (b : Board). Numbering (IsCutting b (plot .tiles)) (countOfGraph g) (markedPiecesOf g)) (h .fixes)
+        (tilings-are-cuttings (fileOf board holes tiles) plot read g made free-there joined-there))
+
+    pub holes-graph : (g : Graph) → plotGraph plot ≡ given g → Exactly (countOfGraph g) (IsCutting (holed (h .outline) holes) (flatMap tilesHeld tiles))
+    holes-graph g made = (markedPiecesOf g, holes-tilings g made)

@@ -5,6 +5,7 @@ pub mod Graphs
 pub mod Inner
 pub mod AnswerLaws
 pub mod GivenLaws
+pub mod FullLaws
 pub mod Theorems
 pub mod NumberLaws
 pub mod CuttingTheorems

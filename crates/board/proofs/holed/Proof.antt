@@ -16,39 +16,39 @@ use Rattle.board.proofs.holed.Tie as tie
 
 returns : tie.Need-returns
 returns c =
-    let s = c .before .before .before .before in
+    let s = c .before .before .before .before .before in
     makes-refused _ _ (withHole-bad _ _ _ (s .pre) (hole-below _ _ (s .args .column) (c .before .if1 .taken))) (c .refused .ensures)
 
 returns-2 : tie.Need-returns-2
 returns-2 c =
-    let s = c .before .before .before .before .before .before in
+    let s = c .before .before .before .before .before .before .before in
     makes-refused _ _ (withHole-bad _ _ _ (s .pre) (hole-beside _ (s .args .row) _ (c .before .if2 .taken))) (c .refused2 .ensures)
 
 -- a cell of the rectangle
 mul-cell : tie.Need-mul-cell
 mul-cell c =
-    let s = c .before .before .before .before .before in
+    let s = c .before .before .before .before .before .before in
     omega (arith, c .before .before .if1 .left, valid-height (boardOf (s .args .board)) (s .pre))
 
 add-cell : tie.Need-add-cell
 add-cell c =
-    let s = c .before .before .before .before .before in
+    let s = c .before .before .before .before .before .before in
     omega (arith, c .before .before .if1 .left, c .if2 .left, valid-width (boardOf (s .args .board)) (s .pre), valid-height (boardOf (s .args .board)) (s .pre))
 
 -- what the test of the marks told
-told : (c : tie.After-has-cell) (t : Bool) → c .has-cell .result ≡ t → let s = c .before .before .before .before .before .before .before .args in hasCell (marks (boardOf (s .board))) (16 * s .row + s .column) ≡ t
+told : (c : tie.After-has-cell) (t : Bool) → c .has-cell .result ≡ t → let s = c .before .before .before .before .before .before .before .before .args in hasCell (marks (boardOf (s .board))) (16 * s .row + s .column) ≡ t
 told c t e =
-    let s = c .before .before .before .before .before .before .before .args in
+    let s = c .before .before .before .before .before .before .before .before .args in
     ap (λ (n : ℕ). hasCell n (16 * s .row + s .column)) (sym (c .before .marks .ensures)) ∙ sym (c .has-cell .ensures) ∙ e
 
 returns-3 : tie.Need-returns-3
 returns-3 c =
-    let s = c .before .before .before .before .before .before .before .before .before in
+    let s = c .before .before .before .before .before .before .before .before .before .before in
     makes-refused _ _ (withHole-bad _ _ _ (s .pre) (hole-marked _ _ _ (s .pre) (c .before .before .before .before .before .before .if1 .left) (c .before .before .before .before .if2 .left) (told (c .before .before) _ (c .before .if3 .taken)))) (c .refused3 .ensures)
 
 returns-4 : tie.Need-returns-4
 returns-4 c =
-    let s = c .before .before .before .before .before .before .before .before .before .before in
+    let s = c .before .before .before .before .before .before .before .before .before .before .before in
     makes-hole _ _ _ (s .pre) (hole-free _ _ _ (s .pre) (c .before .before .before .before .before .before .before .if1 .left) (c .before .before .before .before .before .if2 .left) (told (c .before .before .before) _ (c .before .before .if3 .left)))
     _ (c .before .with-cell .ensures) _ (c .of-marks .ensures)
 

@@ -1,6 +1,5 @@
 -- `board::RectangularBoard::with_hole` meets its contract: an accepted board gets its hole, and a refusal is handed on.
 -- Assumes nothing.
-use mathlib.Core.Path.{sym, ap, _∙_}
 use borrow.Author.Needs.{needs}
 use Rattle.board.specs.Board.{readBoard}
 use Rattle.board.specs.BoardLaws.{check-accepted, check-refused}

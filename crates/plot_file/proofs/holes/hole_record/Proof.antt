@@ -1,4 +1,4 @@
--- `plot_file::records::hole_record` meets its contract: the place is tested first, then that the two bytes are there, and then they make a hole (`reads-hole`).
+-- `plot_file::holes::hole_record` meets its contract: the place is tested first, then that the two bytes are there, and then they make a hole (`reads-hole`).
 -- Assumes nothing.
 use Prim.Native.Nat.{_+_}
 use native.Mathlib.Omega.{arith}
@@ -7,8 +7,8 @@ use Rattle.plot_file.specs.ReadLaws.{holeBody-misplaced, holeBody-cut}
 use Rattle.plot_file.proofs.StepLaws.{reads-refused, reads-hole}
 use Rattle.plot_file.proofs.TilesLaws.{count-is, no-paths}
 use borrow.Author.Needs.{needs}
-use Rattle.plot_file.proofs.records.hole_record.Statement.{statement}
-use Rattle.plot_file.proofs.records.hole_record.Tie as tie
+use Rattle.plot_file.proofs.holes.hole_record.Statement.{statement}
+use Rattle.plot_file.proofs.holes.hole_record.Tie as tie
 
 returns : tie.Need-returns
 returns c =
