@@ -44,6 +44,23 @@ pub l-board : report (0x4C ∷ 0x42 ∷ 3 ∷ 1 ∷ 0x4F ∷ 0x52 ∷ 1 ∷ 3 �
 unfolding report ascii step rotate reflect
 l-board = refl
 
+-- 02, request 2: RB 3,3 with a hole at row 1, column 1 (HO) and dominoes, which lie round it in two ways
+pub shed : report (0x52 ∷ 0x42 ∷ 3 ∷ 3 ∷ 0x48 ∷ 0x4F ∷ 1 ∷ 1 ∷ 0x4F ∷ 0x52 ∷ 1 ∷ 3 ∷ 0x45 ∷ 0x4E ∷ [])
+    ≡ ascii "board 3 3 free 8\ntiles 4\nlayers 2\ngraph 2 nodes 8 edges 8\ntiling 0: 0 1 3 5 7\ntiling 1: 0 2 4 6 7\n"
+unfolding report ascii step rotate reflect
+shed = refl
+
+-- "A plot whose cells are all fixed is now possible and counts 0": RB 2,1 with both cells built over
+pub all-fixed : report (0x52 ∷ 0x42 ∷ 2 ∷ 1 ∷ 0x48 ∷ 0x4F ∷ 0 ∷ 0 ∷ 0x48 ∷ 0x4F ∷ 0 ∷ 1 ∷ 0x54 ∷ 0x49 ∷ 1 ∷ 3 ∷ 0x45 ∷ 0x4E ∷ [])
+    ≡ ascii "board 2 1 free 0\ntiles 1\nlayers 0\ngraph 0 nodes 1 edges 0\n"
+unfolding report ascii step
+all-fixed = refl
+
+-- a hole outside the board
+pub outside : report (0x52 ∷ 0x42 ∷ 2 ∷ 1 ∷ 0x48 ∷ 0x4F ∷ 1 ∷ 0 ∷ 0x45 ∷ 0x4E ∷ []) ≡ ascii "refused 15\n"
+unfolding report ascii
+outside = refl
+
 -- ---- the parts of a line
 
 -- the decimal digits of numbers of one digit and more
