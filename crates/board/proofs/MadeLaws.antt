@@ -84,13 +84,13 @@ module _ (b : Board) (row column : ℕ) where
 
 -- the board with a free cell fixed, by its parts
 pub makes-hole : (b : RectangularBoard) (row column : ℕ) → valid (boardOf b) ≡ true → So (freeAt (boardOf b) (at (pos row) (pos column))) → (f : Cells) → number f ≡ withCell (number (b .fixed)) (16 * row + column)
-    → (x : RectangularBoard) → x ≡ ofMarks (b .width) (b .height) f (b .laid) → MakesBoard (withHole (boardOf b) row column) (record { verdict = Verdicts.Accepted; board = x })
+    → MakesBoard (withHole (boardOf b) row column) (record { verdict = Verdicts.Accepted; board = record { width = b .width; height = b .height; fixed = f; laid = b .laid } })
 unfolding fixAt cellOf refusalOf valueOr
-makes-hole b row column ok free f p x s =
+makes-hole b row column ok free f p =
     let is = withHole-given (boardOf b) row column ok free in
     record {
       verdict = rw is;
-      board = ap boardOf s ∙ rw is (λ i. record { width = b .width; height = b .height; fixed = p i; laid = number (b .laid) });
+      board = rw is (λ i. record { width = b .width; height = b .height; fixed = p i; laid = number (b .laid) });
     }
 
 -- ---- L and T

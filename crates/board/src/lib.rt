@@ -207,7 +207,7 @@ fn made(width: usize, height: usize, rows: usize, low: usize, high: usize) -> Ma
 }
 
 // An accepted board with the cell at a row and a column fixed, or a refusal.
-fn holed(board: RectangularBoard, row: usize, column: usize) -> MadeBoard
+fn holed(mut board: RectangularBoard, row: usize, column: usize) -> MadeBoard
     requires { ⌜ valid (boardOf board) ≡ true ⌝ }
     ensures { λ r. ⌜ MakesBoard (withHole (boardOf board) row column) r ⌝ }
 {
@@ -220,14 +220,14 @@ fn holed(board: RectangularBoard, row: usize, column: usize) -> MadeBoard
         return refused(Refusal::BadHole);
     }
     let cell = 16 * row + column;
-    let marks = board.marks();
+    let marks = fixed.union(laid);
     if marks.has_cell(cell) {
         return refused(Refusal::BadHole);
     }
-    let holed = fixed.with_cell(cell);
+    board.fixed = fixed.with_cell(cell);
     MadeBoard {
         verdict: Verdict::Accepted,
-        board: RectangularBoard::of_marks(board.width, board.height, holed, laid),
+        board,
     }
 }
 

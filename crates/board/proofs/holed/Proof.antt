@@ -37,9 +37,10 @@ add-cell c =
 
 -- what the test of the marks told
 told : (c : tie.After-has-cell) (t : Bool) → c .has-cell .result ≡ t → let s = c .before .before .before .before .before .before .before .before .args in hasCell (marks (boardOf (s .board))) (16 * s .row + s .column) ≡ t
+unfolding marks
 told c t e =
     let s = c .before .before .before .before .before .before .before .before .args in
-    ap (λ (n : ℕ). hasCell n (16 * s .row + s .column)) (sym (c .before .marks .ensures)) ∙ sym (c .has-cell .ensures) ∙ e
+    ap (λ (n : ℕ). hasCell n (16 * s .row + s .column)) (sym (c .before .union .ensures)) ∙ sym (c .has-cell .ensures) ∙ e
 
 returns-3 : tie.Need-returns-3
 returns-3 c =
@@ -48,9 +49,9 @@ returns-3 c =
 
 returns-4 : tie.Need-returns-4
 returns-4 c =
-    let s = c .before .before .before .before .before .before .before .before .before .before .before in
-    makes-hole _ _ _ (s .pre) (hole-free _ _ _ (s .pre) (c .before .before .before .before .before .before .before .if1 .left) (c .before .before .before .before .before .if2 .left) (told (c .before .before .before) _ (c .before .before .if3 .left)))
-    _ (c .before .with-cell .ensures) _ (c .of-marks .ensures)
+    let s = c .before .before .before .before .before .before .before .before .before .before in
+    makes-hole _ _ _ (s .pre) (hole-free _ _ _ (s .pre) (c .before .before .before .before .before .before .if1 .left) (c .before .before .before .before .if2 .left) (told (c .before .before) _ (c .before .if3 .left)))
+    _ (c .with-cell .ensures)
 
 pub holed-spec : {M : Type 1} → statement M
 holed-spec =
@@ -66,6 +67,5 @@ holed-spec =
     (λ c κs. search needs)
     (λ c κs. search needs)
     returns-3
-    (λ c κs. search needs)
     (λ c κs. search needs)
     returns-4)
