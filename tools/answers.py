@@ -1,4 +1,4 @@
-"""What is stored for a command: the oracle's answer, that of a model, or 01's refusal.
+"""What is stored for a command: the oracle's answer, that of a model, or a refusal by 01 or 02.
 
 The models are those of tilings.py, for `tiling`, and of records.py, for the commands on archive files.
 """
@@ -8,7 +8,7 @@ import sys
 sys.dont_write_bytecode = True
 import records
 import tilings
-from plots import MOST_CODES, MOST_TILES, Plot, stop
+from plots import MOST_CODES, MOST_TILES, Plot, cell, stop
 
 MOST_BOARDS = 257  # the room of a command `one` that has none behind it
 
@@ -30,6 +30,17 @@ def has_room(fields):
     width, height, fixed, laid = (int(word, base) for word, base in zip(fields, (10, 10, 16, 16)))
     room = int(fields[5]) if fields[5:] else MOST_BOARDS
     return Plot(width, height, fixed, laid).free().bit_count() < room
+
+
+def with_hole(fields):
+    """What 02's request 2 has for a command `hole`: the board with the cell fixed, or a refusal."""
+    width, height, row, column = (int(fields[place]) for place in (0, 1, 4, 5))
+    fixed, laid = int(fields[2], 16), int(fields[3], 16)
+    if not is_board(width, height, fixed, laid):
+        return "refused 4"
+    if row >= height or column >= width or (fixed | laid) & cell(row, column):
+        return "refused 15"
+    return f"{width} {height} {fixed | cell(row, column):x} {laid:x}"
 
 
 def refusal(command):
@@ -79,6 +90,10 @@ def stored_answer(command, answer):
         return tilings.answer(tilings.read(command))
     if name in records.COMMANDS:
         return records.answer(command)
+    if name == "hole":
+        if answer != with_hole(command.split()[1:]):
+            stop(f"{command}: the oracle's answer is {answer}")
+        return answer
     expected = True
     if name in ("l", "t"):
         expected = answer == "panic" if field == "0" else len(answer) == codes_of(name, field)

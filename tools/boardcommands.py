@@ -9,7 +9,8 @@ import sys
 
 sys.dont_write_bytecode = True
 import plots
-from knownplots import L_TILES
+from holeplots import plots_with_holes
+from knownplots import L_TILES, different
 from plots import CODES, DOMINOES, FEW_CODES, MOST_CODES, MOST_TILES, Plot
 
 # Two orbits, the single tile with a pair, 01's UpLeft and UpRight, tiles of unequal numbers of
@@ -189,6 +190,87 @@ def wide_boards(_draws, _ask):
     return pairs + ["new 256 1", "new 1 256", "new 256 256"]
 
 
+# Numbers far too large for a row or a column. 2^60 rows of 16 would be cell 0 again in 64 bits.
+FAR = [16, 17, 128, 255, 256, 2**16, 2**32, 2**59, 2**60, 2**60 + 1, 2**63, 2**64 - 16, 2**64 - 1]
+
+
+def holes(draws, _ask):
+    """02's request 2, a cell that is fixed: on every marking of small boards, at the corners of large
+    ones, outside, far outside, on random boards, and on what is no board."""
+    commands = holes_of_small_boards() + holes_outside() + random_holes(draws)
+    return different(commands + holes_of_no_boards())
+
+
+def holes_of_small_boards():
+    """Every cell, and the row and the column behind them."""
+    commands = []
+    for width, height in ((2, 2), (3, 1), (1, 3)):
+        cells = list(itertools.product(range(height + 1), range(width + 1)))
+        for plot in markings(width, height):
+            commands += [f"hole {plot.board()} {row} {column}" for row, column in cells]
+    for size in ((1, 1), (3, 2), (2, 3), (4, 3), (3, 4)):
+        board = Plot(*size).board()
+        cells = itertools.product(range(size[1] + 1), range(size[0] + 1))
+        commands += [f"hole {board} {row} {column}" for row, column in cells]
+    return commands
+
+
+def holes_outside():
+    """Corners of large boards, cells beside them and far off; 0 by 0 has no cell."""
+    commands = []
+    for plot in (Plot(16, 16), Plot(16, 1), Plot(1, 16), Plot(15, 16), Plot(16, 15), Plot(5, 9), Plot(1, 1)):
+        last, right = plot.height - 1, plot.width - 1
+        places = [(0, 0), (0, right), (last, 0), (last, right), (last // 2, right // 2)]
+        places += [(last + 1, 0), (0, right + 1), (last + 1, right + 1), (last, right + 1), (last + 1, right)]
+        places += [(far, 0) for far in FAR] + [(0, far) for far in FAR] + [(far, far) for far in FAR]
+        places += [(2**60, right), (2**60 + last, right), (last, 2**64 - 1 - right)]
+        commands += [f"hole {plot.board()} {row} {column}" for row, column in places]
+    for row, column in [(0, 0), (0, 1), (1, 0), (15, 15), (2**60, 0), (2**64 - 1, 2**64 - 1)]:
+        commands.append(f"hole 0 0 0 0 {row} {column}")
+    return commands
+
+
+def random_holes(draws):
+    """Random boards with both kinds of marks: a free cell, a marked one, or any; full boards too."""
+    commands = []
+    for turn in range(240):
+        plot = Plot(1 + draws.below(16), 1 + draws.below(16))
+        plot.fixed = plot.inside() & draws.cells(draws.below(7) - 3)
+        plot.laid = plot.inside() & ~plot.fixed & draws.cells(draws.below(7) - 3)
+        if turn % 24 == 0:
+            plot.laid = plot.inside() & ~plot.fixed
+        wanted = [plot.free(), plot.fixed, plot.laid, plot.inside()][turn % 4] or plot.inside()
+        bits = [bit for bit in range(256) if wanted >> bit & 1]
+        row, column = divmod(draws.one_of(bits), 16)
+        commands.append(f"hole {plot.board()} {row} {column}")
+        if draws.one_in(4):  # the same with row and column exchanged
+            commands.append(f"hole {plot.board()} {column} {row}")
+    return commands
+
+
+def holes_of_no_boards():
+    """4, what is no board, before 15."""
+    boards = ["17 16 0 0", "16 17 0 0", "0 1 0 0", "1 0 0 0", "0 0 1 0", "0 0 0 1", "2 2 1 1", "2 2 4 0"]
+    boards += ["2 2 0 4", "2 2 0 100000000", "16 16 8000 8000", "3 15 0 1" + 60 * "0", "256 1 0 0"]
+    boards += ["4 4 1000f f", "16 1 10000 0", "1 16 2 0", "18446744073709551615 1 0 0"]
+    cells = [(0, 0), (0, 1), (1, 1), (16, 16), (2**60, 0), (2**64 - 1, 2**64 - 1)]
+    return [f"hole {board} {row} {column}" for board in boards for row, column in cells]
+
+
+def children_with_holes(draws, ask):
+    """Children of plots with holes, in order, and of some boards on their way."""
+    commands = []
+    running = plots_with_holes(draws)
+    for _ in range(4):
+        asked = [plot.command() for plot in running]
+        commands += asked
+        children = [answer.split()[1:] for answer in ask(asked)]
+        pairs = [(plot, found) for plot, found in zip(running, children) if found]
+        running = [plot.child(draws.one_of(found)) for plot, found in pairs if draws.below(3)]
+    return different(commands)
+
+
 SECTIONS = [directions, orbits, tiles, sizes, named_tiles, singles]
 SECTIONS += [small_boards, arbitrary_plots, runs, crowded_plots, tied_plots]
 SECTIONS += [open_plots, long_tiles, made_boards, full_boards, refusals, wide_boards]
+LATER_SECTIONS = [holes, children_with_holes]

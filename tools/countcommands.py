@@ -12,6 +12,7 @@ import plots
 import tilings
 from answers import refusal
 from cases import MOST_TILINGS
+from holeplots import counted_with_holes
 from knownplots import bare_plots, different, has_few_sequences, known
 from plots import MOST_CODES, MOST_TILES, Plot, stop
 
@@ -49,6 +50,15 @@ def counted_plots(draws, ask):
     return commands
 
 
+def with_exact_rooms(plot, weight):
+    """Commands with the rooms that a plot fills, and with one less."""
+    largest, nodes, edges = weight.largest, weight.nodes, weight.edges
+    layers, graph = plot.command("layers"), plot.command("graph")
+    commands = [f"{layers} {largest}", f"{layers} {largest - 1}"]
+    commands += [f"{graph} {nodes} {edges}", f"{graph} {nodes - 1} {edges}"]
+    return commands + [f"{graph} {nodes} {edges - 1}", f"{graph} {nodes - 1} {edges - 1}"]
+
+
 def exact_rooms(draws, ask):
     """Rooms that a plot fills, and rooms of one less; no room at all."""
     drawn = [plots.counted_plot(draws, 6) for _ in range(300)]
@@ -56,11 +66,7 @@ def exact_rooms(draws, ask):
     chosen = [(plot, weight) for plot, weight in pairs if is_small(weight) and weight.edges > 3]
     commands = []
     for plot, weight in chosen[:70]:
-        largest, nodes, edges = weight.largest, weight.nodes, weight.edges
-        layers, graph = plot.command("layers"), plot.command("graph")
-        commands += [f"{layers} {largest}", f"{layers} {largest - 1}"]
-        commands += [f"{graph} {nodes} {edges}", f"{graph} {nodes - 1} {edges}"]
-        commands += [f"{graph} {nodes} {edges - 1}", f"{graph} {nodes - 1} {edges - 1}"]
+        commands += with_exact_rooms(plot, weight)
     for plot in bare_plots() + [plot for plot, _ in chosen[:6]]:
         layers, graph = plot.command("layers"), plot.command("graph")
         commands += [f"{layers} 0", f"{layers} 1", f"{graph} 0 0", f"{graph} 0 9"]
@@ -258,6 +264,27 @@ def changed_graphs(draws, ask):
     return different(case.command() for case in cases)
 
 
+def counts_with_holes(draws, ask):
+    """Both counts of plots with holes, which are equal, the graphs that are small, and all tilings."""
+    found = counted_with_holes(draws, ask)
+    weights = plots.weights_of(ask, [plot for plot, _ in found])
+    commands = []
+    for (plot, count), weight in zip(found, weights):
+        commands.append(plot.command("layers"))
+        if not is_small(weight):
+            continue
+        graph = plot.command("graph")
+        if ask([plots.with_rooms(graph)])[0].split()[0] != str(count):
+            stop(f"{graph}: the layer count is {count}")
+        commands.append(graph)
+        if weight.edges and draws.one_in(8):
+            commands += with_exact_rooms(plot, weight)
+        if count <= MOST_TILINGS and len(ask([plot.command("tilings")])[0]) < MOST_ANSWER // 4:
+            commands.append(plot.command("tilings"))
+    return different(commands)
+
+
 SECTIONS = [known_plots, counted_plots, exact_rooms, count_refusals, large_counts]
 SECTIONS += [known_tilings, random_tilings, every_number, damaged_graphs, great_counts]
 SECTIONS += [changed_graphs]
+LATER_SECTIONS = [counts_with_holes]

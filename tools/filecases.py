@@ -24,10 +24,10 @@ LATER = {
 }
 PLACES = [b""] + [start(text) for text in LATER]
 
-# In lower case, with letters exchanged, of later kinds of records, with letters of two marks, and
-# with bytes that are no letters.
+# In lower case, with letters exchanged, of the archive's records, with letters of two marks, and with
+# bytes that are no letters. More of them, near HO, stand in holecases.py.
 UNKNOWN = [b"rb", b"lb", b"tb", b"ti", b"or", b"en", b"Rb", b"tI", b"eN"]
-UNKNOWN += [b"BR", b"BL", b"BT", b"IT", b"RO", b"NE", b"HO", b"TY"]
+UNKNOWN += [b"BR", b"BL", b"BT", b"IT", b"RO", b"NE", b"OH", b"TY"]
 UNKNOWN += [b"RI", b"LI", b"OB", b"EB", b"TR", b"TN", b"ON", b"ER"]
 UNKNOWN += [b"\x00\x00", b"\xff\xff", b"R\x00", b"\x00B", b"\nE", b"E\n", b"\xd2\xc2"]
 

@@ -8,10 +8,13 @@ import sys
 
 sys.dont_write_bytecode = True
 import filecases
+import holecases
+import holecounts
 import plotfiles
 import plots
 import tilings
 from cases import MOST_TILINGS
+from holeplots import counted_with_holes, with_unequal_tiles
 from knownplots import KNOWN_PLOTS, bare_plots, different, has_few_sequences, known
 from plots import DOMINOES, MOST_CODES, MOST_TILES, Plot, stop
 
@@ -19,11 +22,18 @@ MADE_BY = {"RB": "new", "LB": "lb", "TB": "tb"}  # the commands that make a boar
 
 
 def plot_of(ask, file):
-    """The board and the tiles of a file that is read, as in commands, and the free cells."""
+    """The board and the tiles of a file that is read, as in commands, and the free cells.
+
+    Holes are behind the board, and each takes a free cell.
+    """
     (mark, numbers), *others = plotfiles.bodies(file)
     width, height, fixed, free = ask([f"{MADE_BY[mark]} {numbers[0]} {numbers[1]}"])[0].split()
+    holes = [body for mark, body in others if mark == plotfiles.HOLE]
+    for row, column in holes:
+        fixed = f"{int(fixed, 16) | plots.cell(row, column):x}"
+    free = int(free) - len(holes)
     tiles = []
-    for mark, body in others:
+    for mark, body in others[len(holes) :]:
         path = "".join(map(str, body[1:])) or "-"
         tiles += ask([f"orbit {path}"])[0].split(",") if mark == "OR" else [path]
     return f"{width} {height} {fixed} 0", tiles, free
@@ -75,7 +85,7 @@ def held_files(ask, pairs):
     for (expected, _), command, answer in zip(pairs, commands, answers):
         is_refusal = isinstance(expected, int)
         if answer != f"refused {expected}|" if is_refusal else expected not in answer:
-            stop(f"{command}: 01 has {expected}, the oracle {answer}")
+            stop(f"{command}: the documents have {expected}, the oracle {answer}")
     return different(commands)
 
 
@@ -129,6 +139,54 @@ def random_files(draws, ask):
     """Random files, three of five damaged."""
     files = [plotfiles.some_file(draws)[1] for _ in range(200)]
     return different(held_texts(ask, files)[0])
+
+
+def refused_holes(_draws, ask):
+    """Files with holes for each refusal at each place, with others that are read."""
+    pairs = [*holecases.hole_marks(), *holecases.misplaced_holes(), *holecases.cut_holes()]
+    pairs += [*holecases.every_cell(), *holecases.bad_cells(), *holecases.exchanged_cells()]
+    return held_files(ask, pairs)
+
+
+def damaged_holes(_draws, ask):
+    """Good files with holes, cut at every length or with a byte changed; the longest files."""
+    pairs = [*holecases.cut_hole_files(), *holecases.changed_hole_files()]
+    return held_files(ask, pairs + [*holecases.long_hole_files()])
+
+
+def read_holes(draws, ask):
+    """Files with holes by their counts, with all cells fixed, of all kinds of boards and tiles.
+
+    An L or T board and the rectangle with its marks as holes have one text.
+    """
+    for shaped, holed in holecounts.shaped_by_holes():
+        texts = ask([plotfiles.command(shaped), plotfiles.command(holed)])
+        if texts[0] != texts[1]:
+            stop(f"{plotfiles.command(holed)}: the text is not that of {shaped.hex()}: {texts}")
+    pairs = [*holecounts.counted_hole_files(), *holecounts.large_hole_files()]
+    pairs += [*holecases.built_over(), *holecounts.with_other_tiles()]
+    pairs += [("|layers ", file) for both in holecounts.shaped_by_holes() for file in both]
+    return held_files(ask, pairs + [*holecounts.holes_in_every_shape(draws)])
+
+
+def random_holes(draws, ask):
+    """Random files with holes, two of five damaged."""
+    files = [plotfiles.some_file_with_holes(draws)[1] for _ in range(220)]
+    return different(held_texts(ask, files)[0])
+
+
+def searches_with_holes(draws, ask):
+    """One tiling of plots with holes, with and without rooms; with equal tiles as the counts say."""
+    unequal = with_unequal_tiles(draws)
+    searched(ask, unequal)
+    commands = [plot.command("one") for plot in unequal]
+    for plot, count in counted_with_holes(draws, ask):
+        if (searched(ask, [plot]) == ["none"]) != (count == 0):
+            stop(f"{plot.command('one')}: the count is {count}")
+        commands.append(plot.command("one"))
+        if draws.one_in(4):
+            commands += with_search_rooms(plot)
+    return different(commands)
 
 
 # How many random plots of a kind are searched for one tiling: by the tiles' numbers of cells and by
@@ -249,3 +307,4 @@ def search_refusals():
 
 SECTIONS = [known_files, refused_files, damaged_files, read_files, random_files]
 SECTIONS += [single_tilings]
+LATER_SECTIONS = [refused_holes, damaged_holes, read_holes, random_holes, searches_with_holes]

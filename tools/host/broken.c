@@ -1,5 +1,6 @@
-/* The library with one error in a call on plots, by broken.h. */
-#include "broken.h"
+/* The library with one error in a call on plots, by broken.h; those in records HO stand in
+   brokenholes.h. */
+#include "brokenholes.h"
 
 /* The parameters of a board and tiles, and the same handed on. */
 #define PLOT uint64_t width, uint64_t height, const uint64_t *marks, size_t marks_len, \
@@ -15,8 +16,6 @@ uint64_t __real_cuttings_tiling(IN(nodes), IN(counts), IN(edges), IN(graph), IN(
                                 OUT(answer));
 uint64_t __real_cuttings_orbit(const uint8_t *tile, size_t tile_len, uint8_t *tiles, size_t tiles_len,
                                OUT(answer));
-uint64_t __real_cuttings_read_plot(const uint8_t *file, size_t file_len, OUT(board), uint8_t *tiles,
-                                   size_t tiles_len, OUT(answer));
 
 uint64_t __wrap_cuttings_place_tile(PLOT, OUT(out), OUT(answer))
 {
@@ -180,6 +179,8 @@ uint64_t __wrap_cuttings_orbit(const uint8_t *tile, size_t tile_len, uint8_t *ti
 uint64_t __wrap_cuttings_read_plot(const uint8_t *file, size_t file_len, OUT(board), uint8_t *tiles,
                                    size_t tiles_len, OUT(answer))
 {
+    if (error() >= FIRST_HOLE_ERROR)
+        return read_with_hole_error(file, file_len, ON(board), tiles, tiles_len, ON(answer));
     uint64_t r = __real_cuttings_read_plot(file, file_len, ON(board), tiles, tiles_len, ON(answer));
     uint64_t n = r ? 0 : answer[0];
     if (is(47) && !r && board[0] > 0)

@@ -14,10 +14,15 @@
 #define IN(name) const uint64_t *name, size_t name##_len
 #define ON(name) name, name##_len
 
-static int is(int number)
+static int error(void)
 {
     const char *text = getenv("ERROR");
-    return text != NULL && atoi(text) == number;
+    return text == NULL ? 0 : atoi(text);
+}
+
+static int is(int number)
+{
+    return error() == number;
 }
 
 static void exchange(void *a, void *b, size_t bytes)

@@ -5,8 +5,8 @@
    A call runs on a thread of its own in a process of its own, PROGRAM in a process with such a limit,
    with 16 KB of stack, 32 KB and so on, until it ends well on every one of its inputs. These are the
    deepest: 16 by 16 with the single tile (256 layers, 257 nodes, 257 boards), 64 tiles of 32 codes and
-   both; the orbit of such a tile; the longest plot file; an archive file of 1,000 records, all of one
-   id. The words are lent from outside the stack.
+   both; the orbit of such a tile; the longest plot file, in which all cells are fixed; an archive file
+   of 1,000 records, all of one id. The words are lent from outside the stack.
    Printed: the name and the least KB. Exit status: 1 if more than 512 KB are taken or something else
    fails. */
 #define _GNU_SOURCE
@@ -87,11 +87,16 @@ static uint64_t orbit_of(void)
     return cuttings_orbit(tiles + TILE * (number - 1), TILE, SLICE(orbit), SLICE(answer));
 }
 
-/* The plot file of 16 by 16 with these tiles. */
-static size_t write_file(uint8_t *file)
+/* The plot file of 16 by 16 with these tiles, and with its first cells fixed. */
+static size_t write_file(uint8_t *file, size_t holes)
 {
     size_t size = 4;
     memcpy(file, "RB\20\20", 4);
+    for (size_t cell = 0; cell < holes; cell++) {
+        uint8_t hole[4] = {'H', 'O', (uint8_t)(cell / 16), (uint8_t)(cell % 16)};
+        memcpy(file + size, hole, 4);
+        size += 4;
+    }
     for (size_t i = 0; i < number; i++) {
         const uint8_t *tile = tiles + TILE * i;
         file[size++] = 'T';
@@ -103,11 +108,11 @@ static size_t write_file(uint8_t *file)
     return size + 2;
 }
 
-static uint8_t file[4 + 35 * TILES + 2];
+static uint8_t file[4 + 4 * 256 + 35 * TILES + 2];
 
 static uint64_t read_plot(void)
 {
-    return cuttings_read_plot(file, write_file(file), SLICE(board), SLICE(tiles_read), SLICE(answer));
+    return cuttings_read_plot(file, write_file(file, 256), SLICE(board), SLICE(tiles_read), SLICE(answer));
 }
 
 static uint64_t write_record(void)
@@ -170,7 +175,7 @@ static int runs_program(size_t size)
 {
     struct rlimit limit = {size, size};
     int ends[2], nowhere = open("/dev/null", O_WRONLY);
-    size_t length = write_file(file);
+    size_t length = write_file(file, 0);
     if (nowhere < 0 || pipe(ends) || write(ends[1], file, length) != (ssize_t)length)
         return 0;
     if (dup2(ends[0], 0) || dup2(nowhere, 1) != 1 || setrlimit(RLIMIT_STACK, &limit))

@@ -113,6 +113,13 @@ pub fn t_board(line: &[u8]) {
     parts::made_board(RectangularBoard::t_board(n, scale));
 }
 
+// hole WIDTH HEIGHT FIXED LAID ROW COLUMN: the board with one more cell fixed.
+pub fn hole(line: &[u8]) {
+    let row = text::decimal_in(field(line, 5)) as usize;
+    let column = text::decimal_in(field(line, 6)) as usize;
+    parts::holed_board(text::board_in(line).with_hole(row, column));
+}
+
 // full WIDTH HEIGHT FIXED LAID: whether no cell is free.
 pub fn full(line: &[u8]) {
     let marked = text::board_in(line).is_all_marked();

@@ -1,6 +1,6 @@
 // Reads commands from standard input, one a line, and writes what crates direction, tile and board
 // answer, one line each: the file stdout has the answers of the Rust for the commands of the file stdin,
-// and document 01's refusals.
+// and the refusals of documents 01 and 02.
 //
 // The form of a line is said in crate replay_text. Another command is a function of commands.rt and a
 // line of `answer` or `answer_board`.
@@ -59,6 +59,8 @@ fn answer_board(line: &[u8], command: &[u8]) {
         commands::l_board(line);
     } else if same(command, b"tb") {
         commands::t_board(line);
+    } else if same(command, b"hole") {
+        commands::hole(line);
     } else if same(command, b"full") {
         commands::full(line);
     } else if same(command, b"children") {

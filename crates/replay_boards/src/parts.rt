@@ -106,6 +106,24 @@ pub fn made_board(answer: MadeBoard) {
     }
 }
 
+// The width, the height, the fixed marks and the laid marks of a board that was made.
+pub fn holed_board(answer: MadeBoard) {
+    let verdict = answer.verdict;
+    let board = answer.board;
+    match verdict {
+        Verdict::Accepted => {
+            write::number(board.width);
+            write::bytes(b" ");
+            write::number(board.height);
+            write::bytes(b" ");
+            write::marks(board.fixed);
+            write::bytes(b" ");
+            write::marks(board.laid);
+        }
+        Verdict::Refused(refusal) => write::refused(refusal),
+    }
+}
+
 // The number of some boards, and the marks of each.
 pub fn boards(words: &[u64], count: usize) {
     write::number(count);

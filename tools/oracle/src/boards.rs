@@ -1,5 +1,5 @@
-//! Answers about a board, and about a board and tiles: children, the layer count, the graph, the
-//! tilings.
+//! Answers about a board, and about a board and tiles: holes, children, the layer count, the graph,
+//! the tilings.
 
 use crate::tiler::Tiler;
 use crate::tiles::free_cells;
@@ -51,6 +51,33 @@ fn check_marks(width: usize, height: usize, fixed: Marks, laid: Marks) -> Result
         }
     }
     Ok(())
+}
+
+/// Fixes a cell through the public `board` field, as document 02, request 2, has it; 15 if the cell is
+/// outside the board or marked already, by either kind of mark.
+pub fn add_hole(b: &mut RectangularBoard, row: usize, column: usize) -> Result<(), u32> {
+    if row >= b.height || column >= b.width || b.board[row][column] {
+        return Err(15);
+    }
+    b.board[row][column] = true;
+    Ok(())
+}
+
+/// `WIDTH HEIGHT FIXED LAID` of a board with one more cell fixed; or `refused 4` for what is no board
+/// by document 01, then `refused 15`.
+pub fn hole(size: (usize, usize), fixed: Marks, laid: Marks, row: usize, column: usize) -> String {
+    let one_is_zero = (size.0 == 0) != (size.1 == 0);
+    if one_is_zero || check_marks(size.0, size.1, fixed, laid).is_err() {
+        return "refused 4".to_string();
+    }
+    let mut b = board_of(size, fixed, laid).unwrap();
+    if let Err(refusal) = add_hole(&mut b, row, column) {
+        return format!("refused {refusal}");
+    }
+    let fixed = Marks::of(&b).without(laid);
+    let set_up = board_of(size, fixed, laid);
+    assert!(set_up.as_ref() == Ok(&b), "the board with a hole is not the board of its marks");
+    format!("{} {} {fixed} {laid}", b.width, b.height)
 }
 
 /// `WIDTH HEIGHT HEX FREE`; or `large`, as the marks of such a board have no number.

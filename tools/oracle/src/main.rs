@@ -78,6 +78,11 @@ fn answer(line: &str) -> Result<String, String> {
         ["full", width, height, fixed, laid] => {
             read_board(width, height, fixed, laid)?.is_all_marked().to_string()
         }
+        ["hole", width, height, fixed, laid, row, column] => {
+            let size = (read_number(width)?, read_number(height)?);
+            let (row, column) = (read_number(row)?, read_number(column)?);
+            boards::hole(size, Marks::read(fixed)?, Marks::read(laid)?, row, column)
+        }
         [name, width, height, fixed, laid, list, ref rooms @ ..] => {
             let board = read_board(width, height, fixed, laid)?;
             let rooms: Result<Vec<_>, _> = rooms.iter().map(|room| read_number(room)).collect();

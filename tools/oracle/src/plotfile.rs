@@ -1,6 +1,7 @@
-//! The reader of a plot file, after the text of document 01: the Rust has no such file. Boards
-//! and orbits are the Rust's.
+//! The reader of a plot file, after the text of document 01, and for the records HO after that of
+//! document 02, request 2: the Rust has no such file. Boards and orbits are the Rust's.
 
+use crate::boards::add_hole;
 use crate::text::DIRECTIONS;
 use crate::tiles::orbit;
 use dcc_tiler::board::RectangularBoard;
@@ -28,11 +29,12 @@ pub fn read_plot(bytes: &[u8]) -> Result<(RectangularBoard, Vec<Tile>), u32> {
     let mut tiles = Vec::new();
     loop {
         let mark = rest.take(2)?;
-        match (mark, &board) {
+        match (mark, &mut board) {
             (b"RB" | b"LB" | b"TB", None) => board = Some(read_board(mark, rest.take(2)?)?),
+            (b"HO", Some(board)) if tiles.is_empty() => read_hole(rest.take(2)?, board)?,
             (b"TI" | b"OR", Some(_)) => add_tiles(mark, &mut rest, &mut tiles)?,
             (b"EN", Some(_)) if rest.0.is_empty() => break,
-            (b"RB" | b"LB" | b"TB" | b"TI" | b"OR" | b"EN", _) => return Err(3),
+            (b"RB" | b"LB" | b"TB" | b"HO" | b"TI" | b"OR" | b"EN", _) => return Err(3),
             _ => return Err(2),
         }
     }
@@ -55,6 +57,11 @@ fn read_board(mark: &[u8], body: &[u8]) -> Result<RectangularBoard, u32> {
         b"LB" => RectangularBoard::l_board(first, second),
         _ => RectangularBoard::t_board(first, second),
     })
+}
+
+/// The body of a record HO: a row and a column.
+fn read_hole(body: &[u8], board: &mut RectangularBoard) -> Result<(), u32> {
+    add_hole(board, body[0] as usize, body[1] as usize)
 }
 
 fn add_tiles(mark: &[u8], rest: &mut Rest, tiles: &mut Vec<Tile>) -> Result<(), u32> {

@@ -1,0 +1,1 @@
+RBHOHOOREN
