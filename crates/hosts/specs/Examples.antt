@@ -327,3 +327,16 @@ marked-board : padded (boardWords (record { width = 16; height = 16; fixed = 1 +
     ≡ 16 ∷ 16 ∷ 1 ∷ 1 ∷ 0 ∷ 0 ∷ 0 ∷ 0 ∷ 0 ∷ 9223372036854775808 ∷ 0 ∷ []
 unfolding padded boardWords
 marked-board = refl
+
+-- 02, request 2: RB 3,2 with HO 1,2. The hole is bit 18 of the fixed marks, which stand behind width and height; a hole outside the board is 15
+hole-plot : readFile (0x52 ∷ 0x42 ∷ 3 ∷ 2 ∷ 0x48 ∷ 0x4F ∷ 1 ∷ 2 ∷ 0x45 ∷ 0x4E ∷ []) 10 2112 1 ≡ given (record { board = record { width = 3; height = 2; fixed = 2 ^ 18; laid = 0 }; tiles = [] })
+unfolding readFile
+hole-plot = refl
+
+hole-board : padded (boardWords (record { width = 3; height = 2; fixed = 2 ^ 18; laid = 0 })) 10 ≡ 3 ∷ 2 ∷ 262144 ∷ replicate 7 0
+unfolding padded boardWords
+hole-board = refl
+
+hole-refused : readFile (0x52 ∷ 0x42 ∷ 3 ∷ 2 ∷ 0x48 ∷ 0x4F ∷ 2 ∷ 1 ∷ 0x45 ∷ 0x4E ∷ []) 10 2112 1 ≡ refused 15
+unfolding readFile
+hole-refused = refl
