@@ -280,7 +280,7 @@ def changed_files():
 
 
 def long_files():
-    """The longest file that is read, 2,246 bytes, and others as long or longer."""
+    """The longest file without holes that is read, 2,246 bytes, and others as long or longer."""
     tiles = [tile("TI", 16 * "32"), tile("TI", 16 * "10")]
     file = start("RB 2 2") + 32 * b"".join(tiles) + EN
     assert len(file) == 2246

@@ -69,7 +69,7 @@ module _ (b : Board) (row column : ℕ) where
 
   -- what both kinds of marks together say of a cell of the rectangle
   module _ (ok : valid b ≡ true) (high : row < b .height) (wide : column < b .width) where
-    pub hole-cell : 16 * row + column < 256
+    hole-cell : 16 * row + column < 256
     hole-cell = omega (arith, valid-width b ok, valid-height b ok)
 
     told : freeAt b there ≡ not (hasCell (marks b) (16 * row + column))

@@ -4,6 +4,7 @@ use mathlib.Core.Bool.{true}
 use mathlib.Core.List.{List, [], _∷_, _++_, map}
 use Prim.Native.Nat.{ℕ, _+_, _-_, _*_, _/_, _^_}
 use lib.IntN.{pos}
+use lib.ListN.{replicate}
 use Rattle.cells.specs.declared.Cells.{Cells}
 use Rattle.cells.specs.Set.{number}
 use Rattle.refusal.specs.Refusal.{Answer, refused, given, mapAnswer, bindAnswer, refusalOf, valueOr}
@@ -70,9 +71,9 @@ corners : (withHole threeByTwo 0 2 ≡ given (record { width = 3; height = 2; fi
 unfolding withHole
 corners = (refl, refl)
 
--- "15 when a cell is outside the board or marked already": below it, beside it, a fixed cell, a laid one, a cell of a board with none. Row 2, column 1 is outside though row 1, column 2 is not
-bad-holes : map (λ (p : ℕ × ℕ). withHole threeByTwo (p .0) (p .1)) ((2, 0) ∷ (0, 3) ∷ (2, 1) ∷ (0, 0) ∷ (0, 1) ∷ []) ++ withHole noBoard 0 0 ∷ []
-    ≡ refused 15 ∷ refused 15 ∷ refused 15 ∷ refused 15 ∷ refused 15 ∷ refused 15 ∷ []
+-- "15 when a cell is outside the board or marked already": below it, beside it, a fixed cell, a laid one, numbers far too large, a cell of a board with none. Row 2, column 1 is outside though row 1, column 2 is not
+bad-holes : map (λ (p : ℕ × ℕ). withHole threeByTwo (p .0) (p .1)) ((2, 0) ∷ (0, 3) ∷ (2, 1) ∷ (0, 0) ∷ (0, 1) ∷ (0, 16) ∷ (16, 0) ∷ (0, 256) ∷ (256, 0) ∷ []) ++ withHole noBoard 0 0 ∷ []
+    ≡ replicate 10 (refused 15)
 unfolding withHole
 bad-holes = refl
 

@@ -34,7 +34,7 @@ module _ (b : Board) (row column : ℕ) where
   pub withHole-bad : valid b ≡ true → freeAt b there ≡ false → withHole b row column ≡ refused 15
   withHole-bad ok e = accepted ok ∙ rw e
 
-  pub withHole-invalid : valid b ≡ false → withHole b row column ≡ refused 4
+  withHole-invalid : valid b ≡ false → withHole b row column ≡ refused 4
   unfolding withHole bindAnswer
   withHole-invalid e = rw (acceptBoard-refused b e)
 
@@ -73,7 +73,7 @@ module _ (b : Board) (p : Position) (ok : So (valid b)) (free : So (freeAt b p))
   within = freeAt-inside b p free
 
   -- a free cell of an accepted board is one of 256, and has no mark
-  pub free-cell-lt : cellOf p < 256
+  free-cell-lt : cellOf p < 256
   free-cell-lt = cellOf-lt (b .width) (b .height) p within (valid-width b ok) (valid-height b ok)
 
   no-marks : (hasCell (b .fixed) (cellOf p) ≡ false) × (hasCell (b .laid) (cellOf p) ≡ false)

@@ -1,8 +1,8 @@
 // Boards: the port of the Rust's board.rs. A board has at most 16 by 16 cells, a size, and two sets
 // of marks, fixed ones and laid ones (Vec<Vec<bool>> in the Rust).
 //
-// The struct holds any numbers, and nothing is asked of a caller: the calls that count cells or choose
-// one test the board and hand on its refusal; `of_marks`, `with_marks`, `marks` and
+// The struct holds any numbers, and nothing is asked of a caller: the calls that count cells, choose
+// one or fix one test the board and hand on its refusal; `of_marks`, `with_marks`, `marks` and
 // `mark_tile_at_position` put sets together, which any numbers have. What each call answers is a
 // definition of specs/Board.antt. The struct is put together in `of_marks` alone.
 use cells::Cells;
@@ -102,14 +102,15 @@ impl RectangularBoard {
         )
     }
 
-    // The board with the cell at a row and a column fixed; refusal 15 for a cell that is outside the
-    // rectangle or has a mark of either kind.
+    // The board with the cell at a row and a column fixed; refusal 4 for a board that is not accepted,
+    // then 15 for a cell that is outside the rectangle or has a mark of either kind. A refusal hands
+    // back the 0 by 0 board.
     pub fn with_hole(self, row: usize, column: usize) -> MadeBoard
         ensures { λ r. ⌜ MakesBoard (withHole (boardOf self) row column) r ⌝ }
     {
         let verdict = self.check();
         match verdict {
-            Verdict::Accepted => holed(self, row, column),
+            Verdict::Accepted => fix_cell(self, row, column),
             Verdict::Refused(refusal) => refused(refusal),
         }
     }
@@ -207,7 +208,7 @@ fn made(width: usize, height: usize, rows: usize, low: usize, high: usize) -> Ma
 }
 
 // An accepted board with the cell at a row and a column fixed, or a refusal.
-fn holed(mut board: RectangularBoard, row: usize, column: usize) -> MadeBoard
+fn fix_cell(mut board: RectangularBoard, row: usize, column: usize) -> MadeBoard
     requires { ⌜ valid (boardOf board) ≡ true ⌝ }
     ensures { λ r. ⌜ MakesBoard (withHole (boardOf board) row column) r ⌝ }
 {

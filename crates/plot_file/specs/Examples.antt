@@ -154,10 +154,10 @@ last-cell : plotIn (ascii "RB" ++ 16 ∷ 16 ∷ ho 15 15 ++ ascii "EN") ≡ give
 unfolding plotIn
 last-cell = refl
 
--- "an HO record after a tile is 3": behind TI and OR, also between holes, with no body behind the mark and with a cell outside the board
-hole-after-tile : map plotIn (behind (ascii "TI" ++ 0 ∷ ascii "HO") ∷ behind (ascii "OR" ++ 0 ∷ ascii "HO") ∷ behind (ho 0 0 ++ ascii "TI" ++ 0 ∷ ho 9 9) ∷ [])
-    ≡ refused 3 ∷ refused 3 ∷ refused 3 ∷ []
-unfolding plotIn
+-- "an HO record after a tile is 3": behind TI and OR, also behind holes, with no body behind the mark and with a cell outside the board; behind one tile, four of an orbit, and two
+hole-after-tile : map plotIn (behind (ascii "TI" ++ 0 ∷ ascii "HO") ∷ behind (ascii "OR" ++ 0 ∷ ascii "HO") ∷ behind (ho 0 0 ++ ascii "TI" ++ 0 ∷ ho 9 9) ∷ behind (ascii "OR" ++ 1 ∷ 3 ∷ ho 0 0) ∷ behind (ascii "TI" ++ 0 ∷ ascii "TI" ++ 0 ∷ ho 0 0) ∷ [])
+    ≡ replicate 5 (refused 3)
+unfolding plotIn rotate reflect
 hole-after-tile = refl
 
 -- a board behind a hole is 3
@@ -172,8 +172,8 @@ unfolding plotIn
 missing-hole-byte = refl
 
 -- "15 when a cell is outside the board": a row, a column, and a column whose number would be that of a cell in the next row; no cell of the 0 by 0 board
-hole-outside : map plotIn ((board3x1 ++ ho 1 0) ∷ (board3x1 ++ ho 0 3) ∷ (ascii "RB" ++ 16 ∷ 2 ∷ ho 0 16) ∷ (board3x1 ++ ho 255 255) ∷ (ascii "RB" ++ 0 ∷ 0 ∷ ho 0 0) ∷ [])
-    ≡ refused 15 ∷ refused 15 ∷ refused 15 ∷ refused 15 ∷ refused 15 ∷ []
+hole-outside : map plotIn ((board3x1 ++ ho 1 0) ∷ (board3x1 ++ ho 0 3) ∷ (ascii "RB" ++ 16 ∷ 2 ∷ ho 0 16) ∷ (board3x1 ++ ho 255 255) ∷ (board3x1 ++ ho 128 0) ∷ (board3x1 ++ ho 0 128) ∷ (ascii "RB" ++ 0 ∷ 0 ∷ ho 0 0) ∷ [])
+    ≡ replicate 7 (refused 15)
 unfolding plotIn
 hole-outside = refl
 

@@ -24,10 +24,10 @@ use Rattle.plot_file.specs.declared.marks.Mark.the-variants.{EN}
 use Rattle.plot_file.specs.PlotFile.{Plot, letters, Step, more, ended, firstRecord, addTiles, laterRecord, onward, records, plotIn}
 use Rattle.plot_file.specs.Records.{BoardRecord, Hole, TileRecord, ti, or, boardBytes, holeBytes, tileBytes, fileOf, boardHeld, place, directions, tilesHeld, Holds}
 use Rattle.plot_file.specs.RecordLaws.{length-letters, TileRead, HoleRead, Left, laterRecord-left, laterRecord-tile, laterRecord-hole, laterRecord-end, records-step}
-use Rattle.plot_file.specs.HoleLaws.{holed-none, Dug, dug-none, dug-more, dug-first, dug-snoc, dug-laid, dug-lt, Counted, dug-counted, dug-few}
+use Rattle.plot_file.specs.HoleLaws.{holed-none, WithHoles, with-holes-none, with-holes-more, with-holes-first, with-holes-snoc, with-holes-laid, with-holes-lt, Counted, with-holes-counted, with-holes-few}
 use Rattle.plot_file.specs.FirstRecordLaws.{plotOf, First, firstRecord-given, firstRecord-board, boardHeld-made}
 
--- ---- the records behind it
+-- ---- the records behind the board's
 
 orbit-some : (p : Path) → 1 ≤ length (orbit p)
 orbit-some p = go (orbit p) (orbit-self p)
@@ -73,7 +73,7 @@ record Run (plot : Plot) (bytes : List ℕ) (last : Plot) : Type 0 where
   run : List TileRecord
   is : bytes ≡ flatMap holeBytes holes ++ (flatMap tileBytes run ++ letters EN)
   before : 0 < length (plot .tiles) → holes ≡ []
-  dug : Dug (plot .board) holes (last .board)
+  dug : WithHoles (plot .board) holes (last .board)
   paths : (t : TileRecord) → Mem t run → Fine t
   all : last .tiles ≡ plot .tiles ++ flatMap tilesHeld run
   few : length (plot .tiles) ≤ 64 → length (last .tiles) ≤ 64
@@ -89,7 +89,7 @@ run-end plot h =
       run = [];
       is = refl;
       before = λ k. refl;
-      dug = dug-none (plot .board) h;
+      dug = with-holes-none (plot .board) h;
       paths = λ t m. absurd (not-nil m);
       all = sym (append-nil (plot .tiles));
       few = λ k. k;
@@ -107,7 +107,7 @@ run-tile plot t rest last h few r =
       run = t ∷ r .run;
       is = ap (λ (l : List ℕ). tileBytes t ++ l) is ∙ sym (append-assoc (tileBytes t) (flatMap tileBytes (r .run)) (letters EN));
       before = λ k. refl;
-      dug = subst (λ (l : List Hole). Dug (plot .board) l (last .board)) none (r .dug);
+      dug = subst (λ (l : List Hole). WithHoles (plot .board) l (last .board)) none (r .dug);
       paths = fine-cons t (r .run) h (r .paths);
       all = r .all ∙ append-assoc (plot .tiles) (tilesHeld t) (flatMap tilesHeld (r .run));
       few = λ k. r .few few;
@@ -122,7 +122,7 @@ run-hole plot hole rest last none ok free r =
       run = r .run;
       is = ap (λ (l : List ℕ). holeBytes hole ++ l) (r .is) ∙ sym (append-assoc (holeBytes hole) (flatMap holeBytes (r .holes)) (flatMap tileBytes (r .run) ++ letters EN));
       before = λ k. absurd (omega (arith, ap length none));
-      dug = dug-more (plot .board) hole (r .holes) (last .board) ok free (r .dug);
+      dug = with-holes-more (plot .board) hole (r .holes) (last .board) ok free (r .dug);
       paths = r .paths;
       all = r .all;
       few = r .few;
@@ -179,7 +179,7 @@ records-run (suc n) plot bytes last h e =
 -- ---- files that begin with a board record, holes and tile records
 
 -- holes in front are read, and the records behind them are next
-records-holes : (n : ℕ) (hs : List Hole) (b c : Board) (rest : List ℕ) → length (flatMap holeBytes hs ++ rest) ≤ n → So (valid b) → b .fixed < 2 ^ 256 → Dug b hs c
+records-holes : (n : ℕ) (hs : List Hole) (b c : Board) (rest : List ℕ) → length (flatMap holeBytes hs ++ rest) ≤ n → So (valid b) → b .fixed < 2 ^ 256 → WithHoles b hs c
     → records n (plotOf b []) (flatMap holeBytes hs ++ rest) ≡ records n (plotOf c []) rest
 unfolding flatMap onward
 records-holes n [] b c rest h ok lt d = ap (λ (x : Board). records n (plotOf x []) rest) (sym (d .fixes ∙ holed-none b lt))
@@ -187,7 +187,7 @@ records-holes n (hole ∷ hs) b c rest h ok lt d =
     let p = place hole in
     let back : List ℕ = flatMap holeBytes hs ++ rest in
     let join = append-assoc (holeBytes hole) (flatMap holeBytes hs) rest in
-    let first = dug-first b hole hs c ok d in
+    let first = with-holes-first b hole hs c ok d in
     records-step n (plotOf b []) (holeBytes hole ++ flatMap holeBytes hs ++ rest) h
     ∙ ap (λ (l : List ℕ). onward (records n) (laterRecord (plotOf b []) l)) join
     ∙ ap (onward (records n)) (laterRecord-hole hole (plotOf b []) (fixAt b p) back refl (withHole-given b (hole .row) (hole .column) ok (first .0)))
@@ -222,14 +222,14 @@ none-left : (left holes before : ℕ) → left + holes ≡ before → (left ≡ 
 none-left left holes before e = (λ q. omega arith, λ q. omega arith)
 
 module _ (first : BoardRecord) (hs : List Hole) (ts : List TileRecord) (plot : Plot) (h : Holds first hs ts plot) where
-  pub holds-dug : Dug (h .outline) hs (plot .board)
-  holds-dug = record { free = h .free; once = h .once; fixes = h .fixes }
+  pub holds-with-holes : WithHoles (h .outline) hs (plot .board)
+  holds-with-holes = record { free = h .free; once = h .once; fixes = h .fixes }
 
   pub holds-counted : Counted (h .outline) hs (plot .board)
-  holds-counted = let made = boardHeld-made first (h .outline) (h .size) in dug-counted (h .outline) hs (plot .board) (made .0) (made .2) holds-dug
+  holds-counted = let made = boardHeld-made first (h .outline) (h .size) in with-holes-counted (h .outline) hs (plot .board) (made .0) (made .2) holds-with-holes
 
   pub holds-few : length hs ≤ 256
-  holds-few = let made = boardHeld-made first (h .outline) (h .size) in dug-few (h .outline) hs (plot .board) (made .0) (made .2) holds-dug
+  holds-few = let made = boardHeld-made first (h .outline) (h .size) in with-holes-few (h .outline) hs (plot .board) (made .0) (made .2) holds-with-holes
 
   -- no cell is free where there are as many holes as there were free cells
   pub holds-full : isFull (plot .board) ≡ true ↔ (length hs ≡ freeCount (h .outline))
@@ -243,7 +243,7 @@ module _ (first : BoardRecord) (hs : List Hole) (ts : List TileRecord) (plot : P
   unfolding flatMap
   holds-hole hole f =
       let made = boardHeld-made first (h .outline) (h .size) in
-      let dug = dug-snoc (h .outline) hs (plot .board) hole (made .0) (made .2) holds-dug f in
+      let dug = with-holes-snoc (h .outline) hs (plot .board) hole (made .0) (made .2) holds-with-holes f in
       record {
         outline = h .outline;
         size = h .size;
@@ -269,7 +269,7 @@ module _ (first : BoardRecord) (hs : List Hole) (ts : List TileRecord) (plot : P
       let long : length after ≤ n = omega (arith, length-append (boardBytes first) after) in
       let short : length back ≤ n = omega (arith, length-append (flatMap holeBytes hs) back) in
       ap (onward (records n)) (firstRecord-board first (h .outline) after (h .size))
-      ∙ records-holes n hs (h .outline) (plot .board) back long (made .0) (made .2) holds-dug
+      ∙ records-holes n hs (h .outline) (plot .board) back long (made .0) (made .2) holds-with-holes
       ∙ records-tiles n ts (plotOf (plot .board) []) rest short (h .paths) few
       ∙ ap (λ (l : List Path). records n (plotOf (plot .board) l) rest) (sym (h .all))
 
@@ -359,7 +359,7 @@ accepted-plot file plot e =
     let h = r .4 in
     let made = boardHeld-made (r .0) (h .outline) (h .size) in (
       holds-counted (r .0) (r .1) (r .2) plot h .accepted,
-      dug-laid (h .outline) (plot .board) (r .1) (holds-dug (r .0) (r .1) (r .2) plot h) ∙ made .1,
+      with-holes-laid (h .outline) (plot .board) (r .1) (holds-with-holes (r .0) (r .1) (r .2) plot h) ∙ made .1,
       h .few,
       λ q m.
           let k = mem-flatMap tilesHeld (r .2) q .0 (subst (Mem q) (h .all) m) in
@@ -368,4 +368,4 @@ accepted-plot file plot e =
 
 pub accepted-fixed : (file : List ℕ) (plot : Plot) → plotIn file ≡ given plot → plot .board .fixed < 2 ^ 256
 accepted-fixed file plot e =
-    let r = accepted-iff file plot .0 e in dug-lt (r .4 .outline) (plot .board) (r .1) (holds-dug (r .0) (r .1) (r .2) plot (r .4))
+    let r = accepted-iff file plot .0 e in with-holes-lt (r .4 .outline) (plot .board) (r .1) (holds-with-holes (r .0) (r .1) (r .2) plot (r .4))

@@ -67,7 +67,7 @@ firstRecord-board (tb a b) board rest e = firstRecord-mark TB (a ∷ b ∷ rest)
 -- ---- the board of the first record
 
 -- accepted, with no laid marks and with fixed marks that are a set of 256 cells
-abbrev pub Made : Board → Type 0
+abbrev Made : Board → Type 0
 Made b = (valid b ≡ true) × (b .laid ≡ 0) × (b .fixed < 2 ^ 256)
 
 shaped-made : (w h rows low high : ℕ) (b : Board) → shaped w h rows low high ≡ given b → Made b

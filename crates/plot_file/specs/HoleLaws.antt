@@ -1,4 +1,4 @@
--- Laws of lists of holes: that holes are different free cells of a board is that each can be fixed after those before it (`dug-more`, `dug-first`), and the board that
+-- Laws of lists of holes: that holes are different free cells of a board is that each can be fixed after those before it (`with-holes-more`, `with-holes-first`), and the board that
 -- this leaves is the board with all of them (`holed`); what that board has; holes with the cell numbers below n. Rests on `Records` and the laws of a board with a hole.
 -- Assumes nothing.
 use mathlib.Core.Path.{_≡_, refl, sym, ap, _∙_, subst}
@@ -30,12 +30,12 @@ use Rattle.plot_file.specs.RecordLaws.{length-holeBytes}
 -- ---- the board with holes
 
 -- its marks are those before and those of the holes
-pub holed-fixed : (b : Board) (holes : List Hole) (cell : ℕ) → cell < 256 → hasCell (holed b holes .fixed) cell ≡ (hasCell (b .fixed) cell || isHole holes cell)
+holed-fixed : (b : Board) (holes : List Hole) (cell : ℕ) → cell < 256 → hasCell (holed b holes .fixed) cell ≡ (hasCell (b .fixed) cell || isHole holes cell)
 unfolding holed
 holed-fixed b holes cell h =
     hasCell-unionOf (b .fixed) (setOf (isHole holes)) cell h ∙ ap (λ t. hasCell (b .fixed) cell || t) (hasCell-setOf (isHole holes) cell h)
 
-pub holed-lt : (b : Board) (holes : List Hole) → holed b holes .fixed < 2 ^ 256
+holed-lt : (b : Board) (holes : List Hole) → holed b holes .fixed < 2 ^ 256
 unfolding holed
 holed-lt b holes = unionOf-lt (b .fixed) (setOf (isHole holes))
 
@@ -68,7 +68,7 @@ or-assoc false y z = refl
 
 module _ (b : Board) (hole : Hole) (ok : So (valid b)) (free : So (freeAt b (place hole))) where
   -- the first hole, then the others
-  pub holed-more : (holes : List Hole) → holed (fixAt b (place hole)) holes ≡ holed b (hole ∷ holes)
+  holed-more : (holes : List Hole) → holed (fixAt b (place hole)) holes ≡ holed b (hole ∷ holes)
   unfolding holed fixAt
   holed-more holes =
       fixing-ext b (holed (fixAt b (place hole)) holes .fixed) (holed b (hole ∷ holes) .fixed) (holed-lt (fixAt b (place hole)) holes) (holed-lt b (hole ∷ holes)) same
@@ -81,7 +81,7 @@ module _ (b : Board) (hole : Hole) (ok : So (valid b)) (free : So (freeAt b (pla
           ∙ sym (holed-fixed b (hole ∷ holes) c i ∙ ap (λ t. hasCell (b .fixed) c || t) (isHole-cons hole holes c))
 
 -- two holes with one cell, both free, are one
-pub hole-once : (b : Board) (h g : Hole) → So (valid b) → So (freeAt b (place h)) → So (freeAt b (place g)) → cellOf (place h) ≡ cellOf (place g) → h ≡ g
+hole-once : (b : Board) (h g : Hole) → So (valid b) → So (freeAt b (place h)) → So (freeAt b (place g)) → cellOf (place h) ≡ cellOf (place g) → h ≡ g
 hole-once b h g ok p q e =
     let same = cellOf-inj (b .width) (b .height) (place h) (place g) (freeAt-inside b (place h) p) (freeAt-inside b (place g) q) (valid-width b ok) e in
     ap (λ (x : Position). record { row = natAbs (x .row); column = natAbs (x .col) }) same
@@ -89,13 +89,13 @@ hole-once b h g ok p q e =
 -- ---- holes that can be fixed, one after another
 
 -- different free cells of a board, and the board with all of them
-pub record Dug (b : Board) (holes : List Hole) (c : Board) : Type 0 where
+pub record WithHoles (b : Board) (holes : List Hole) (c : Board) : Type 0 where
   pub free : (hole : Hole) → Mem hole holes → So (freeAt b (place hole))
   pub once : Once holes
   pub fixes : c ≡ holed b holes
 
-pub dug-none : (b : Board) → b .fixed < 2 ^ 256 → Dug b [] b
-dug-none b h = record { free = λ hole m. absurd (not-nil m); once = tt; fixes = sym (holed-none b h) }
+pub with-holes-none : (b : Board) → b .fixed < 2 ^ 256 → WithHoles b [] b
+with-holes-none b h = record { free = λ hole m. absurd (not-nil m); once = tt; fixes = sym (holed-none b h) }
 
 -- what is free with a cell fixed was free before, and is another cell
 module _ (b : Board) (p : Position) (ok : So (valid b)) (free : So (freeAt b p)) where
@@ -109,8 +109,8 @@ module _ (b : Board) (p : Position) (ok : So (valid b)) (free : So (freeAt b p))
       fixAt-free b p ok free q ∙ and-eq-true-iff (freeAt b q) (not (eqb (cellOf p) (cellOf q))) .1 (f, ap not (ne-eqb (cellOf p) (cellOf q) ne))
 
 module _ (b : Board) (hole : Hole) (holes : List Hole) (c : Board) (ok : So (valid b)) where
-  pub dug-more : So (freeAt b (place hole)) → Dug (fixAt b (place hole)) holes c → Dug b (hole ∷ holes) c
-  dug-more f d =
+  pub with-holes-more : So (freeAt b (place hole)) → WithHoles (fixAt b (place hole)) holes c → WithHoles b (hole ∷ holes) c
+  with-holes-more f d =
       record {
         free = λ g m.
             ⊎-elim (λ e. subst (λ (x : Hole). So (freeAt b (place x))) (sym e) f) (λ k. free-before b (place hole) ok f (place g) (d .free g k) .0) (cases-cons m);
@@ -118,8 +118,8 @@ module _ (b : Board) (hole : Hole) (holes : List Hole) (c : Board) (ok : So (val
         fixes = d .fixes ∙ holed-more b hole ok f holes;
       }
 
-  pub dug-first : Dug b (hole ∷ holes) c → So (freeAt b (place hole)) × Dug (fixAt b (place hole)) holes c
-  dug-first d =
+  pub with-holes-first : WithHoles b (hole ∷ holes) c → So (freeAt b (place hole)) × WithHoles (fixAt b (place hole)) holes c
+  with-holes-first d =
       let f = d .free hole (here refl) in (
         f,
         record {
@@ -132,35 +132,35 @@ module _ (b : Board) (hole : Hole) (holes : List Hole) (c : Board) (ok : So (val
       )
 
 -- one hole more behind the others
-pub dug-snoc : (b : Board) (holes : List Hole) (c : Board) (hole : Hole) → So (valid b) → b .fixed < 2 ^ 256 → Dug b holes c → So (freeAt c (place hole))
-    → Dug b (holes ++ hole ∷ []) (fixAt c (place hole))
-dug-snoc b [] c hole ok h d f =
+pub with-holes-snoc : (b : Board) (holes : List Hole) (c : Board) (hole : Hole) → So (valid b) → b .fixed < 2 ^ 256 → WithHoles b holes c → So (freeAt c (place hole))
+    → WithHoles b (holes ++ hole ∷ []) (fixAt c (place hole))
+with-holes-snoc b [] c hole ok h d f =
     let same : c ≡ b = d .fixes ∙ holed-none b h in
     let free : So (freeAt b (place hole)) = subst (λ (x : Board). So (freeAt x (place hole))) same f in
-    subst (λ (x : Board). Dug b (hole ∷ []) (fixAt x (place hole))) (sym same)
-    (dug-more b hole [] (fixAt b (place hole)) ok free (dug-none (fixAt b (place hole)) (fixAt-lt b (place hole) ok free h)))
-dug-snoc b (g ∷ holes) c hole ok h d f =
-    let first = dug-first b g holes c ok d in
+    subst (λ (x : Board). WithHoles b (hole ∷ []) (fixAt x (place hole))) (sym same)
+    (with-holes-more b hole [] (fixAt b (place hole)) ok free (with-holes-none (fixAt b (place hole)) (fixAt-lt b (place hole) ok free h)))
+with-holes-snoc b (g ∷ holes) c hole ok h d f =
+    let first = with-holes-first b g holes c ok d in
     let p = place g in
-    dug-more b g (holes ++ hole ∷ []) (fixAt c (place hole)) ok (first .0)
-    (dug-snoc (fixAt b p) holes c hole (fixAt-valid b p ok (first .0)) (fixAt-lt b p ok (first .0) h) (first .1) f)
+    with-holes-more b g (holes ++ hole ∷ []) (fixAt c (place hole)) ok (first .0)
+    (with-holes-snoc (fixAt b p) holes c hole (fixAt-valid b p ok (first .0)) (fixAt-lt b p ok (first .0) h) (first .1) f)
 
 -- ---- what the board with holes has
 
-module _ (b c : Board) (holes : List Hole) (d : Dug b holes c) where
-  pub dug-fixed : (cell : ℕ) → cell < 256 → hasCell (c .fixed) cell ≡ (hasCell (b .fixed) cell || isHole holes cell)
-  dug-fixed cell h = ap (λ (x : Board). hasCell (x .fixed) cell) (d .fixes) ∙ holed-fixed b holes cell h
+module _ (b c : Board) (holes : List Hole) (d : WithHoles b holes c) where
+  pub with-holes-fixed : (cell : ℕ) → cell < 256 → hasCell (c .fixed) cell ≡ (hasCell (b .fixed) cell || isHole holes cell)
+  with-holes-fixed cell h = ap (λ (x : Board). hasCell (x .fixed) cell) (d .fixes) ∙ holed-fixed b holes cell h
 
-  pub dug-size : (c .width ≡ b .width) × (c .height ≡ b .height)
+  pub with-holes-size : (c .width ≡ b .width) × (c .height ≡ b .height)
   unfolding holed
-  dug-size = (ap (λ (x : Board). x .width) (d .fixes), ap (λ (x : Board). x .height) (d .fixes))
+  with-holes-size = (ap (λ (x : Board). x .width) (d .fixes), ap (λ (x : Board). x .height) (d .fixes))
 
-  pub dug-laid : c .laid ≡ b .laid
+  pub with-holes-laid : c .laid ≡ b .laid
   unfolding holed
-  dug-laid = ap (λ (x : Board). x .laid) (d .fixes)
+  with-holes-laid = ap (λ (x : Board). x .laid) (d .fixes)
 
-  pub dug-lt : c .fixed < 2 ^ 256
-  dug-lt = subst (λ (x : Board). x .fixed < 2 ^ 256) (sym (d .fixes)) (holed-lt b holes)
+  pub with-holes-lt : c .fixed < 2 ^ 256
+  with-holes-lt = subst (λ (x : Board). x .fixed < 2 ^ 256) (sym (d .fixes)) (holed-lt b holes)
 
 -- it is accepted, and each hole is one fixed mark more and one free cell less
 pub record Counted (b : Board) (holes : List Hole) (c : Board) : Type 0 where
@@ -168,22 +168,22 @@ pub record Counted (b : Board) (holes : List Hole) (c : Board) : Type 0 where
   pub marks : size (c .fixed) ≡ size (b .fixed) + length holes
   pub left : freeCount c + length holes ≡ freeCount b
 
-pub dug-counted : (b : Board) (holes : List Hole) (c : Board) → So (valid b) → b .fixed < 2 ^ 256 → Dug b holes c → Counted b holes c
-dug-counted b [] c ok h d =
+pub with-holes-counted : (b : Board) (holes : List Hole) (c : Board) → So (valid b) → b .fixed < 2 ^ 256 → WithHoles b holes c → Counted b holes c
+with-holes-counted b [] c ok h d =
     let same : c ≡ b = d .fixes ∙ holed-none b h in
     subst (Counted b []) (sym same) (record { accepted = ok; marks = sym (add-zero (size (b .fixed))); left = add-zero (freeCount b) })
-dug-counted b (hole ∷ holes) c ok h d =
-    let first = dug-first b hole holes c ok d in
+with-holes-counted b (hole ∷ holes) c ok h d =
+    let first = with-holes-first b hole holes c ok d in
     let p = place hole in
-    let r = dug-counted (fixAt b p) holes c (fixAt-valid b p ok (first .0)) (fixAt-lt b p ok (first .0) h) (first .1) in
+    let r = with-holes-counted (fixAt b p) holes c (fixAt-valid b p ok (first .0)) (fixAt-lt b p ok (first .0) h) (first .1) in
     record {
       accepted = r .accepted;
       marks = omega (arith, r .marks, fixAt-size b p ok (first .0));
       left = omega (arith, r .left, fixAt-count b p ok (first .0));
     }
 
-pub dug-few : (b : Board) (holes : List Hole) (c : Board) → So (valid b) → b .fixed < 2 ^ 256 → Dug b holes c → length holes ≤ 256
-dug-few b holes c ok h d = omega (arith, dug-counted b holes c ok h d .left, free-le b)
+pub with-holes-few : (b : Board) (holes : List Hole) (c : Board) → So (valid b) → b .fixed < 2 ^ 256 → WithHoles b holes c → length holes ≤ 256
+with-holes-few b holes c ok h d = omega (arith, with-holes-counted b holes c ok h d .left, free-le b)
 
 pub holes-bytes : (holes : List Hole) → length (flatMap holeBytes holes) ≡ 4 * length holes
 unfolding flatMap
@@ -192,7 +192,7 @@ holes-bytes (hole ∷ holes) = omega (arith, length-append (holeBytes hole) (fla
 
 -- ---- the holes with the cell numbers below n, on the largest board
 
-abbrev pub holeOf : ℕ → Hole
+abbrev holeOf : ℕ → Hole
 holeOf cell = record { row = cell / 16; column = cell % 16 }
 
 unfoldable pub holesBelow : ℕ → List Hole
@@ -215,9 +215,9 @@ pub length-holesBelow : (n : ℕ) → length (holesBelow n) ≡ n
 unfolding holesBelow
 length-holesBelow n = length-listOf holeOf n
 
-pub dug-below : (n : ℕ) → n ≤ 256 → Dug largest (holesBelow n) (holed largest (holesBelow n))
+pub with-holes-below : (n : ℕ) → n ≤ 256 → WithHoles largest (holesBelow n) (holed largest (holesBelow n))
 unfolding holesBelow
-dug-below n h =
+with-holes-below n h =
     record {
       free = λ hole m.
           let r = mem-listOf holeOf n hole .0 m in

@@ -12,7 +12,7 @@ use Rattle.plot_file.specs.declared.marks.Mark.the-variants.{EN}
 use Rattle.plot_file.specs.PlotFile.{Plot, letters, plotIn}
 use Rattle.plot_file.specs.Records.{BoardRecord, rb, lb, tb, Hole, TileRecord, ti, boardBytes, holeBytes, tileBytes, fileOf, boardHeld, holed, tilesHeld, Holds, longestFile}
 use Rattle.plot_file.specs.RecordLaws.{length-letters, length-tileBytes}
-use Rattle.plot_file.specs.HoleLaws.{holes-bytes, holesBelow, largest, length-holesBelow, dug-below}
+use Rattle.plot_file.specs.HoleLaws.{holes-bytes, holesBelow, largest, length-holesBelow, with-holes-below}
 use Rattle.plot_file.specs.FirstRecordLaws.{plotOf}
 use Rattle.plot_file.specs.FileLaws.{tilesHeld-some, Fine, holds-few, fileOf-is, accepted-iff}
 
@@ -98,7 +98,7 @@ longPlot-tiles = copies-held 64
 pub longest-held : Holds (rb 16 16) allHoles (copies 64) longPlot
 unfolding longPlot boardHeld newBoard
 longest-held =
-    let dug = dug-below 256 (omega arith) in
+    let dug = with-holes-below 256 (omega arith) in
     record {
       outline = largest;
       size = refl;

@@ -24,6 +24,7 @@ use Rattle.plot_file.specs.declared.marks.Mark.{Mark}
 use Rattle.plot_file.specs.declared.marks.Mark.the-variants.{RB, LB, TB, HO, TI, OR, EN}
 use Rattle.plot_file.specs.PlotFile.{allMarks, Plot, letters, markAmong, readMark, readPair, readBody, Step, more, ended, boardBody, firstRecord, holeBody, addTiles, tileBody, endBody, laterBody, laterRecord, onward, records, plotIn}
 use Rattle.plot_file.specs.Records.{rb, ti, boardBytes, holeBytes, tileBytes, place, tilesHeld, settledBy}
+use Rattle.plot_file.specs.Inner.{startAt}
 use Rattle.plot_file.specs.RecordLaws.{readMark-is, length-letters, readPair-given, readBody-is, readBody-path, TileRead, HoleRead, laterRecord-left, laterRecord-mark, length-tileBytes, length-holeBytes, records-same}
 use Rattle.plot_file.specs.HoleLaws.{holes-bytes, length-holesBelow}
 use Rattle.plot_file.specs.FirstRecordLaws.{firstRecord-given}
@@ -66,23 +67,20 @@ abbrev cutStep : ℕ → Step → Step
 cutStep n (more plot rest) = more plot (take n rest)
 cutStep n (ended plot) = ended plot
 
-abbrev start : Board × List ℕ → Step
-start r = more (record { board = r .0; tiles = [] }) (r .1)
-
 firstRecord-cut : (n : ℕ) (file : List ℕ) → firstRecord (take (suc (suc (suc (suc n)))) file) ≡ mapAnswer (cutStep n) (firstRecord file)
 unfolding firstRecord
 firstRecord-cut n file =
-    ap (λ (a : Answer (Mark × List ℕ)). bindAnswer a (λ m. mapAnswer start (boardBody (m .0) (m .1)))) (readMark-cut (suc (suc n)) file)
-    ∙ bind-map (λ m. mapAnswer start (boardBody (m .0) (m .1))) (λ m. (m .0, take (suc (suc n)) (m .1))) (readMark file)
+    ap (λ (a : Answer (Mark × List ℕ)). bindAnswer a (λ m. mapAnswer startAt (boardBody (m .0) (m .1)))) (readMark-cut (suc (suc n)) file)
+    ∙ bind-map (λ m. mapAnswer startAt (boardBody (m .0) (m .1))) (λ m. (m .0, take (suc (suc n)) (m .1))) (readMark file)
     ∙ go (readMark file)
   where
-    body : (mark : Mark) (bytes : List ℕ) → mapAnswer start (boardBody mark (take (suc (suc n)) bytes)) ≡ mapAnswer (cutStep n) (mapAnswer start (boardBody mark bytes))
+    body : (mark : Mark) (bytes : List ℕ) → mapAnswer startAt (boardBody mark (take (suc (suc n)) bytes)) ≡ mapAnswer (cutStep n) (mapAnswer startAt (boardBody mark bytes))
     body mark bytes =
-        ap (mapAnswer start) (boardBody-cut mark n bytes)
-        ∙ map-map start (λ r. (r .0, take n (r .1))) (boardBody mark bytes)
-        ∙ sym (map-map (cutStep n) start (boardBody mark bytes))
+        ap (mapAnswer startAt) (boardBody-cut mark n bytes)
+        ∙ map-map startAt (λ r. (r .0, take n (r .1))) (boardBody mark bytes)
+        ∙ sym (map-map (cutStep n) startAt (boardBody mark bytes))
 
-    go : (a : Answer (Mark × List ℕ)) → bindAnswer a (λ m. mapAnswer start (boardBody (m .0) (take (suc (suc n)) (m .1)))) ≡ mapAnswer (cutStep n) (bindAnswer a (λ m. mapAnswer start (boardBody (m .0) (m .1))))
+    go : (a : Answer (Mark × List ℕ)) → bindAnswer a (λ m. mapAnswer startAt (boardBody (m .0) (take (suc (suc n)) (m .1)))) ≡ mapAnswer (cutStep n) (bindAnswer a (λ m. mapAnswer startAt (boardBody (m .0) (m .1))))
     go (refused k) = refl
     go (given m) = body (m .0) (m .1)
 

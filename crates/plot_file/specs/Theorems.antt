@@ -44,10 +44,10 @@ file-once = Once.file-once
 module _ (board : BoardRecord) (holes : List Hole) (tiles : List TileRecord) (plot : Plot) (h : Holds board holes tiles plot) where
   -- The fixed marks of the plot are those of the board record and those of the holes, and the size is the board record's;
   pub fixed-marks : (cell : ℕ) → cell < 256 → hasCell (plot .board .fixed) cell ≡ (hasCell (h .outline .fixed) cell || isHole holes cell)
-  fixed-marks = Hole.dug-fixed (h .outline) (plot .board) holes (File.holds-dug board holes tiles plot h)
+  fixed-marks = Hole.with-holes-fixed (h .outline) (plot .board) holes (File.holds-with-holes board holes tiles plot h)
 
   pub outline-size : (plot .board .width ≡ h .outline .width) × (plot .board .height ≡ h .outline .height)
-  outline-size = Hole.dug-size (h .outline) (plot .board) holes (File.holds-dug board holes tiles plot h)
+  outline-size = Hole.with-holes-size (h .outline) (plot .board) holes (File.holds-with-holes board holes tiles plot h)
 
   -- each hole is one new cell, which was free;
   pub holes-new : (size (plot .board .fixed) ≡ size (h .outline .fixed) + length holes) × (freeCount (plot .board) + length holes ≡ freeCount (h .outline))

@@ -2,10 +2,10 @@
 // definition over its bytes alone (specs/PlotFile.antt), and nothing is asked of a caller.
 //
 // The core reads a slice from a place on, a record at a time: marks.rt the mark, bodies.rt the body
-// behind it, holes.rt a hole, records.rt a whole record. A place is a number that goes in and comes back by value.
-// Over the core stands the plot reader (reader.rt), a struct that holds the slice and a position in
-// it. `read_plot` makes one and goes through the file with it: it reads the record at the position,
-// and moves the position to where the next one begins.
+// behind it, holes.rt a hole, records.rt a whole record. A place is a number that goes in and comes
+// back by value. Over the core stands the plot reader (reader.rt), a struct that holds the slice and a
+// position in it. `read_plot` makes one and goes through the file with it: it reads the record at the
+// position, and moves the position to where the next one begins.
 use board::RectangularBoard;
 use reader::PlotReader;
 use records::Next;

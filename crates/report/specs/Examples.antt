@@ -1,15 +1,25 @@
 -- Examples: the text of some files, byte for byte; the first is 01's. Rests on `Report`. Assumes nothing.
-use mathlib.Core.Path.{_≡_, refl}
-use mathlib.Core.List.{[], _∷_, _++_, map}
+use mathlib.Core.Path.{_≡_, refl, sym, subst}
+use mathlib.Core.Bool.{So}
+use mathlib.Core.List.{List, [], _∷_, _++_, map, flatMap, List·Memᴰ·not-nil as not-nil, List·Memᴰ·eq-of-singleton as eq-of-singleton}
 use mathlib.Core.Option.{some}
-use Prim.Native.Nat.{ℕ}
-use lib.ListN.{replicate}
+use Prim.Native.Nat.{ℕ, _≤_}
+use native.Mathlib.Omega.{arith}
+use lib.ListN.{length, replicate}
 use Rattle.cells.specs.Lists.{padded, ascii}
 use Rattle.direction.specs.Direction.{step, rotate, reflect}
+use Rattle.tile.specs.Path.{Path, cellCount, codesOk}
+use Rattle.tile.specs.EdgeTest.{edgeJoined, edgeJoined-iff}
+use Rattle.rectangle.specs.Board.{Board, freeAt, isFree}
+use Rattle.board.specs.Board.{newBoard}
+use Rattle.covers.specs.Counts.{Exactly}
+use Rattle.expansion.specs.Plots.{IsCutting}
 use Rattle.plot_file.specs.PlotFile.{Plot}
+use Rattle.plot_file.specs.Records.{Hole, rb, TileRecord, ti, boardHeld, place, holed, directions, tilesHeld, Holds}
 use Rattle.layers.specs.LayerCounts.{layerCountFor}
 use Rattle.tiler.specs.Graphs.{Graph, graphFor}
 use Rattle.report.specs.Report.{withEqualTiles, plotLayers, plotGraph, listed, digits, decimal, graphLine, report, WritesReport}
+use Rattle.report.specs.Theorems.{holes-layers}
 
 -- "For hexadecimal 52 42 02 02 4F 52 01 03 45 4E it prints exactly": the marks are RB, OR and EN
 pub worked-example : report (0x52 ∷ 0x42 ∷ 2 ∷ 2 ∷ 0x4F ∷ 0x52 ∷ 1 ∷ 3 ∷ 0x45 ∷ 0x4E ∷ [])
@@ -60,6 +70,40 @@ all-fixed = refl
 pub outside : report (0x52 ∷ 0x42 ∷ 2 ∷ 1 ∷ 0x48 ∷ 0x4F ∷ 1 ∷ 0 ∷ 0x45 ∷ 0x4E ∷ []) ≡ ascii "refused 15\n"
 unfolding report ascii
 outside = refl
+
+-- ---- the conditions of the theorems about holes can be met: RB 3,1 with HO 0,2 and TI Right
+
+abbrev outline : Board
+outline = record { width = 3; height = 1; fixed = 0; laid = 0 }
+
+abbrev holes : List Hole
+holes = record { row = 0; column = 2 } ∷ []
+
+abbrev right : List TileRecord
+right = ti (3 ∷ []) ∷ []
+
+abbrev small : Plot
+small = record { board = record { width = 3; height = 1; fixed = 4; laid = 0 }; tiles = (3 ∷ []) ∷ [] }
+
+small-held : Holds (rb 3 1) holes right small
+unfolding boardHeld newBoard freeAt holed flatMap tilesHeld codesOk
+small-held = record {
+  outline = outline;
+  size = refl;
+  free = λ hole m. subst (λ (h : Hole). So (freeAt outline (place h))) (sym (eq-of-singleton m)) refl;
+  once = (λ m. not-nil m, tt);
+  fixes = refl;
+  paths = λ t m. subst (λ (u : TileRecord). (length (directions u) ≤ 32) × So (codesOk (directions u))) (sym (eq-of-singleton m)) (omega arith, refl);
+  few = omega arith;
+  all = refl;
+}
+
+-- the one cutting of what is left, two cells
+small-cutting : Exactly 1 (IsCutting (holed outline holes) (flatMap tilesHeld right))
+unfolding small-held plotLayers holed isFree flatMap tilesHeld edgeJoined cellCount step
+small-cutting =
+    holes-layers (rb 3 1) holes right small small-held (0, refl)
+    (λ path m. edgeJoined-iff path .0 (subst (λ (q : Path). So (edgeJoined q)) (sym (eq-of-singleton m)) refl)) 1 refl
 
 -- ---- the parts of a line
 

@@ -4,7 +4,7 @@
 -- tiler's `NumberLaws`. What stands in quotation marks is 01's, or where it is said so 02's. Assumes nothing.
 use mathlib.Core.Path.{_≡_, refl, sym, ap, ap₂, _∙_, subst}
 use mathlib.Core.Logic.{⊎-elim}
-use mathlib.Core.Bool.{true}
+use mathlib.Core.Bool.{true, false}
 use mathlib.Core.List.{List, [], _∷_, _++_, flatMap, List·Memᴰ as Mem}
 use mathlib.Core.Option.{some}
 use Prim.Native.Nat.{ℕ, _≤_, _<_}
@@ -30,7 +30,7 @@ use Rattle.report.specs.FitLaws.{longestText, refused-length, plot-lengt
 use Rattle.report.specs.CountLaws as Count
 use Rattle.report.specs.BuiltLaws.{list-short}
 use Rattle.report.specs.PlotLaws as P
-use Rattle.report.specs.FullLaws.{full-lines}
+use Rattle.report.specs.FullLaws.{full-lines, unequal-lines}
 use Rattle.report.specs.PlotLaws.{AcceptedPlot}
 
 -- ---- 1. Refusals
@@ -127,20 +127,25 @@ module _ (file : List ℕ) (plot : Plot) (is : plotIn file ≡ given plot) where
   -- ---- 5. A plot with no free cell
 
   -- 02, request 2: "A plot whose cells are all fixed is now possible and counts 0": by both counts, with one node, no edge and no tiling line, where the tiles have
-  -- one number of cells (else both counts are refused by 7, as ever).
+  -- one number of cells;
   pub full-report : isFull (plot .board) ≡ true → equalCounts (plot .tiles) ≡ true
       → report file ≡ boardLine plot ++ tilesLine plot ++ ascii "layers 0\ngraph 0 nodes 1 edges 0\n"
   unfolding report linesFor
   full-report full equal = ap linesFor is ∙ full-lines plot ok full equal
 
--- ---- 6. Plots with holes. 02, request 2: "The two counts and the numbered cuttings hold for such plots under the same conditions as for plain ones": the file of
--- some records, whose board has the cells of the holes fixed beside the board record's own fixed marks (`holed`). Its text is that of the plot that they hold
--- (`accepted-iff` of plot_file), and the printed numbers are those of the cuttings around the holes
+  -- else both counts are refused by 7, as of every board.
+  pub unequal-report : equalCounts (plot .tiles) ≡ false → report file ≡ boardLine plot ++ tilesLine plot ++ ascii "layers refused 7\ngraph refused 7\n"
+  unfolding report linesFor
+  unequal-report unequal = ap linesFor is ∙ unequal-lines plot unequal
+
+-- ---- 6. Plots with holes. 02, request 2: "The two counts and the numbered cuttings hold for such plots under the same conditions as for plain ones". Said of the
+-- records of a file: `holed` is the board record's board with the cells of the holes fixed too
 
 module _ (board : BoardRecord) (holes : List Hole) (tiles : List TileRecord) (plot : Plot) (h : Holds board holes tiles plot) where
   read : plotIn (fileOf board holes tiles) ≡ given plot
   read = accepted-iff (fileOf board holes tiles) plot .1 (board, holes, tiles, refl, h)
 
+  -- The text is that of the plot that the records hold.
   pub holes-report : report (fileOf board holes tiles) ≡ plotLines plot
   unfolding report linesFor
   holes-report = ap linesFor read
@@ -157,11 +162,13 @@ module _ (board : BoardRecord) (holes : List Hole) (tiles : List TileRecord) (pl
     joined-there : AllEdgeJoined (plot .tiles)
     joined-there = subst AllEdgeJoined (sym (h .all)) joined
 
+    -- The number in the line `layers N` is the number of cuttings of that board by the tiles of the tile records,
     pub holes-layers : (n : ℕ) → plotLayers plot ≡ given n → Exactly n (IsCutting (holed (h .outline) holes) (flatMap tilesHeld tiles))
     holes-layers n e =
         subst (λ (ts : List Path). Exactly n (IsCutting (holed (h .outline) holes) ts)) (h .all)
         (subst (λ (b : Board). Exactly n (IsCutting b (plot .tiles))) (h .fixes) (layers-are-cuttings (fileOf board holes tiles) plot read n e free-there joined-there))
 
+    -- the numbers below the graph's count number these cuttings,
     pub holes-tilings : (g : Graph) → plotGraph plot ≡ given g
         → Numbering (IsCutting (holed (h .outline) holes) (flatMap tilesHeld tiles)) (countOfGraph g) (markedPiecesOf g)
     holes-tilings g made =
@@ -169,5 +176,6 @@ module _ (board : BoardRecord) (holes : List Hole) (tiles : List TileRecord) (pl
         (subst (λ (b : Board). Numbering (IsCutting b (plot .tiles)) (countOfGraph g) (markedPiecesOf g)) (h .fixes)
         (tilings-are-cuttings (fileOf board holes tiles) plot read g made free-there joined-there))
 
+    -- and so the graph's count is their number too.
     pub holes-graph : (g : Graph) → plotGraph plot ≡ given g → Exactly (countOfGraph g) (IsCutting (holed (h .outline) holes) (flatMap tilesHeld tiles))
     holes-graph g made = (markedPiecesOf g, holes-tilings g made)

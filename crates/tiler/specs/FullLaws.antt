@@ -1,5 +1,5 @@
 -- Laws of a full start: it has no children, so that there is one layer and one node, its layer count is 0, and so is the count of its graph. Rests on
--- `Graphs`, layers' `LayerCounts`, children's `ChildLaws` and expansion's `SettingLaws`. Assumes nothing.
+-- `Graphs`, layers' `CountLaws` and `RunLaws`, children's `ChildLaws` and expansion's `SettingLaws`. Assumes nothing.
 use mathlib.Core.Path.{_≡_, ap, ap₂, _∙_}
 use mathlib.Core.Bool.{true, So, cond}
 use mathlib.Core.List.{List, [], _∷_, _++_, map, flatMap}
@@ -9,14 +9,17 @@ use borrow.Author.Tests.{eqb-true, le-leb}
 use lib.Dec.{eqb}
 use native.Mathlib.Omega.{arith}
 use Rattle.cells.specs.Lists.{any}
-use Rattle.refusal.specs.Refusal.{refused, given, mapAnswer}
+use Rattle.refusal.specs.Refusal.{refused, given}
 use Rattle.tile.specs.Path.{Path}
 use Rattle.rectangle.specs.Board.{Board, marks, freeCount, isFull, valid}
 use Rattle.children.specs.Children.{children, childrenAt, fullAt, freeCountAt}
 use Rattle.children.specs.ChildLaws.{full-children}
-use Rattle.covers.specs.Counts.{Entry, boards, counts, layer, layers, layerCount, numberIn, edgesOf, fullFrom, fullNode}
+use Rattle.covers.specs.Counts.{Entry, boards, counts, layer, layers, numberIn, edgesOf, fullFrom, fullNode}
 use Rattle.expansion.specs.SettingLaws.{start-at}
-use Rattle.layers.specs.LayerCounts.{tooLarge, judgeLayer, judgeLayers, layerCountFor}
+use Rattle.expansion.specs.Boards.{setting}
+use Rattle.layers.specs.LayerCounts.{tooLarge, layerCountFor}
+use Rattle.layers.specs.CountLaws.{layers-setting}
+use Rattle.layers.specs.RunLaws.{layers-full}
 use Rattle.tiler.specs.Graphs.{Graph, entriesFor, graphOf, judgeGraph, graphFor}
 
 -- the graph of one node, which is not the full board's node
@@ -31,9 +34,9 @@ module _ (b : Board) (paths : List Path) (ok : So (valid b)) (fixed : b .fixed <
   no-children : childrenAt b paths (marks b) ≡ []
   no-children = ap (λ (c : Board). children c paths) (start-at b paths ok fixed laid) ∙ full-children b ok paths full
 
-  pub full-layers : (room : ℕ) → 0 < room → layerCountFor b paths room ≡ given 0
-  unfolding layerCountFor judgeLayers judgeLayer layer layerCount tooLarge any mapAnswer
-  full-layers room h = rw (none-free, le-leb 1 room h)
+  pub full-layer-count : (room : ℕ) → 0 < room → layerCountFor b paths room ≡ given 0
+  unfolding setting
+  full-layer-count room h = layers-setting b paths room ∙ layers-full (setting b paths) (marks b) room none-free h
 
   one-node : entriesFor b paths ≡ (marks b, 1) ∷ []
   unfolding layers layer

@@ -8,8 +8,8 @@ use Rattle.board.proofs.MadeLaws.{makes-refused}
 use Rattle.board.proofs.RectangularBoard.with_hole.Statement.{statement}
 use Rattle.board.proofs.RectangularBoard.with_hole.Tie as tie
 
-holed-requires : tie.Need-holed-requires
-holed-requires c κs = check-accepted _ _ (c .before .before .check .ensures) (c .enum-told .given .1)
+fix-cell-requires : tie.Need-fix-cell-requires
+fix-cell-requires c κs = check-accepted _ _ (c .before .before .check .ensures) (c .enum-told .given .1)
 
 returns-2 : tie.Need-returns-2
 unfolding readBoard
@@ -23,8 +23,8 @@ with-hole-spec =
     (tie.spec
     (λ c κs. search needs)
     (λ c. search needs)
-    holed-requires
+    fix-cell-requires
     (λ c. search needs)
     (λ c κs. search needs)
-    (λ c. c .holed .ensures)
+    (λ c. c .fix-cell .ensures)
     returns-2)

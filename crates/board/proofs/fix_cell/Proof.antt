@@ -1,4 +1,4 @@
--- `board::holed` meets its contract: a cell of the rectangle that has no mark, or refusal 15.
+-- `board::fix_cell` meets its contract: a cell of the rectangle that has no mark, or refusal 15.
 -- Assumes nothing.
 use mathlib.Core.Path.{_≡_, sym, ap, _∙_}
 use mathlib.Core.Bool.{Bool}
@@ -11,8 +11,8 @@ use Rattle.rectangle.specs.BoardLaws.{valid-width, valid-height}
 use Rattle.board.specs.Board.{boardOf}
 use Rattle.board.specs.HoleLaws.{withHole-bad}
 use Rattle.board.proofs.MadeLaws.{makes-refused, hole-below, hole-beside, hole-marked, hole-free, makes-hole}
-use Rattle.board.proofs.holed.Statement.{statement}
-use Rattle.board.proofs.holed.Tie as tie
+use Rattle.board.proofs.fix_cell.Statement.{statement}
+use Rattle.board.proofs.fix_cell.Tie as tie
 
 returns : tie.Need-returns
 returns c =
@@ -53,8 +53,8 @@ returns-4 c =
     makes-hole _ _ _ (s .pre) (hole-free _ _ _ (s .pre) (c .before .before .before .before .before .before .if1 .left) (c .before .before .before .before .if2 .left) (told (c .before .before) _ (c .before .if3 .left)))
     _ (c .with-cell .ensures)
 
-pub holed-spec : {M : Type 1} → statement M
-holed-spec =
+pub fix-cell-spec : {M : Type 1} → statement M
+fix-cell-spec =
     tie.close
     (tie.spec
     (λ c κs. search needs)
