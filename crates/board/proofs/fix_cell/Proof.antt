@@ -22,7 +22,7 @@ returns c =
 returns-2 : tie.Need-returns-2
 returns-2 c =
     let s = c .before .before .before .before .before .before .before in
-    makes-refused _ _ (withHole-bad _ _ _ (s .pre) (hole-beside _ (s .args .row) _ (c .before .if2 .taken))) (c .refused2 .ensures)
+    makes-refused _ _ (withHole-bad _ _ _ (s .pre) (hole-beside (boardOf (s .args .board)) (s .args .row) (s .args .column) (omega (arith, c .before .if2 .taken)))) (c .refused2 .ensures)
 
 -- a cell of the rectangle
 mul-cell : tie.Need-mul-cell
