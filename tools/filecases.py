@@ -271,12 +271,17 @@ CHANGES = [
 ]
 
 
+def with_changes(file, changes):
+    """A file with one byte changed, by its places and the bytes that stand there instead."""
+    for place, found in enumerate(changes):
+        for others, expected in found.items():
+            for other in others:
+                yield expected, file[:place] + bytes([other]) + file[place + 1 :]
+
+
 def changed_files():
     """A good file with one byte changed, at every place."""
-    for place, changes in enumerate(CHANGES):
-        for others, expected in changes.items():
-            for other in others:
-                yield expected, CHANGED[:place] + bytes([other]) + CHANGED[place + 1 :]
+    yield from with_changes(CHANGED, CHANGES)
 
 
 def long_files():

@@ -7,7 +7,7 @@ read off 02 and 01 by hand. Files by their counts stand in holecounts.py.
 import sys
 
 sys.dont_write_bytecode = True
-from filecases import LATER, WORKED_EXAMPLE
+from filecases import LATER, WORKED_EXAMPLE, with_changes
 from plotfiles import BOARDS, EN, HOLE, board, hole, places, plot_of, start, tile, whole, with_holes
 
 HO = HOLE.encode()
@@ -188,10 +188,7 @@ CHANGES = [
 
 def changed_hole_files():
     """A good file with holes of which one byte is changed, at every place; two bytes of a mark."""
-    for place, changes in enumerate(CHANGES):
-        for others, expected in changes.items():
-            for other in others:
-                yield expected, CHANGED[:place] + bytes([other]) + CHANGED[place + 1 :]
+    yield from with_changes(CHANGED, CHANGES)
     marks = {4: {b"RB": 3, b"LB": 3, b"TB": 3, b"EN": 3}, 8: {b"RB": 3, b"LB": 3, b"TB": 3, b"EN": 3}}
     # TI and OR in a hole's place: the row is k, the column the first code.
     marks[4].update({b"TI": 3, b"OR": 3})
