@@ -119,6 +119,8 @@ def bad_cells():
         columns = [width, width + 1, 16, 17, 128, 255]
         bad += [(text, (row, 0)) for row in rows] + [(text, (height - 1, column)) for column in columns]
         bad += [(text, (255, 255)), (text, (height, width))]
+    # Columns whose number would be that of a cell in the next row.
+    bad += [("RB 16 16", (row, column)) for row in (0, 7, 14) for column in (16, 17, 24, 31)]
     for text in ("LB 3 1", "LB 2 2", "LB 8 2", "TB 1 1", "TB 2 2", "TB 7 1"):
         marked = marked_places(text)
         bad += [(text, at) for at in (marked[0], marked[-1], marked[len(marked) // 2])]
@@ -200,7 +202,7 @@ def changed_hole_files():
             yield expected, CHANGED[:place] + mark + CHANGED[place + 2 :]
 
 
-def built_over():
+def all_fixed():
     """All cells are fixed: both counts are 0, with one node, no edge and no tiling; or 7 by both."""
     one, none = "layers 1|graph 1 nodes 2 edges 1|tiling 0: 0 1|", "layers 0|graph 0 nodes 1 edges 0|"
     lists = {"": 0, "TI -": 1, "OR 3": 4, "TI 3 TI 1": 2, "OR 20": 8, "OR 3 OR 306": 12, "TI - TI 3": 2}

@@ -135,6 +135,10 @@ def large_hole_files():
         yield expected, whole(text)
 
 
+# The file examples/shed.plot: pairs lie in three ways on either side of the holes, and none lies across.
+SHED = ("board 6 3 free 16|tiles 4|layers 9|graph 9 nodes 16 edges 19|", whole("RB 6 3 HO 1 2 HO 1 3 OR 3"))
+
+
 def with_other_tiles():
     """Plots with holes and unequal tiles (7), with no tiles, and with tiles that cross themselves."""
     for text in ("RB 4 4 HO 1 1 HO 2 2", "LB 3 2 HO 3 3", "TB 1 2 HO 2 0", "RB 3 3 HO 1 1", "RB 16 16 HO 8 8"):

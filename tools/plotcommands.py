@@ -164,7 +164,7 @@ def read_holes(draws, ask):
         if texts[0] != texts[1]:
             stop(f"{plotfiles.command(holed)}: the text is not that of {shaped.hex()}: {texts}")
     pairs = [*holecounts.counted_hole_files(), *holecounts.large_hole_files()]
-    pairs += [*holecases.built_over(), *holecounts.with_other_tiles()]
+    pairs += [*holecases.all_fixed(), *holecounts.with_other_tiles(), holecounts.SHED]
     pairs += [("|layers ", file) for both in holecounts.shaped_by_holes() for file in both]
     return held_files(ask, pairs + [*holecounts.holes_in_every_shape(draws)])
 

@@ -3,12 +3,15 @@
 
     plotfiles.py WORDS > FILE
 
-writes the plot file of some words: a board, `RB WIDTH HEIGHT`, `LB N SCALE` or `TB N SCALE`; then the cells that are built on, `HO ROW COLUMN`,
-counted from 0; then tiles, `TI PATH` or `OR PATH`, a PATH being codes 0 to 7 in one word and `-` for the empty one, or `pairs`, `threes` or `fours`
-for the orbits of all edge-joined pieces of so many cells. `plotfiles.py RB 8 8 HO 0 0 HO 7 7 pairs > my.plot` writes 8 by 8 without two corners, in
-pairs. Neither sizes nor cells nor the order of the records are judged here: the program tells its refusals.
+writes the plot file of some words: a board, `RB WIDTH HEIGHT`, `LB N SCALE` or `TB N SCALE`; then holes,
+`HO ROW COLUMN`, counted from 0; then tiles, `TI PATH` or `OR PATH`, a PATH being codes 0 to 7 in one word
+and `-` for the empty one, or `pairs`, `threes` or `fours` for the orbits of all edge-joined pieces of so
+many cells. `plotfiles.py RB 8 8 HO 0 0 HO 0 7 pairs > my.plot` writes 8 by 8 without its upper corners, in
+pairs. Neither sizes nor cells nor the order of the records are judged here: the program tells its
+refusals.
 
-Nothing here answers a command. Files that come with what 01 or 02 has for them stand in filecases.py and holecases.py.
+Nothing here answers a command. Files that come with what 01 or 02 has for them stand in filecases.py and
+holecases.py.
 """
 
 import sys
