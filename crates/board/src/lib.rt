@@ -212,8 +212,8 @@ fn fix_cell(mut board: RectangularBoard, row: usize, column: usize) -> MadeBoard
     requires { ⌜ valid (boardOf board) ≡ true ⌝ }
     ensures { λ r. ⌜ MakesBoard (withHole (boardOf board) row column) r ⌝ }
 {
-    let fixed = board.fixed;
-    let laid = board.laid;
+    let fixed_marks = board.fixed;
+    let laid_marks = board.laid;
     if board.height <= row {
         return refused(Refusal::BadHole);
     }
@@ -221,11 +221,11 @@ fn fix_cell(mut board: RectangularBoard, row: usize, column: usize) -> MadeBoard
         return refused(Refusal::BadHole);
     }
     let cell = 16 * row + column;
-    let marks = fixed.union(laid);
+    let marks = fixed_marks.union(laid_marks);
     if marks.has_cell(cell) {
         return refused(Refusal::BadHole);
     }
-    board.fixed = fixed.with_cell(cell);
+    board.fixed = fixed_marks.with_cell(cell);
     MadeBoard {
         verdict: Verdict::Accepted,
         board,
