@@ -1,10 +1,11 @@
--- Laws of numberings: how many there are is unique; a numbering is carried along a map that is one-to-one onto; none, and exactly one.
+-- Laws of numberings: how many there are is unique; a numbering is carried along a map that is one-to-one onto; none, and exactly one; and pairs.
 -- Rests on `Counts` and cells' `MemberLaws`. Assumes nothing.
-use mathlib.Core.Path.{_≡_, sym, ap, subst, _∙_}
+use mathlib.Core.Path.{_≡_, sym, ap, ap₂, subst, _∙_}
 use mathlib.Core.List.{List·Memᴰ as Mem}
-use Prim.Native.Nat.{ℕ, _≤_, _<_}
-use native.Mathlib.Nat.{le-antisymm}
+use Prim.Native.Nat.{ℕ, zero, suc, _+_, _*_, _/_, _%_, _≤_, _<_}
+use native.Mathlib.Nat.{le-antisymm, mul-zero, mod-lt, div-add-mod', div-lt-iff-lt-mul}
 use native.Mathlib.Omega.{arith}
+use lib.Arith.{digits-lt, digits-div, digits-mod}
 use Rattle.cells.specs.FirstsLaws.{Once}
 use Rattle.cells.specs.Lists.{listOf}
 use Rattle.cells.specs.ArrayLaws.{length-listOf}
@@ -76,3 +77,42 @@ module _ {A : Type 0} {Is : A → Type 0} where
 
   pub one-only : (E : Exactly 1 Is) (a : A) → Is a → a ≡ E .0 0
   one-only E a h = let r = E .1 .all a h in let l = r .1 in let z : r .0 ≡ 0 = omega arith in sym (r .2) ∙ ap (E .0) z
+
+-- ---- pairs
+
+-- the pairs of n things and k others: the first of the pair with the number m has the number m / k, and the second m % k
+module _ {A B : Type 0} {Is : A → Type 0} {Has : B → Type 0} (n k : ℕ) (F : Exactly n Is) (H : Exactly k Has) where
+  abbrev pairAt : ℕ → A × B
+  pairAt m = (F .0 (m / k), H .0 (m % k))
+
+  some-second : (m : ℕ) → m < n * k → 0 < k
+  some-second m h = go k h
+    where
+      go : (j : ℕ) → m < n * j → 0 < j
+      go zero i = absurd (omega (arith, mul-zero n))
+      go (suc j) i = omega arith
+
+  first-below : (m : ℕ) → m < n * k → m / k < n
+  first-below m h = div-lt-iff-lt-mul (some-second m h) .1 h
+
+  second-below : (m : ℕ) → m < n * k → m % k < k
+  second-below m h = mod-lt m (some-second m h)
+
+  pub exactly-pairs : Exactly (n * k) (λ (p : A × B). Is (p .0) × Has (p .1))
+  exactly-pairs = (
+    pairAt,
+    record {
+      each = λ m h. (F .1 .each (m / k) (first-below m h), H .1 .each (m % k) (second-below m h));
+      once = λ m j h i e.
+          let first : m / k ≡ j / k = F .1 .once (m / k) (j / k) (first-below m h) (first-below j i) (ap (λ (p : A × B). p .0) e) in
+          let second : m % k ≡ j % k = H .1 .once (m % k) (j % k) (second-below m h) (second-below j i) (ap (λ (p : A × B). p .1) e) in
+          sym (div-add-mod' m k) ∙ ap₂ (λ (x y : ℕ). x * k + y) first second ∙ div-add-mod' j k;
+      all = λ p h.
+          let a = F .1 .all (p .0) (h .0) in
+          let b = H .1 .all (p .1) (h .1) in (
+            a .0 * k + b .0,
+            digits-lt (a .1) (b .1),
+            ap₂ (λ (x : A) (y : B). (x, y)) (ap (F .0) (digits-div (a .0) (b .1)) ∙ a .2) (ap (H .0) (digits-mod (a .0) (b .1)) ∙ b .2),
+          );
+    },
+  )

@@ -4,13 +4,13 @@ use mathlib.Core.Path.{_≡_, sym, subst}
 use mathlib.Core.Logic.{_↔_}
 use mathlib.Core.Bool.{Bool, false, So, cond}
 use mathlib.Core.List.{List, [], _∷_, map, flatMap, List·Memᴰ as Mem}
-use Prim.Native.Nat.{ℕ, suc, _≤_, _<_}
+use Prim.Native.Nat.{ℕ, suc, _*_, _≤_, _<_}
 use lib.ListN.{length, getD}
 use Rattle.cells.specs.FirstsLaws.{Once, Tells}
 use Rattle.cells.specs.Lists.{holds, firsts}
 use Rattle.covers.specs.Counts.{Numbering, Exactly, fullCount, Chain, ChildSequence, Entry, boards, sumOf, shares, weight, gather, nodeListTo, piecesOf}
 use Rattle.covers.specs.Setting.{Setting, CuttingOf, PlacingSequence, childBoards, Laws, SoundPruning, EqualSteps, layerOf, SumRule, nodesOf, pathCountOf, graphEdges, layerCountOf, graphCount, tilingOf, cuttingAt}
-use Rattle.covers.specs.NumberingLaws.{exactly-unique, carry}
+use Rattle.covers.specs.NumberingLaws.{exactly-unique, carry, exactly-pairs}
 use Rattle.covers.specs.SequenceLaws.{sequence-cutting, sequence-unique, sequences-at-most, one-sequence, full-cutting}
 use Rattle.covers.specs.ChildLaws.{child-once}
 use Rattle.covers.specs.LayerLaws.{recurrence}
@@ -32,6 +32,11 @@ pub numbering-carried : {A B : Type 0} {Is : A → Type 0} {Has : B → Type 0} 
     → ((a : A) → Is a → Has (g a)) → ((a b : A) → Is a → Is b → g a ≡ g b → a ≡ b) → ((b : B) → Has b → (a : A) × Is a × (g a ≡ b))
     → Numbering Is n f → Numbering Has n (λ m. g (f m))
 numbering-carried = carry
+
+-- The pairs of n things and k others are n * k.
+pub number-of-pairs : {A B : Type 0} {Is : A → Type 0} {Has : B → Type 0} (n k : ℕ) → Exactly n Is → Exactly k Has
+    → Exactly (n * k) (λ (p : A × B). Is (p .0) × Has (p .1))
+number-of-pairs = exactly-pairs
 
 -- ---- 2. Cuttings: `Cutting`, of the free cells, the tiles and what a piece covers, and of nothing else. What is known of a board with no free cell:
 

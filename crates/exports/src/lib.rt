@@ -14,7 +14,7 @@
 ghost use lib.ListN.{length};
 ghost use Rattle.graph.specs.Graph.{layerRoom};
 ghost use Rattle.host_plots.specs.Calls.{placed, orbitFor, readFile, AnswersPlot};
-ghost use Rattle.host_counts.specs.Calls.{counted, AnswersCount, generated, AnswersGraph};
+ghost use Rattle.host_counts.specs.Calls.{counted, cuttingsCounted, AnswersCount, generated, AnswersGraph};
 ghost use Rattle.host_tilings.specs.Calls.{searched, AnswersSingle, numbered};
 ghost use Rattle.host_words.specs.Layout.{AnswersList};
 ghost use Rattle.archive.specs.Archive.{LeavesOutcome, writeRecord};
@@ -59,6 +59,39 @@ pub extern "C" fn cuttings_count_tilings(
         (now («boards_a» .exit)) (now («counts_a» .exit)) (now («boards_b» .exit)) (now («counts_b» .exit)) (now (answer .exit)) r ⌝ }
 {
     host_counts::count_tilings(
+        width,
+        height,
+        marks,
+        tiles,
+        boards_a,
+        counts_a,
+        boards_b,
+        counts_b,
+        answer,
+    )
+}
+
+// The figure called cuttings: 1 for a board with no free cell, otherwise the layer count. The lent
+// layers are zero afterwards. Answer: the figure's low word and high word.
+#[no_mangle]
+pub extern "C" fn cuttings_count_cuttings(
+    width: u64,
+    height: u64,
+    marks: &[u64],
+    tiles: &[u8],
+    boards_a: &mut [u64],
+    counts_a: &mut [u64],
+    boards_b: &mut [u64],
+    counts_b: &mut [u64],
+    answer: &mut [u64],
+) -> u64
+    ensures { λ r.
+        ⌜ AnswersCount (cuttingsCounted width height (now (marks .entry)) (now (tiles .entry))
+        (layerRoom (length (now («boards_a» .entry))) (length (now («counts_a» .entry))) (length (now («boards_b» .entry))) (length (now («counts_b» .entry)))) (length (now (answer .entry))))
+        (now («boards_a» .entry)) (now («counts_a» .entry)) (now («boards_b» .entry)) (now («counts_b» .entry)) (now (answer .entry))
+        (now («boards_a» .exit)) (now («counts_a» .exit)) (now («boards_b» .exit)) (now («counts_b» .exit)) (now (answer .exit)) r ⌝ }
+{
+    host_counts::count_cuttings(
         width,
         height,
         marks,

@@ -15,54 +15,50 @@ use Rattle.refusal.specs.Refusal.{Answer, refused, mapAnswer, refusalNumber, va
 use Rattle.tiles.specs.declared.Tiles.{Tiles}
 use Rattle.board.specs.declared.RectangularBoard.{RectangularBoard}
 use Rattle.path_count.specs.PathCountLaws.{cleared-countsFor}
-use Rattle.graph.specs.Graph.{edgesFor, layerRoom}
+use Rattle.graph.specs.Graph.{edgesFor}
 use Rattle.graph.specs.GraphLaws.{cleared-edges}
-use Rattle.layers.specs.LayerCounts.{countTilings}
 use Rattle.layers.proofs.StartLaws.{cleared-zeros}
 use Rattle.tiler.specs.Graphs.{Graph, generateGraph}
-use Rattle.host_words.specs.Layout.{boardIn, plotShape, AnswersWords}
+use Rattle.host_words.specs.Layout.{boardIn, plotShape, unless, AnswersWords}
 use Rattle.host_words.specs.AnswerLaws.{unless-accepted, unless-refused}
 use Rattle.host_tiles.specs.TileBytes.{tilesIn}
-use Rattle.host_counts.specs.Calls.{counted, AnswersCount, generated, AnswersGraph}
+use Rattle.host_counts.specs.Calls.{AnswersCount, generated, AnswersGraph}
 
 -- edges that are cleared
 no-edge : (ws ws′ : List ℕ) → ws′ ≡ clearedFrom 0 ws → ws′ ≡ edgesFor [] (length ws)
 unfolding listOf listFrom
 no-edge ws ws′ e = e ∙ cleared-edges ws [] (omega arith) refl
 
+-- a count that is refused, its lent layers cleared
+pub count-cleared : (q : Refusal) (ba ca bb cb answer : List ℕ) {ba′ ca′ bb′ cb′ answer′ : List ℕ} {r : ℕ}
+    → ba′ ≡ clearedFrom 0 ba → ca′ ≡ clearedFrom 0 ca → bb′ ≡ clearedFrom 0 bb → cb′ ≡ clearedFrom 0 cb → AnswersWords (refused (refusalNumber q)) answer answer′ r
+    → AnswersCount (refused (refusalNumber q)) ba ca bb cb answer ba′ ca′ bb′ cb′ answer′ r
+unfolding mapAnswer
+count-cleared q ba ca bb cb answer {ba′} {ca′} {bb′} {cb′} w x y z t = record {
+  answered = t;
+  zeroBoardsA = cleared-zeros (length ba) ba ba′ w refl;
+  zeroCountsA = cleared-zeros (length ca) ca ca′ x refl;
+  zeroBoardsB = cleared-zeros (length bb) bb bb′ y refl;
+  zeroCountsB = cleared-zeros (length cb) cb cb′ z refl;
+}
+
 module _ (width height : ℕ) (marks tiles answer : List ℕ) (v : Verdict) where
   abbrev shape : ℕ → ℕ
   shape needed = plotShape needed (length marks) (length tiles) (length answer)
 
-  -- ---- the layer count
+  -- ---- a count: `f` is the call below
 
-  module _ (told : verdictNumber v ≡ shape 2) (ba ca bb cb : List ℕ) where
-    abbrev room : ℕ
-    room = layerRoom (length ba) (length ca) (length bb) (length cb)
+  module _ (told : verdictNumber v ≡ shape 2) (f : RectangularBoard → Tiles → Answer ℕ) (ba ca bb cb ba′ ca′ bb′ cb′ answer′ : List ℕ) (r : ℕ) where
+    abbrev Tells : Answer ℕ → Type 0
+    Tells a = AnswersCount a ba ca bb cb answer ba′ ca′ bb′ cb′ answer′ r
 
-    pub count-accepted : (b : RectangularBoard) (ts : Tiles) → v ≡ Verdicts.Accepted → b ≡ boardIn width height marks → ts ≡ tilesIn tiles → {ba′ ca′ bb′ cb′ answer′ : List ℕ} {r : ℕ}
-        → AnswersCount (countTilings b ts room) ba ca bb cb answer ba′ ca′ bb′ cb′ answer′ r
-        → AnswersCount (counted width height marks tiles room (length answer)) ba ca bb cb answer ba′ ca′ bb′ cb′ answer′ r
-    unfolding counted
-    count-accepted b ts e is are {ba′} {ca′} {bb′} {cb′} {answer′} {r} t =
-        subst (λ (a : Answer ℕ). AnswersCount a ba ca bb cb answer ba′ ca′ bb′ cb′ answer′ r)
-        (ap₂ (λ (x : RectangularBoard) (y : Tiles). countTilings x y room) is are
-        ∙ sym (unless-accepted (shape 2) (countTilings (boardIn width height marks) (tilesIn tiles) room) v told e)) t
+    pub count-accepted : (b : RectangularBoard) (ts : Tiles) → v ≡ Verdicts.Accepted → b ≡ boardIn width height marks → ts ≡ tilesIn tiles
+        → Tells (f b ts) → Tells (unless (shape 2) (f (boardIn width height marks) (tilesIn tiles)))
+    count-accepted b ts e is are =
+        subst Tells (ap₂ f is are ∙ sym (unless-accepted (shape 2) (f (boardIn width height marks) (tilesIn tiles)) v told e))
 
-    pub count-unshaped : (q : Refusal) → v ≡ Verdicts.Refused q → {ba′ ca′ bb′ cb′ answer′ : List ℕ} {r : ℕ}
-        → ba′ ≡ clearedFrom 0 ba → ca′ ≡ clearedFrom 0 ca → bb′ ≡ clearedFrom 0 bb → cb′ ≡ clearedFrom 0 cb → AnswersWords (refused (refusalNumber q)) answer answer′ r
-        → AnswersCount (counted width height marks tiles room (length answer)) ba ca bb cb answer ba′ ca′ bb′ cb′ answer′ r
-    unfolding counted mapAnswer
-    count-unshaped q e {ba′} {ca′} {bb′} {cb′} {answer′} {r} w x y z t =
-        subst (λ (a : Answer ℕ). AnswersCount a ba ca bb cb answer ba′ ca′ bb′ cb′ answer′ r)
-        (sym (unless-refused (shape 2) (countTilings (boardIn width height marks) (tilesIn tiles) room) v told q e))
-        record {
-          answered = t;
-          zeroBoardsA = cleared-zeros (length ba) ba ba′ w refl;
-          zeroCountsA = cleared-zeros (length ca) ca ca′ x refl;
-          zeroBoardsB = cleared-zeros (length bb) bb bb′ y refl;
-          zeroCountsB = cleared-zeros (length cb) cb cb′ z refl;
-        }
+    pub count-unshaped : (q : Refusal) → v ≡ Verdicts.Refused q → Tells (refused (refusalNumber q)) → Tells (unless (shape 2) (f (boardIn width height marks) (tilesIn tiles)))
+    count-unshaped q e = subst Tells (sym (unless-refused (shape 2) (f (boardIn width height marks) (tilesIn tiles)) v told q e))
 
   -- ---- the graph
 

@@ -1,4 +1,4 @@
--- What `count_tilings` and `generate_graph` of the lower crates answer, as the words that a host is told. Rests on host_words' `AnswerLaws`. Assumes nothing.
+-- What `count_tilings`, `count_cuttings` and `generate_graph` of the lower crates answer, as the words that a host is told. Rests on host_words' `AnswerLaws`. Assumes nothing.
 use mathlib.Core.Path.{_≡_, sym, ap, ap₂, _∙_, subst}
 use mathlib.Core.List.{List, [], _∷_}
 use mathlib.Core.Option.{Option}
@@ -8,7 +8,7 @@ use lib.ListN.{length}
 use Rattle.cells.specs.Set.{wordsBelow}
 use Rattle.refusal.specs.declared.Refusal.{Refusal}
 use Rattle.refusal.specs.declared.Verdict.the-variants as Verdicts
-use Rattle.refusal.specs.Refusal.{Answer, refused, given, refusalNumber, valueOr, verdictNumber}
+use Rattle.refusal.specs.Refusal.{Answer, refused, given, mapAnswer, refusalNumber, valueOr, verdictNumber}
 use Rattle.refusal.specs.RefusalLaws.{refused-of}
 use Rattle.tiles.specs.declared.Tiles.{Tiles}
 use Rattle.board.specs.declared.RectangularBoard.{RectangularBoard}
@@ -17,17 +17,17 @@ use Rattle.path_count.specs.PathCounts.{countValue}
 use Rattle.graph.specs.declared.Complete.{Complete}
 use Rattle.graph.specs.declared.Complete.the-variants as N
 use Rattle.cells.specs.Lists.{padded}
-use Rattle.graph.specs.Graph.{layerRoom, completeNode}
+use Rattle.graph.specs.Graph.{completeNode}
 use Rattle.layers.specs.declared.Count.{Count}
 use Rattle.layers.specs.declared.Count.the-variants as K
-use Rattle.layers.specs.LayerCounts.{countTilings, countAnswer, CountsTilings}
+use Rattle.layers.specs.LayerCounts.{countAnswer, LeavesCount}
 use Rattle.tiler.specs.declared.MadeGraph.{MadeGraph}
 use Rattle.tiler.specs.Graphs.{Graph, noGraph, generateGraph, GeneratesGraph}
 use Rattle.host_words.specs.Layout.{resultWords, AnswersWords}
 use Rattle.host_words.specs.AnswerLaws.{numbers-none, numbers-two, tells-value, tells-no, tells-struct}
 use Rattle.host_counts.specs.Calls.{AnswersCount, AnswersGraph}
 
--- ---- `count_tilings`
+-- ---- a count
 
 word-whole : (n : ℕ) → n < 2 ^ 64 → n % 2 ^ 64 ≡ n
 word-whole n h = omega arith
@@ -37,31 +37,29 @@ count-words : (n low high : ℕ) → low ≡ n % 2 ^ 64 → high ≡ n / 2 ^ 64 
 unfolding wordsBelow
 count-words n low high l h s = ap₂ (λ (x y : ℕ). x ∷ y ∷ []) l (sym (word-whole high s) ∙ ap (λ (x : ℕ). x % 2 ^ 64) h)
 
-module _ (b : RectangularBoard) (ts : Tiles) (ba ca bb cb ba′ ca′ bb′ cb′ answer answer′ : List ℕ) (k : Count) (counts : CountsTilings b ts ba ca bb cb ba′ ca′ bb′ cb′ k) (r : ℕ) where
-  abbrev room : ℕ
-  room = layerRoom (length ba) (length ca) (length bb) (length cb)
+-- a count is told by its two words,
+pub number-told : (k : Count) (n : PathCount) (low high : ℕ) {answer answer′ : List ℕ} {r : ℕ} → low ≡ countValue n % 2 ^ 64 → high ≡ countValue n / 2 ^ 64 → high < 2 ^ 64
+    → k ≡ K.Number n → AnswersWords (given (low ∷ high ∷ 0 ∷ 0 ∷ [])) answer answer′ r → AnswersWords (mapAnswer (wordsBelow 2) (countAnswer k)) answer answer′ r
+number-told k n low high {answer} {answer′} {r} l h s e t =
+    tells-value answer answer′ r (wordsBelow 2) (countAnswer k) (countValue n) (low ∷ high ∷ 0 ∷ 0 ∷ []) (ap countAnswer e)
+    (numbers-two low high (length answer) ∙ ap (λ (ns : List ℕ). padded ns (length answer)) (count-words (countValue n) low high l h s)) t
 
-  pub count-told : (n : PathCount) (low high : ℕ) → low ≡ countValue n % 2 ^ 64 → high ≡ countValue n / 2 ^ 64 → high < 2 ^ 64 → k ≡ K.Number n
-      → AnswersWords (given (low ∷ high ∷ 0 ∷ 0 ∷ [])) answer answer′ r → AnswersCount (countTilings b ts room) ba ca bb cb answer ba′ ca′ bb′ cb′ answer′ r
-  count-told n low high l h s e t =
-      record {
-        answered = tells-value answer answer′ r (wordsBelow 2) (countTilings b ts room) (countValue n) (low ∷ high ∷ 0 ∷ 0 ∷ []) (sym (counts .answer) ∙ ap countAnswer e)
-            (numbers-two low high (length answer) ∙ ap (λ (ns : List ℕ). padded ns (length answer)) (count-words (countValue n) low high l h s)) t;
-        zeroBoardsA = counts .zeroBoardsA;
-        zeroCountsA = counts .zeroCountsA;
-        zeroBoardsB = counts .zeroBoardsB;
-        zeroCountsB = counts .zeroCountsB;
-      }
+-- and a refusal by its number
+pub refusal-told : (k : Count) (q : Refusal) {answer answer′ : List ℕ} {r : ℕ} → k ≡ K.Refused q → AnswersWords (refused (refusalNumber q)) answer answer′ r
+    → AnswersWords (mapAnswer (wordsBelow 2) (countAnswer k)) answer answer′ r
+refusal-told k q {answer} {answer′} {r} e t = tells-no answer answer′ r (wordsBelow 2) (countAnswer k) q (ap countAnswer e) t
 
-  pub count-refused : (q : Refusal) → k ≡ K.Refused q → AnswersWords (refused (refusalNumber q)) answer answer′ r → AnswersCount (countTilings b ts room) ba ca bb cb answer ba′ ca′ bb′ cb′ answer′ r
-  count-refused q e t =
-      record {
-        answered = tells-no answer answer′ r (wordsBelow 2) (countTilings b ts room) q (sym (counts .answer) ∙ ap countAnswer e) t;
-        zeroBoardsA = counts .zeroBoardsA;
-        zeroCountsA = counts .zeroCountsA;
-        zeroBoardsB = counts .zeroBoardsB;
-        zeroCountsB = counts .zeroCountsB;
-      }
+-- what a call answers and leaves, told so
+pub count-told : (a : Answer ℕ) (ba ca bb cb : List ℕ) {ba′ ca′ bb′ cb′ answer answer′ : List ℕ} {k : Count} {r : ℕ} → LeavesCount a ba ca bb cb ba′ ca′ bb′ cb′ k
+    → AnswersWords (mapAnswer (wordsBelow 2) (countAnswer k)) answer answer′ r → AnswersCount a ba ca bb cb answer ba′ ca′ bb′ cb′ answer′ r
+count-told a ba ca bb cb {answer = answer} {answer′ = answer′} {r = r} counts t =
+    record {
+      answered = subst (λ (x : Answer ℕ). AnswersWords (mapAnswer (wordsBelow 2) x) answer answer′ r) (counts .answer) t;
+      zeroBoardsA = counts .zeroBoardsA;
+      zeroCountsA = counts .zeroCountsA;
+      zeroBoardsB = counts .zeroBoardsB;
+      zeroCountsB = counts .zeroCountsB;
+    }
 
 -- ---- `generate_graph`
 

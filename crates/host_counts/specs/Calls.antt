@@ -1,4 +1,4 @@
--- Definitions: what `count_tilings` and `generate_graph` over a host's words return, and what they leave in the lent words, for every input. Each returns 0
+-- Definitions: what `count_tilings`, `count_cuttings` and `generate_graph` over a host's words return, and what they leave in the lent words, for every input. Each returns 0
 -- or the number of the refusal, and every lent word that holds nothing else is zero, all of them after a refusal. What is answered where the shapes are right
 -- is the definition of the call below. Assumes nothing.
 use mathlib.Core.Path.{_≡_}
@@ -11,11 +11,12 @@ use Rattle.refusal.specs.Refusal.{Answer, mapAnswer, valueOr}
 use Rattle.path_count.specs.PathCounts.{countsFor}
 use Rattle.graph.specs.Graph.{edgesFor}
 use Rattle.layers.specs.LayerCounts.{countTilings}
+use Rattle.cuttings.specs.Cuttings.{countCuttings}
 use Rattle.tiler.specs.Graphs.{Graph, noGraph, generateGraph}
 use Rattle.host_words.specs.Layout.{boardIn, resultWords, plotShape, unless, AnswersWords}
 use Rattle.host_tiles.specs.TileBytes.{tilesIn}
 
--- ---- `count_tilings`: the layer count, low word and high word; the lent layers are zero
+-- ---- `count_tilings` and `count_cuttings`: the count, low word and high word; the lent layers are zero
 
 -- what `cuttings_count_tilings` answers
 unfoldable pub counted : ℕ → ℕ → List ℕ → List ℕ → ℕ → ℕ → Answer ℕ
@@ -23,7 +24,13 @@ unfolding unless plotShape countTilings
 counted width height marks tiles room words =
     unless (plotShape 2 (length marks) (length tiles) words) (countTilings (boardIn width height marks) (tilesIn tiles) room)
 
--- what it returns and leaves
+-- what `cuttings_count_cuttings` answers
+unfoldable pub cuttingsCounted : ℕ → ℕ → List ℕ → List ℕ → ℕ → ℕ → Answer ℕ
+unfolding unless plotShape countCuttings
+cuttingsCounted width height marks tiles room words =
+    unless (plotShape 2 (length marks) (length tiles) words) (countCuttings (boardIn width height marks) (tilesIn tiles) room)
+
+-- what either returns and leaves
 pub record AnswersCount (a : Answer ℕ) (boardsA countsA boardsB countsB answer boardsA′ countsA′ boardsB′ countsB′ answer′ : List ℕ) (r : ℕ) : Type 0 where
   pub answered : AnswersWords (mapAnswer (wordsBelow 2) a) answer answer′ r
   pub zeroBoardsA : boardsA′ ≡ replicate (length boardsA) 0

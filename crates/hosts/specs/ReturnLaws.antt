@@ -38,7 +38,8 @@ use Rattle.host_words.specs.Layout.{boardIn, resultIn, plotShape, unless, Answe
 use Rattle.host_words.specs.AnswerLaws.{unless-right}
 use Rattle.host_tiles.specs.TileBytes.{tileIn, tilesIn}
 use Rattle.host_plots.specs.Calls.{orbitShape, fileShape, placed, orbitFor, readFile}
-use Rattle.host_counts.specs.Calls.{counted, generated}
+use Rattle.cuttings.specs.Cuttings.{cuttingsOf, countCuttings}
+use Rattle.host_counts.specs.Calls.{counted, cuttingsCounted, generated}
 use Rattle.host_tilings.specs.Calls.{tilingShape, searched, numbered}
 
 -- ---- no definition refuses by 0
@@ -221,6 +222,12 @@ module _ (width height : ℕ) (marks tiles : List ℕ) (words : ℕ) where
   pub counted-refuses : (room : ℕ) → Refuses Positive (counted width height marks tiles room words)
   unfolding counted
   counted-refuses room = unless-refuses (plotShape 2 (length marks) (length tiles) words) _ (count-refuses (boardIn width height marks) (tilesIn tiles) room)
+
+  pub cuttings-refuses : (room : ℕ) → Refuses Positive (cuttingsCounted width height marks tiles room words)
+  unfolding cuttingsCounted countCuttings
+  cuttings-refuses room =
+      unless-refuses (plotShape 2 (length marks) (length tiles) words) _
+      (refuses-map Positive (cuttingsOf (boardOf (boardIn width height marks))) _ (count-refuses (boardIn width height marks) (tilesIn tiles) room))
 
   pub generated-refuses : (nodeWords countWords edgeWords : ℕ) → Refuses Positive (generated width height marks tiles nodeWords countWords edgeWords words)
   unfolding generated

@@ -58,13 +58,18 @@ abbrev pub countAnswer : Count → Answer ℕ
 countAnswer (C.Number n) = given (countValue n)
 countAnswer (C.Refused r) = refused (refusalNumber r)
 
--- `count_tilings`: "Lent layers and their count words are all zero on every return"
-pub record CountsTilings (b : RectangularBoard) (ts : Tiles) (boardsA countsA boardsB countsB boardsA′ countsA′ boardsB′ countsB′ : List ℕ) (r : Count) : Type 0 where
-  pub answer : countAnswer r ≡ countTilings b ts (layerRoom (length boardsA) (length countsA) (length boardsB) (length countsB))
+-- what a call that counts in lent layers answers and leaves: "Lent layers and their count words are all zero on every return"
+pub record LeavesCount (a : Answer ℕ) (boardsA countsA boardsB countsB boardsA′ countsA′ boardsB′ countsB′ : List ℕ) (r : Count) : Type 0 where
+  pub answer : countAnswer r ≡ a
   pub zeroBoardsA : boardsA′ ≡ replicate (length boardsA) 0
   pub zeroCountsA : countsA′ ≡ replicate (length countsA) 0
   pub zeroBoardsB : boardsB′ ≡ replicate (length boardsB) 0
   pub zeroCountsB : countsB′ ≡ replicate (length countsB) 0
+
+-- `count_tilings`
+abbrev pub CountsTilings : RectangularBoard → Tiles → List ℕ → List ℕ → List ℕ → List ℕ → List ℕ → List ℕ → List ℕ → List ℕ → Count → Type 0
+CountsTilings b ts boardsA countsA boardsB countsB =
+    LeavesCount (countTilings b ts (layerRoom (length boardsA) (length countsA) (length boardsB) (length countsB))) boardsA countsA boardsB countsB
 
 -- demand 3 of `count_tilings`: a count that is given is the number of cuttings
 abbrev pub CountsCuttings : RectangularBoard → Tiles → Count → Type 0

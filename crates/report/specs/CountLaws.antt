@@ -1,6 +1,7 @@
--- Laws of the answers of a count: which refusals a layer count and a graph have; and that a count is its low word.
+-- Laws of the answers of a count: which refusals a layer count, the figure and a graph have; and that a count is its low word.
 -- Assumes nothing.
 use mathlib.Core.Path.{_≡_}
+use mathlib.Core.Logic.{_↔_}
 use mathlib.Core.Bool.{true, false}
 use mathlib.Core.List.{List}
 use Prim.Native.Nat.{ℕ, zero, suc, _+_, _-_, _*_, _%_, _^_, _≤_, _<_, min}
@@ -9,7 +10,7 @@ use borrow.Author.Tests.{ltb-true, ltb-false}
 use lib.Dec.{ltb, leb, eqb}
 use lib.ListN.{length}
 use Rattle.refusal.specs.Refusal.{refused}
-use Rattle.refusal.specs.RefusalLaws.{Refuses, refuses-one, refuses-none, refuses-cond, refuses-bind, refuses-map}
+use Rattle.refusal.specs.RefusalLaws.{map-refused, Refuses, refuses-one, refuses-none, refuses-cond, refuses-bind, refuses-map}
 use Rattle.tiles.specs.Paths.{equalCounts}
 use Rattle.rectangle.specs.Board.{marks}
 use Rattle.children.specs.Children.{childrenAt, freeCountAt}
@@ -18,9 +19,10 @@ use Rattle.graph.specs.Graph.{plotBoards, plotNodes, plotEdges}
 use Rattle.path_count.specs.PathCounts.{countLimit}
 use Rattle.path_count.specs.PathCountLaws.{word-count}
 use Rattle.layers.specs.LayerCounts.{tooLarge, judgeLayer, judgeLayers, layerCountFor}
+use Rattle.cuttings.specs.Cuttings.{cuttingsOf}
 use Rattle.tiler.specs.Graphs.{graphOf, judgeGraph}
 use Rattle.plot_file.specs.PlotFile.{Plot}
-use Rattle.report.specs.Report.{withEqualTiles, plotLayers, plotGraph}
+use Rattle.report.specs.Report.{withEqualTiles, plotLayers, plotCuttings, plotGraph}
 
 -- ---- refusals
 
@@ -50,6 +52,14 @@ layers-refusals plot =
     let at = layer eqb (childrenAt (plot .board) (plot .tiles)) (marks (plot .board)) in
     refuses-cond Layers (equalCounts (plot .tiles)) _ _
     (refuses-map Layers _ _ (judgeLayers-refusals at plotBoards (freeCountAt (plot .board) (marks (plot .board))))) (refuses-one Layers 7 (omega arith, omega arith))
+
+-- the figure by what the layer count is refused by,
+pub cuttings-alike : (plot : Plot) (n : ℕ) → (plotCuttings plot ≡ refused n) ↔ (plotLayers plot ≡ refused n)
+unfolding plotCuttings
+cuttings-alike plot n = map-refused (cuttingsOf (plot .board)) (plotLayers plot) n
+
+pub cuttings-refusals : (plot : Plot) (n : ℕ) → plotCuttings plot ≡ refused n → (7 ≤ n) × (n ≤ 9)
+cuttings-refusals plot n e = layers-refusals plot n (cuttings-alike plot n .0 e)
 
 -- and a graph by 7, 8, 9 or 10.
 pub graph-refusals : (plot : Plot) (n : ℕ) → plotGraph plot ≡ refused n → (7 ≤ n) × (n ≤ 10)

@@ -21,9 +21,9 @@ use Rattle.tiler.specs.Graphs.{Graph, graphFor}
 use Rattle.report.specs.Report.{withEqualTiles, plotLayers, plotGraph, listed, digits, decimal, graphLine, report, WritesReport}
 use Rattle.report.specs.Theorems.{holes-layers}
 
--- "For hexadecimal 52 42 02 02 4F 52 01 03 45 4E it prints exactly": the marks are RB, OR and EN
+-- "For hexadecimal 52 42 02 02 4F 52 01 03 45 4E it prints exactly": the marks are RB, OR and EN; the line `cuttings 2` is 02's, from its request 3
 pub worked-example : report (0x52 ∷ 0x42 ∷ 2 ∷ 2 ∷ 0x4F ∷ 0x52 ∷ 1 ∷ 3 ∷ 0x45 ∷ 0x4E ∷ [])
-    ≡ ascii "board 2 2 free 4\ntiles 4\nlayers 2\ngraph 2 nodes 4 edges 4\ntiling 0: 0 1 3\ntiling 1: 0 2 3\n"
+    ≡ ascii "board 2 2 free 4\ntiles 4\nlayers 2\ncuttings 2\ngraph 2 nodes 4 edges 4\ntiling 0: 0 1 3\ntiling 1: 0 2 3\n"
 unfolding report ascii step rotate reflect
 worked-example = refl
 
@@ -39,32 +39,43 @@ unknown-mark = refl
 
 -- "A refused count prints" its refusal "in its line's place": the single tile and Right have different numbers of cells
 pub refused-counts : report (0x52 ∷ 0x42 ∷ 1 ∷ 1 ∷ 0x54 ∷ 0x49 ∷ 0 ∷ 0x54 ∷ 0x49 ∷ 1 ∷ 3 ∷ 0x45 ∷ 0x4E ∷ [])
-    ≡ ascii "board 1 1 free 1\ntiles 2\nlayers refused 7\ngraph refused 7\n"
+    ≡ ascii "board 1 1 free 1\ntiles 2\nlayers refused 7\ncuttings refused 7\ngraph refused 7\n"
 unfolding report ascii step
 refused-counts = refl
 
 -- no tiles: no tiling
-pub no-tiles : report (0x52 ∷ 0x42 ∷ 2 ∷ 2 ∷ 0x45 ∷ 0x4E ∷ []) ≡ ascii "board 2 2 free 4\ntiles 0\nlayers 0\ngraph 0 nodes 1 edges 0\n"
+pub no-tiles : report (0x52 ∷ 0x42 ∷ 2 ∷ 2 ∷ 0x45 ∷ 0x4E ∷ []) ≡ ascii "board 2 2 free 4\ntiles 0\nlayers 0\ncuttings 0\ngraph 0 nodes 1 edges 0\n"
 unfolding report ascii
 no-tiles = refl
 
 -- LB 3,1 and dominoes, one of 01's known plots: 3 by 2 with two fixed marks
 pub l-board : report (0x4C ∷ 0x42 ∷ 3 ∷ 1 ∷ 0x4F ∷ 0x52 ∷ 1 ∷ 3 ∷ 0x45 ∷ 0x4E ∷ [])
-    ≡ ascii "board 3 2 free 4\ntiles 4\nlayers 1\ngraph 1 nodes 3 edges 2\ntiling 0: 0 1 2\n"
+    ≡ ascii "board 3 2 free 4\ntiles 4\nlayers 1\ncuttings 1\ngraph 1 nodes 3 edges 2\ntiling 0: 0 1 2\n"
 unfolding report ascii step rotate reflect
 l-board = refl
 
 -- 02, request 2: RB 3,3 with a hole at row 1, column 1 (HO) and dominoes, which lie round it in two ways
 pub shed : report (0x52 ∷ 0x42 ∷ 3 ∷ 3 ∷ 0x48 ∷ 0x4F ∷ 1 ∷ 1 ∷ 0x4F ∷ 0x52 ∷ 1 ∷ 3 ∷ 0x45 ∷ 0x4E ∷ [])
-    ≡ ascii "board 3 3 free 8\ntiles 4\nlayers 2\ngraph 2 nodes 8 edges 8\ntiling 0: 0 1 3 5 7\ntiling 1: 0 2 4 6 7\n"
+    ≡ ascii "board 3 3 free 8\ntiles 4\nlayers 2\ncuttings 2\ngraph 2 nodes 8 edges 8\ntiling 0: 0 1 3 5 7\ntiling 1: 0 2 4 6 7\n"
 unfolding report ascii step rotate reflect
 shed = refl
 
--- "A plot whose cells are all fixed is now possible and counts 0": RB 2,1 with both cells built over
+-- "A plot whose cells are all fixed is now possible and counts 0": RB 2,1 with both cells built over. 02, request 3: "1 for a board with no free cell"
 pub all-fixed : report (0x52 ∷ 0x42 ∷ 2 ∷ 1 ∷ 0x48 ∷ 0x4F ∷ 0 ∷ 0 ∷ 0x48 ∷ 0x4F ∷ 0 ∷ 1 ∷ 0x54 ∷ 0x49 ∷ 1 ∷ 3 ∷ 0x45 ∷ 0x4E ∷ [])
-    ≡ ascii "board 2 1 free 0\ntiles 1\nlayers 0\ngraph 0 nodes 1 edges 0\n"
+    ≡ ascii "board 2 1 free 0\ntiles 1\nlayers 0\ncuttings 1\ngraph 0 nodes 1 edges 0\n"
 unfolding report ascii step
 all-fixed = refl
+
+-- a board of 0 by 0, with no tiles
+pub no-cells : report (0x52 ∷ 0x42 ∷ 0 ∷ 0 ∷ 0x45 ∷ 0x4E ∷ []) ≡ ascii "board 0 0 free 0\ntiles 0\nlayers 0\ncuttings 1\ngraph 0 nodes 1 edges 0\n"
+unfolding report ascii
+no-cells = refl
+
+-- "that call's refusals come first in either case": RB 1,1 built over, with the single tile and Right
+pub full-refused : report (0x52 ∷ 0x42 ∷ 1 ∷ 1 ∷ 0x48 ∷ 0x4F ∷ 0 ∷ 0 ∷ 0x54 ∷ 0x49 ∷ 0 ∷ 0x54 ∷ 0x49 ∷ 1 ∷ 3 ∷ 0x45 ∷ 0x4E ∷ [])
+    ≡ ascii "board 1 1 free 0\ntiles 2\nlayers refused 7\ncuttings refused 7\ngraph refused 7\n"
+unfolding report ascii step
+full-refused = refl
 
 -- a hole outside the board
 pub outside : report (0x52 ∷ 0x42 ∷ 2 ∷ 1 ∷ 0x48 ∷ 0x4F ∷ 1 ∷ 0 ∷ 0x45 ∷ 0x4E ∷ []) ≡ ascii "refused 15\n"

@@ -17,17 +17,18 @@ use Rattle.rectangle.specs.FreeLaws.{free-le}
 use Rattle.rectangle.specs.BoardLaws.{valid-width, valid-height}
 use Rattle.tiler.specs.Graphs.{Graph, countOfGraph, nodeListOf}
 use Rattle.tiler.specs.NumberLaws.{graph-count-small, list-below}
+use Rattle.path_count.specs.PathCounts.{countLimit}
 use Rattle.plot_file.specs.PlotFile.{Plot}
-use Rattle.report.specs.Report.{plotLayers, plotGraph, listed, decimal, field, feed, refusedLine, boardLine, tilesLine, layersLine, graphLine, tilingLine, graphLines, plotLines}
+use Rattle.report.specs.Report.{plotLayers, plotCuttings, plotGraph, listed, decimal, field, feed, refusedLine, boardLine, tilesLine, countLine, layersLine, cuttingsLine, graphLine, tilingLine, graphLines, plotLines}
 use Rattle.report.specs.DecimalLaws.{decimal-length}
-use Rattle.report.specs.CountLaws.{layers-refusals, graph-refusals}
+use Rattle.report.specs.CountLaws.{layers-refusals, cuttings-refusals, graph-refusals}
 use Rattle.report.specs.BuiltLaws.{list-short}
-use Rattle.report.specs.PlotLaws.{AcceptedPlot, layers-fit, of-graph, nodes-few, edges-few}
+use Rattle.report.specs.PlotLaws.{AcceptedPlot, layers-fit, cuttings-fit, of-graph, nodes-few, edges-few}
 
--- no text has more bytes: the board's line has at most 21, the tiles' 9, the layers' 28, the graph's 49, and each of 16 tiling lines 1,296
+-- no text has more bytes: the board's line has at most 21, the tiles' 9, the layers' 28, the figure's 30, the graph's 49, and each of 16 tiling lines 1,296
 -- ("tiling ", two digits, ":", 257 times a blank and four digits, and the line feed)
 abbrev pub longestText : ℕ
-longestText = 20843
+longestText = 20873
 
 -- ---- numbers and fields
 
@@ -64,15 +65,26 @@ tiles-length plot ok =
     let few = ok .few in
     omega (arith, length-append (field "tiles " (length (plot .tiles))) feed, field-length "tiles " 1 (length (plot .tiles)) (omega arith))
 
+-- a count below the limit has at most 20 digits
+count-length : (words : String) (n : ℕ) → n < countLimit → length (field words n ++ feed) ≤ length (ascii words) + 21
+unfolding feed ascii
+count-length words n h = omega (arith, length-append (field words n) feed, field-length words 19 n (lt-of-lt-of-le h (lit≤ tt)))
+
 pub layers-length : (plot : Plot) → AcceptedPlot plot → length (layersLine (plotLayers plot)) ≤ 28
-unfolding layersLine feed ascii
+unfolding layersLine field ascii
 layers-length plot ok = go (plotLayers plot) refl
   where
     go : (a : Answer ℕ) → plotLayers plot ≡ a → length (layersLine a) ≤ 28
     go (refused n) e = let few = layers-refusals plot n e .1 in omega (arith, refusal-length "layers refused " n (omega arith))
-    go (given n) e =
-        let small = layers-fit plot ok n e in
-        omega (arith, length-append (field "layers " n) feed, field-length "layers " 19 n (lt-of-lt-of-le small (lit≤ tt)))
+    go (given n) e = omega (arith, count-length "layers " n (layers-fit plot ok n e))
+
+pub cuttings-length : (plot : Plot) → AcceptedPlot plot → length (cuttingsLine (plotCuttings plot)) ≤ 30
+unfolding cuttingsLine field ascii
+cuttings-length plot ok = go (plotCuttings plot) refl
+  where
+    go : (a : Answer ℕ) → plotCuttings plot ≡ a → length (cuttingsLine a) ≤ 30
+    go (refused n) e = let few = cuttings-refusals plot n e .1 in omega (arith, refusal-length "cuttings refused " n (omega arith))
+    go (given n) e = omega (arith, count-length "cuttings " n (cuttings-fit plot ok n e))
 
 flatMap-length : {A B : Type 0} (f : A → List B) (k : ℕ) (xs : List A) → ((x : A) → Mem x xs → length (f x) ≤ k) → length (flatMap f xs) ≤ length xs * k
 unfolding flatMap
@@ -134,11 +146,11 @@ graphs-length plot ok = go (plotGraph plot) refl
 
 -- ---- the text of a plot
 
-four-parts : (a b c d : List ℕ) → length a ≤ 21 → length b ≤ 9 → length c ≤ 28 → length d ≤ 20785 → length (a ++ b ++ c ++ d) ≤ longestText
-four-parts a b c d p q r s = simp length-append (omega arith)
+five-parts : (a b c d e : List ℕ) → length a ≤ 21 → length b ≤ 9 → length c ≤ 28 → length d ≤ 30 → length e ≤ 20785 → length (a ++ b ++ c ++ d ++ e) ≤ longestText
+five-parts a b c d e p q r s t = simp length-append (omega arith)
 
 pub plot-length : (plot : Plot) → AcceptedPlot plot → length (plotLines plot) ≤ longestText
 unfolding plotLines
 plot-length plot ok =
-    four-parts (boardLine plot) (tilesLine plot) (layersLine (plotLayers plot)) (graphLines (plotGraph plot)) (board-length plot ok) (tiles-length plot ok)
-    (layers-length plot ok) (graphs-length plot ok)
+    five-parts (boardLine plot) (tilesLine plot) (layersLine (plotLayers plot)) (cuttingsLine (plotCuttings plot)) (graphLines (plotGraph plot)) (board-length plot ok)
+    (tiles-length plot ok) (layers-length plot ok) (cuttings-length plot ok) (graphs-length plot ok)

@@ -23,9 +23,10 @@ use Rattle.graph.specs.RoomLaws.{layer-room-plot, node-room-plot}
 use Rattle.layers.specs.declared.Count.{Count}
 use Rattle.expansion.specs.Plots.{acceptPlot}
 use Rattle.layers.specs.LayerCounts.{layerCountFor, countTilings, countAnswer, CountsTilings}
+use Rattle.cuttings.specs.Cuttings.{cuttingsOf, countCuttings, cuttingsFrom}
 use Rattle.tiler.specs.Graphs.{Graph, graphFor, generateGraph}
 use Rattle.plot_file.specs.PlotFile.{Plot}
-use Rattle.report.specs.Report.{withEqualTiles, plotLayers, plotGraph}
+use Rattle.report.specs.Report.{withEqualTiles, plotLayers, plotCuttings, plotGraph}
 use Rattle.report.specs.Inner.{HoldsPlot}
 
 -- ---- the rooms that the code lends
@@ -87,6 +88,20 @@ module _ (plot : Plot) (board : RectangularBoard) (tiles : Tiles) (h : HoldsPlot
           → bindAnswer (acceptPlot board tiles) answer ≡ cond (equalCounts (plot .tiles)) (answer (plot .board, plot .tiles)) (refused 7)
       go true e = ap (λ a. bindAnswer a answer) (plot-equal e) ∙ sym (ap (λ t. cond t (answer (plot .board, plot .tiles)) (refused 7)) e)
       go false e = ap (λ a. bindAnswer a answer) (plot-unequal e) ∙ sym (ap (λ t. cond t (answer (plot .board, plot .tiles)) (refused 7)) e)
+
+  -- the figure from the layer count is the plot's
+  pub held-figure : (a : Answer ℕ) → a ≡ plotLayers plot → cuttingsFrom board a ≡ plotCuttings plot
+  unfolding cuttingsFrom plotCuttings mapAnswer bindAnswer
+  held-figure a e = ap (λ (r : Answer Board). bindAnswer a (λ n. mapAnswer (λ d. cuttingsOf d n) r)) (h .boardIs) ∙ go a ∙ ap (mapAnswer (cuttingsOf (plot .board))) e
+    where
+      go : (x : Answer ℕ) → bindAnswer x (λ n. given (cuttingsOf (plot .board) n)) ≡ mapAnswer (cuttingsOf (plot .board)) x
+      go (refused k) = refl
+      go (given n) = refl
+
+  -- and so is the figure of the calls
+  pub held-cuttings : countCuttings board tiles plotBoards ≡ plotCuttings plot
+  unfolding countCuttings plotCuttings
+  held-cuttings = ap₂ (λ (d : Board) (a : Answer ℕ). mapAnswer (cuttingsOf d) a) held-board held-layers
 
   -- as the contract of `count_tilings` says it, with layers of 512 boards
   pub held-counted : (boardsA countsA boardsB countsB boardsA′ countsA′ boardsB′ countsB′ : List ℕ) (r : Count)

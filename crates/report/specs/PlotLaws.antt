@@ -1,8 +1,8 @@
 -- Laws of the counts of a plot: there are structs of the code that hold the plot of an accepted file, so that what tiler knows of calls holds of the plot's
--- counts too (`of-graph`). Its layer count fits 64 bits; its graph has at most 1,024 nodes and 4,096 edges; both counts are the number of cuttings. Rests on
--- `HoldsLaws`, `CountLaws` and tiler's `GivenLaws`, `NumberLaws` and `Theorems`. Assumes nothing.
+-- counts too (`of-graph`). Its layer count and its figure fit 64 bits; its graph has at most 1,024 nodes and 4,096 edges; both counts and the figure are the number
+-- of cuttings. Rests on `HoldsLaws`, `CountLaws`, the crate cuttings' `Theorems` and tiler's `GivenLaws`, `NumberLaws` and `Theorems`. Assumes nothing.
 use mathlib.Core.Path.{_≡_, sym, ap, _∙_, subst}
-use mathlib.Core.Bool.{So}
+use mathlib.Core.Bool.{true, So}
 use mathlib.Core.List.{List}
 use Prim.Native.Nat.{ℕ, _*_, _^_, _≤_, _<_}
 use lib.Dec.{lit<}
@@ -16,7 +16,7 @@ use Rattle.tiles.specs.Paths.{pathsIn, tilesOf}
 use Rattle.tiles.specs.Inner.{Storable}
 use Rattle.tiles.specs.StoredLaws.{readTiles-tilesOf}
 use Rattle.board.specs.declared.RectangularBoard.{RectangularBoard}
-use Rattle.rectangle.specs.Board.{Board, valid}
+use Rattle.rectangle.specs.Board.{Board, isFull, valid}
 use Rattle.board.specs.Board.{boardOf}
 use Rattle.board.specs.BoardLaws.{structOf, board-struct, readBoard-given}
 use Rattle.covers.specs.Counts.{Exactly, Numbering}
@@ -25,6 +25,8 @@ use Rattle.layers.specs.CountLaws.{layers-small, count-cuttings}
 use Rattle.path_count.specs.PathCounts.{countLimit}
 use Rattle.path_count.specs.Inner.{countSpan}
 use Rattle.layers.specs.LayerCounts.{countTilings}
+use Rattle.cuttings.specs.Cuttings.{countCuttings}
+use Rattle.cuttings.specs.Theorems.{free-is-layer-count, differs-of-full, figure-fits, figure-is-cuttings}
 use Rattle.tiler.specs.Graphs.{Graph, countOfGraph, generateGraph}
 use Rattle.tiler.specs.Inner.{markedPiecesOf}
 use Rattle.expansion.specs.Plots.{IsCutting, HasFreeCell, AllEdgeJoined}
@@ -32,10 +34,10 @@ use Rattle.tiler.specs.GivenLaws.{graph-room}
 use Rattle.tiler.specs.NumberLaws.{lists-number-cuttings}
 use Rattle.tiler.specs.Theorems.{counts-agree}
 use Rattle.plot_file.specs.PlotFile.{Plot}
-use Rattle.report.specs.Report.{plotLayers, plotGraph}
+use Rattle.report.specs.Report.{plotLayers, plotCuttings, plotGraph}
 use Rattle.report.specs.Inner.{HoldsPlot}
 use Rattle.graph.specs.RoomLaws.{node-room-plot}
-use Rattle.report.specs.HoldsLaws.{held-board, held-tiles, held-layers, held-graph}
+use Rattle.report.specs.HoldsLaws.{held-board, held-tiles, held-layers, held-cuttings, held-graph}
 
 -- what is known of the plot of an accepted file: its board is accepted and has no laid marks, its fixed marks are a set of 256 cells, and its tiles, at most
 -- 64, can be stored
@@ -93,6 +95,26 @@ module _ (plot : Plot) (ok : AcceptedPlot plot) where
     pub layers-cuttings : HasFreeCell (plot .board) → AllEdgeJoined (plot .tiles) → Exactly n (IsCutting (plot .board) (plot .tiles))
     layers-cuttings free joined =
         of-plot (λ d paths. Exactly n (IsCutting d paths)) (count-cuttings b fixed laid ts (free-struct free) (joined-struct joined) plotBoards n told)
+
+  module _ (n : ℕ) (e : plotCuttings plot ≡ given n) where
+    figure-told : countCuttings b ts plotBoards ≡ given n
+    figure-told = held-cuttings plot b ts holds-struct ∙ e
+
+    pub cuttings-fit : n < countLimit
+    cuttings-fit = figure-fits b ts fixed laid plotBoards n figure-told
+
+    pub figure-cuttings : AllEdgeJoined (plot .tiles) → Exactly n (IsCutting (plot .board) (plot .tiles))
+    figure-cuttings joined = of-plot (λ d paths. Exactly n (IsCutting d paths)) (figure-is-cuttings b ts fixed laid (joined-struct joined) plotBoards n figure-told)
+
+  -- where the figure is the layer count
+  pub figure-free : HasFreeCell (plot .board) → plotCuttings plot ≡ plotLayers plot
+  figure-free free = sym (held-cuttings plot b ts holds-struct) ∙ free-is-layer-count b ts (free-struct free) plotBoards ∙ held-layers plot b ts holds-struct
+
+  -- and where it differs
+  pub figure-differs : (plotCuttings plot ≡ plotLayers plot → ⊥) → (isFull (plot .board) ≡ true) × (plotLayers plot ≡ given 0) × (plotCuttings plot ≡ given 1)
+  figure-differs other =
+      let r = differs-of-full b ts fixed laid plotBoards (λ e. other (sym (held-cuttings plot b ts holds-struct) ∙ e ∙ held-layers plot b ts holds-struct)) in
+      (ap isFull (sym (held-board plot b ts holds-struct)) ∙ r .0, sym (held-layers plot b ts holds-struct) ∙ r .1, sym (held-cuttings plot b ts holds-struct) ∙ r .2)
 
   module _ (g : Graph) (e : plotGraph plot ≡ given g) where
     made : generateGraph b ts (4 * plotNodes) (countSpan plotNodes) (2 * plotEdges) ≡ given g

@@ -1,5 +1,5 @@
 -- Definitions: the text that the program `plot` prints for a file. What stands in quotation marks is 01's, from its sections Known plots, The layer count and The
--- graph. Counts, graph and tilings are those of `tiler` and `graph`; what a file holds is `plotIn` of `plot_file`. Assumes nothing.
+-- graph, or where it is said so 02's. Counts, graph and tilings are those of `tiler` and `graph`; what a file holds is `plotIn` of `plot_file`. Assumes nothing.
 use mathlib.Core.Path.{_≡_}
 use mathlib.Core.Bool.{cond}
 use mathlib.Core.List.{List, [], _∷_, _++_, flatMap}
@@ -8,11 +8,12 @@ use Prim.Native.String.{String}
 use lib.Dec.{ltb}
 use lib.ListN.{length}
 use Rattle.cells.specs.Lists.{listOf, padded, ascii}
-use Rattle.refusal.specs.Refusal.{Answer, refused, given}
+use Rattle.refusal.specs.Refusal.{Answer, refused, given, mapAnswer}
 use Rattle.tiles.specs.Paths.{equalCounts}
 use Rattle.rectangle.specs.Board.{freeCount}
 use Rattle.graph.specs.Graph.{plotBoards, plotNodes, plotEdges}
 use Rattle.layers.specs.LayerCounts.{layerCountFor}
+use Rattle.cuttings.specs.Cuttings.{cuttingsOf}
 use Rattle.tiler.specs.Graphs.{Graph, countOfGraph, graphFor, nodeListOf}
 use Rattle.plot_file.specs.PlotFile.{Plot, plotIn}
 
@@ -27,6 +28,11 @@ withEqualTiles plot answer = cond (equalCounts (plot .tiles)) answer (refused 7)
 unfoldable pub plotLayers : Plot → Answer ℕ
 unfolding withEqualTiles layerCountFor
 plotLayers plot = withEqualTiles plot (layerCountFor (plot .board) (plot .tiles) plotBoards)
+
+-- the figure called cuttings of 02, request 3, from the layer count: where this is refused, so is the figure, by the same number
+unfoldable pub plotCuttings : Plot → Answer ℕ
+unfolding plotLayers cuttingsOf mapAnswer
+plotCuttings plot = mapAnswer (cuttingsOf (plot .board)) (plotLayers plot)
 
 -- "1,024 nodes, 4,096 edges,"
 unfoldable pub plotGraph : Plot → Answer Graph
@@ -79,11 +85,21 @@ unfoldable pub tilesLine : Plot → List ℕ
 unfolding field feed
 tilesLine plot = field "tiles " (length (plot .tiles)) ++ feed
 
+-- the line of a count: words and the number, or those of a refusal and its number
+unfoldable pub countLine : List ℕ → List ℕ → Answer ℕ → List ℕ
+unfolding decimal feed
+countLine words refusal (refused n) = refusal ++ decimal n ++ feed
+countLine words refusal (given n) = words ++ decimal n ++ feed
+
 -- "layer count;" "A refused count prints `layers refused 8` or `graph refused 8` in its line's place"
 unfoldable pub layersLine : Answer ℕ → List ℕ
-unfolding field feed
-layersLine (refused n) = field "layers refused " n ++ feed
-layersLine (given n) = field "layers " n ++ feed
+unfolding countLine ascii
+layersLine = countLine (ascii "layers ") (ascii "layers refused ")
+
+-- 02, request 3: "The program prints it as a line `cuttings N` after the layers line, or `cuttings refused N`"
+unfoldable pub cuttingsLine : Answer ℕ → List ℕ
+unfolding countLine ascii
+cuttingsLine = countLine (ascii "cuttings ") (ascii "cuttings refused ")
 
 -- "graph count, nodes, edges;"
 unfoldable pub graphLine : Graph → List ℕ
@@ -106,8 +122,9 @@ graphLines (given g) = graphLine g ++ flatMap (tilingLine g) (listOf (λ m. m) (
 
 -- the lines of a plot
 unfoldable pub plotLines : Plot → List ℕ
-unfolding boardLine tilesLine layersLine plotLayers graphLines plotGraph
-plotLines plot = boardLine plot ++ tilesLine plot ++ layersLine (plotLayers plot) ++ graphLines (plotGraph plot)
+unfolding boardLine tilesLine layersLine plotLayers cuttingsLine plotCuttings graphLines plotGraph
+plotLines plot =
+    boardLine plot ++ tilesLine plot ++ layersLine (plotLayers plot) ++ cuttingsLine (plotCuttings plot) ++ graphLines (plotGraph plot)
 
 -- "A refused file prints […] its only line"
 unfoldable pub linesFor : Answer Plot → List ℕ

@@ -1,9 +1,9 @@
--- The theorems about the text that the program `plot` prints: how long it is at most, how many bytes of a file settle it, that its counts are the number of
--- cuttings, also of a plot with holes, that its two counts agree, what its tiling lines list, and what is printed for a plot with no free cell. The text is
+-- The theorems about the text that the program `plot` prints: how long it is at most, how many bytes of a file settle it, that its counts and its
+-- figure called cuttings are the number of cuttings, also of a plot with holes, that its two counts agree, what its tiling lines list, and what is printed for a plot with no free cell. The text is
 -- `report` of `Report`; its examples are in `Examples`. Each is said here in words and proved in `CountLaws`, `BuiltLaws`, `FitLaws`, `PlotLaws`, `FullLaws` or
 -- tiler's `NumberLaws`. What stands in quotation marks is 01's, or where it is said so 02's. Assumes nothing.
 use mathlib.Core.Path.{_≡_, refl, sym, ap, ap₂, _∙_, subst}
-use mathlib.Core.Logic.{⊎-elim}
+use mathlib.Core.Logic.{_↔_, ⊎-elim}
 use mathlib.Core.Bool.{true, false}
 use mathlib.Core.List.{List, [], _∷_, _++_, flatMap, List·Memᴰ as Mem}
 use mathlib.Core.Option.{some}
@@ -25,7 +25,7 @@ use Rattle.tiler.specs.NumberLaws.{list-chain, list-below}
 use Rattle.plot_file.specs.PlotFile.{Plot, plotIn}
 use Rattle.plot_file.specs.Records.{BoardRecord, Hole, TileRecord, fileOf, holed, tilesHeld, Holds}
 use Rattle.plot_file.specs.Theorems.{accepted-iff, refusal-listed, accepted-plot, accepted-fixed, four-thousand-settle}
-use Rattle.report.specs.Report.{plotLayers, plotGraph, listed, boardLine, tilesLine, plotLines, linesFor, report, WritesReport}
+use Rattle.report.specs.Report.{plotLayers, plotCuttings, plotGraph, listed, boardLine, tilesLine, plotLines, linesFor, report, WritesReport}
 use Rattle.report.specs.FitLaws.{longestText, refused-length, plot-length}
 use Rattle.report.specs.CountLaws as Count
 use Rattle.report.specs.BuiltLaws.{list-short}
@@ -38,6 +38,10 @@ use Rattle.report.specs.PlotLaws.{AcceptedPlot}
 -- A layer count is refused by 7, 8 or 9,
 pub layers-refused : (plot : Plot) (n : ℕ) → plotLayers plot ≡ refused n → (7 ≤ n) × (n ≤ 9)
 layers-refused = Count.layers-refusals
+
+-- the figure exactly where the layer count is, and by the same number,
+pub cuttings-refused : (plot : Plot) (n : ℕ) → (plotCuttings plot ≡ refused n) ↔ (plotLayers plot ≡ refused n)
+cuttings-refused = Count.cuttings-alike
 
 -- and a graph by 7, 8, 9 or 10.
 pub graph-refused : (plot : Plot) (n : ℕ) → plotGraph plot ≡ refused n → (7 ≤ n) × (n ≤ 10)
@@ -85,13 +89,26 @@ module _ (file : List ℕ) (plot : Plot) (is : plotIn file ≡ given plot) where
   -- ---- 3. The counts. Demand 3's conditions: the board has a free cell, and every cell of a tile of two or more cells shares an edge with another of
   -- that tile
 
-  -- The number in the line `layers N` is the number of cuttings,
+  -- The number in the line `layers N` is the number of cuttings.
   pub layers-are-cuttings : (n : ℕ) → plotLayers plot ≡ given n → HasFreeCell (plot .board) → AllEdgeJoined (plot .tiles)
       → Exactly n (IsCutting (plot .board) (plot .tiles))
   layers-are-cuttings n e = P.layers-cuttings plot ok n e
 
+  -- 02, request 3: "Against exact covers, cuttings needs no free cell any more": the number in the line `cuttings N` is the number of cuttings whether a cell is free
+  -- or not.
+  pub cuttings-are-cuttings : (n : ℕ) → plotCuttings plot ≡ given n → AllEdgeJoined (plot .tiles) → Exactly n (IsCutting (plot .board) (plot .tiles))
+  cuttings-are-cuttings n e = P.figure-cuttings plot ok n e
+
+  -- Where a cell is free it is the layer count,
+  pub cuttings-are-layers : HasFreeCell (plot .board) → plotCuttings plot ≡ plotLayers plot
+  cuttings-are-layers = P.figure-free plot ok
+
+  -- and where it differs from it no cell is free: the line is `cuttings 1` behind `layers 0`.
+  pub cuttings-differ : (plotCuttings plot ≡ plotLayers plot → ⊥) → (isFull (plot .board) ≡ true) × (plotLayers plot ≡ given 0) × (plotCuttings plot ≡ given 1)
+  cuttings-differ = P.figure-differs plot ok
+
   module _ (g : Graph) (made : plotGraph plot ≡ given g) where
-    -- and so is the number behind `graph`.
+    -- The number behind `graph` is the number of cuttings, under the conditions of the layer count.
     pub graph-count-is-cuttings : HasFreeCell (plot .board) → AllEdgeJoined (plot .tiles)
         → Exactly (countOfGraph g) (IsCutting (plot .board) (plot .tiles))
     graph-count-is-cuttings free joined = (markedPiecesOf g, P.lists-cuttings plot ok g made free joined)
@@ -127,14 +144,14 @@ module _ (file : List ℕ) (plot : Plot) (is : plotIn file ≡ given plot) where
   -- ---- 5. A plot with no free cell
 
   -- 02, request 2: "A plot whose cells are all fixed is now possible and counts 0": by both counts, with one node, no edge and no tiling line, where the tiles have
-  -- one number of cells;
+  -- one number of cells; and its figure is 1;
   pub full-report : isFull (plot .board) ≡ true → equalCounts (plot .tiles) ≡ true
-      → report file ≡ boardLine plot ++ tilesLine plot ++ ascii "layers 0\ngraph 0 nodes 1 edges 0\n"
+      → report file ≡ boardLine plot ++ tilesLine plot ++ ascii "layers 0\ncuttings 1\ngraph 0 nodes 1 edges 0\n"
   unfolding report linesFor
   full-report full equal = ap linesFor is ∙ full-lines plot ok full equal
 
-  -- else both counts are refused by 7, as of every board.
-  pub unequal-report : equalCounts (plot .tiles) ≡ false → report file ≡ boardLine plot ++ tilesLine plot ++ ascii "layers refused 7\ngraph refused 7\n"
+  -- else all three are refused by 7, as of every board.
+  pub unequal-report : equalCounts (plot .tiles) ≡ false → report file ≡ boardLine plot ++ tilesLine plot ++ ascii "layers refused 7\ncuttings refused 7\ngraph refused 7\n"
   unfolding report linesFor
   unequal-report unequal = ap linesFor is ∙ unequal-lines plot unequal
 
@@ -155,18 +172,26 @@ module _ (board : BoardRecord) (holes : List Hole) (tiles : List TileRecord) (pl
   unfolding holed
   holes-uncounted cell = ap (λ (b : Board). countOf b cell) (h .fixes)
 
+  joined-there : AllEdgeJoined (flatMap tilesHeld tiles) → AllEdgeJoined (plot .tiles)
+  joined-there = subst AllEdgeJoined (sym (h .all))
+
+  -- what is known of so many cuttings of the plot is known of those of that board by the tiles of the tile records
+  of-records : (n : ℕ) → Exactly n (IsCutting (plot .board) (plot .tiles)) → Exactly n (IsCutting (holed (h .outline) holes) (flatMap tilesHeld tiles))
+  of-records n e =
+      subst (λ (ts : List Path). Exactly n (IsCutting (holed (h .outline) holes) ts)) (h .all) (subst (λ (b : Board). Exactly n (IsCutting b (plot .tiles))) (h .fixes) e)
+
+  -- The number in the line `cuttings N` is the number of cuttings of that board by the tiles of the tile records, also where the holes leave no cell free.
+  pub holes-cuttings : AllEdgeJoined (flatMap tilesHeld tiles) → (n : ℕ) → plotCuttings plot ≡ given n
+      → Exactly n (IsCutting (holed (h .outline) holes) (flatMap tilesHeld tiles))
+  holes-cuttings joined n e = of-records n (cuttings-are-cuttings (fileOf board holes tiles) plot read n e (joined-there joined))
+
   module _ (free : HasFreeCell (holed (h .outline) holes)) (joined : AllEdgeJoined (flatMap tilesHeld tiles)) where
     free-there : HasFreeCell (plot .board)
     free-there = subst HasFreeCell (sym (h .fixes)) free
 
-    joined-there : AllEdgeJoined (plot .tiles)
-    joined-there = subst AllEdgeJoined (sym (h .all)) joined
-
-    -- The number in the line `layers N` is the number of cuttings of that board by the tiles of the tile records,
+    -- Where a cell is left free the number in the line `layers N` is,
     pub holes-layers : (n : ℕ) → plotLayers plot ≡ given n → Exactly n (IsCutting (holed (h .outline) holes) (flatMap tilesHeld tiles))
-    holes-layers n e =
-        subst (λ (ts : List Path). Exactly n (IsCutting (holed (h .outline) holes) ts)) (h .all)
-        (subst (λ (b : Board). Exactly n (IsCutting b (plot .tiles))) (h .fixes) (layers-are-cuttings (fileOf board holes tiles) plot read n e free-there joined-there))
+    holes-layers n e = of-records n (layers-are-cuttings (fileOf board holes tiles) plot read n e free-there (joined-there joined))
 
     -- the numbers below the graph's count number these cuttings,
     pub holes-tilings : (g : Graph) → plotGraph plot ≡ given g
@@ -174,7 +199,7 @@ module _ (board : BoardRecord) (holes : List Hole) (tiles : List TileRecord) (pl
     holes-tilings g made =
         subst (λ (ts : List Path). Numbering (IsCutting (holed (h .outline) holes) ts) (countOfGraph g) (markedPiecesOf g)) (h .all)
         (subst (λ (b : Board). Numbering (IsCutting b (plot .tiles)) (countOfGraph g) (markedPiecesOf g)) (h .fixes)
-        (tilings-are-cuttings (fileOf board holes tiles) plot read g made free-there joined-there))
+        (tilings-are-cuttings (fileOf board holes tiles) plot read g made free-there (joined-there joined)))
 
     -- and so the graph's count is their number too.
     pub holes-graph : (g : Graph) → plotGraph plot ≡ given g → Exactly (countOfGraph g) (IsCutting (holed (h .outline) holes) (flatMap tilesHeld tiles))

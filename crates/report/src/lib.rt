@@ -10,7 +10,7 @@ use plot_file::MadePlot;
 use refusal::Verdict;
 use tiles::Tiles;
 ghost use mathlib.Core.Path.{_≡_};
-ghost use mathlib.Core.List.{flatMap};
+ghost use mathlib.Core.List.{_++_, flatMap};
 ghost use Prim.Native.Nat.{_≤_, _<_};
 ghost use lib.ListN.{length};
 ghost use Rattle.cells.specs.Lists.{listOf};
@@ -20,7 +20,7 @@ ghost use Rattle.board.specs.Board.{readBoard};
 ghost use Rattle.path_count.specs.PathCounts.{countValue};
 ghost use Rattle.tiler.specs.Graphs.{Graph, countOfGraph};
 ghost use Rattle.plot_file.specs.PlotFile.{Plot};
-ghost use Rattle.report.specs.Report.{listed, layersLine, plotLayers, graphLines, plotGraph, tilingLine, plotLines, report, WritesReport};
+ghost use Rattle.report.specs.Report.{listed, layersLine, plotLayers, cuttingsLine, plotCuttings, graphLines, plotGraph, tilingLine, plotLines, report, WritesReport};
 ghost use Rattle.report.specs.Inner.{Puts, HoldsPlot, Built};
 
 mod lines;
@@ -57,7 +57,7 @@ fn put_plot(out: &mut [u8], plot: MadePlot) -> usize
     let tiles = plot.tiles;
     let second = lines::put_board(out, 0, board.width, board.height, free_cells(board));
     let third = lines::put_tiles(out, second, tiles.count);
-    let fourth = put_layers(out, third, board, tiles);
+    let fourth = put_counts(out, third, board, tiles);
     put_graph(out, fourth, board, tiles)
 }
 
@@ -72,11 +72,11 @@ fn free_cells(board: RectangularBoard) -> usize
     }
 }
 
-// The line of the layer count, with room for 512 boards a layer: the arrays of counts have as many
-// words as 512 counts take.
-fn put_layers(out: &mut [u8], at: usize, board: RectangularBoard, tiles: Tiles) -> usize
+// The lines of the layer count and of the figure called cuttings, from layers that are worked once, with
+// room for 512 boards a layer: the arrays of counts have as many words as 512 counts take.
+fn put_counts(out: &mut [u8], at: usize, board: RectangularBoard, tiles: Tiles) -> usize
     requires { ⌜ at ≤ length (now out) ⌝ }
-    ensures text { λ r. ⌜ ((p : Plot) → HoldsPlot p board tiles → Puts (now (out .entry)) at (layersLine (plotLayers p)) (now (out .exit)) r) ⌝ }
+    ensures text { λ r. ⌜ ((p : Plot) → HoldsPlot p board tiles → Puts (now (out .entry)) at (layersLine (plotLayers p) ++ cuttingsLine (plotCuttings p)) (now (out .exit)) r) ⌝ }
     ensures within { λ r. ⌜ r ≤ length (now (out .entry)) ⌝ }
 {
     let mut boards_a = [0u64; 2048];
@@ -91,7 +91,9 @@ fn put_layers(out: &mut [u8], at: usize, board: RectangularBoard, tiles: Tiles) 
         &mut boards_b,
         &mut counts_b,
     );
-    lines::put_count(out, at, count)
+    let next = lines::put_layers(out, at, count);
+    let figure = cuttings::count_cuttings_from_layers(board, count);
+    lines::put_cuttings(out, next, figure)
 }
 
 // The line of the graph and those of its tilings, with room for 1,024 nodes and 4,096 edges: the

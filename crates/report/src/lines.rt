@@ -11,7 +11,7 @@ ghost use Rattle.cells.specs.Lists.{ascii};
 ghost use Rattle.refusal.specs.Refusal.{refusalNumber};
 ghost use Rattle.path_count.specs.PathCounts.{countValue};
 ghost use Rattle.layers.specs.LayerCounts.{countAnswer};
-ghost use Rattle.report.specs.Report.{decimal, field, feed, refusedLine, layersLine};
+ghost use Rattle.report.specs.Report.{decimal, field, feed, refusedLine, countLine, layersLine, cuttingsLine};
 ghost use Rattle.report.specs.Inner.{Puts};
 
 // A line that ends in a refusal's number.
@@ -48,18 +48,34 @@ pub fn put_tiles(out: &mut [u8], at: usize, count: usize) -> usize
     text::put_last(out, at, b"tiles ", count as u64)
 }
 
-// The layer count, or its refusal.
-pub fn put_count(out: &mut [u8], at: usize, count: Count) -> usize
+// The line of a count, or of its refusal.
+fn put_count(out: &mut [u8], at: usize, words: &[u8], refused: &[u8], count: Count) -> usize
     requires { ⌜ at ≤ length (now out) ⌝ }
-    ensures { λ r. ⌜ Puts (now (out .entry)) at (layersLine (countAnswer count)) (now (out .exit)) r ⌝ }
+    ensures { λ r. ⌜ Puts (now (out .entry)) at (countLine (now (words .entry)) (now (refused .entry)) (countAnswer count)) (now (out .exit)) r ⌝ }
 {
     match count {
         Count::Number(n) => {
-            let next = text::put_paths(out, at, b"layers ", n);
+            let next = text::put_paths(out, at, words, n);
             text::put_bytes(out, next, b"\n")
         }
-        Count::Refused(refusal) => put_refusal(out, at, b"layers refused ", refusal),
+        Count::Refused(refusal) => put_refusal(out, at, refused, refusal),
     }
+}
+
+// The layer count, or its refusal.
+pub fn put_layers(out: &mut [u8], at: usize, count: Count) -> usize
+    requires { ⌜ at ≤ length (now out) ⌝ }
+    ensures { λ r. ⌜ Puts (now (out .entry)) at (layersLine (countAnswer count)) (now (out .exit)) r ⌝ }
+{
+    put_count(out, at, b"layers ", b"layers refused ", count)
+}
+
+// The figure called cuttings, or its refusal.
+pub fn put_cuttings(out: &mut [u8], at: usize, count: Count) -> usize
+    requires { ⌜ at ≤ length (now out) ⌝ }
+    ensures { λ r. ⌜ Puts (now (out .entry)) at (cuttingsLine (countAnswer count)) (now (out .exit)) r ⌝ }
+{
+    put_count(out, at, b"cuttings ", b"cuttings refused ", count)
 }
 
 // A refused graph.

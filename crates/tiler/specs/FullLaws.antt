@@ -1,25 +1,23 @@
--- Laws of a full start: it has no children, so that there is one layer and one node, its layer count is 0, and so is the count of its graph. Rests on
--- `Graphs`, layers' `CountLaws` and `RunLaws`, children's `ChildLaws` and expansion's `SettingLaws`. Assumes nothing.
+-- Laws of the graph of a full start: the start has no children, so that there is one node, and the graph's count is 0. (Its layer count is in `FullLaws` of the crate
+-- `cuttings`.) Rests on `Graphs`, children's `ChildLaws` and expansion's `SettingLaws`. Assumes nothing.
 use mathlib.Core.Path.{_≡_, ap, ap₂, _∙_}
 use mathlib.Core.Bool.{true, So, cond}
 use mathlib.Core.List.{List, [], _∷_, _++_, map, flatMap}
 use mathlib.Core.Option.{none}
 use Prim.Native.Nat.{ℕ, _^_, _<_}
-use borrow.Author.Tests.{eqb-true, le-leb}
+use borrow.Author.Tests.{le-leb}
 use lib.Dec.{eqb}
 use native.Mathlib.Omega.{arith}
 use Rattle.cells.specs.Lists.{any}
 use Rattle.refusal.specs.Refusal.{refused, given}
 use Rattle.tile.specs.Path.{Path}
-use Rattle.rectangle.specs.Board.{Board, marks, freeCount, isFull, valid}
-use Rattle.children.specs.Children.{children, childrenAt, fullAt, freeCountAt}
+use Rattle.rectangle.specs.Board.{Board, marks, isFull, valid}
+use Rattle.children.specs.Children.{children, childrenAt, fullAt}
 use Rattle.children.specs.ChildLaws.{full-children}
 use Rattle.covers.specs.Counts.{Entry, boards, counts, layer, layers, numberIn, edgesOf, fullFrom, fullNode}
 use Rattle.expansion.specs.SettingLaws.{start-at}
-use Rattle.expansion.specs.Boards.{setting}
-use Rattle.layers.specs.LayerCounts.{tooLarge, layerCountFor}
-use Rattle.layers.specs.CountLaws.{layers-setting}
-use Rattle.layers.specs.RunLaws.{layers-full}
+use Rattle.cuttings.specs.FullLaws.{none-free}
+use Rattle.layers.specs.LayerCounts.{tooLarge}
 use Rattle.tiler.specs.Graphs.{Graph, entriesFor, graphOf, judgeGraph, graphFor}
 
 -- the graph of one node, which is not the full board's node
@@ -27,20 +25,12 @@ abbrev pub onlyStart : Board → Graph
 onlyStart b = record { nodes = marks b ∷ []; counts = 1 ∷ []; edges = []; complete = none }
 
 module _ (b : Board) (paths : List Path) (ok : So (valid b)) (fixed : b .fixed < 2 ^ 256) (laid : b .laid < 2 ^ 256) (full : isFull b ≡ true) where
-  none-free : freeCountAt b (marks b) ≡ 0
-  unfolding isFull
-  none-free = ap freeCount (start-at b paths ok fixed laid) ∙ eqb-true (freeCount b) 0 full
-
   no-children : childrenAt b paths (marks b) ≡ []
   no-children = ap (λ (c : Board). children c paths) (start-at b paths ok fixed laid) ∙ full-children b ok paths full
 
-  pub full-layer-count : (room : ℕ) → 0 < room → layerCountFor b paths room ≡ given 0
-  unfolding setting
-  full-layer-count room h = layers-setting b paths room ∙ layers-full (setting b paths) (marks b) room none-free h
-
   one-node : entriesFor b paths ≡ (marks b, 1) ∷ []
   unfolding layers layer
-  one-node = ap (layers eqb (childrenAt b paths) (marks b)) none-free
+  one-node = ap (layers eqb (childrenAt b paths) (marks b)) (none-free b paths ok fixed laid full)
 
   no-edges : edgesOf eqb (childrenAt b paths) (marks b ∷ []) ≡ []
   unfolding edgesOf flatMap

@@ -1,0 +1,2 @@
+-- Laws that only the proofs of this crate's code cite.
+pub mod FromLaws
