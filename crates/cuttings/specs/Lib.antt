@@ -4,3 +4,4 @@ pub mod Cuttings
 pub mod FullLaws
 pub mod CuttingLaws
 pub mod Theorems
+pub mod Examples

@@ -36,11 +36,11 @@ use Rattle.hosts.specs.Theorems.{read-plot-returns, countTold, cuttingLe
 -- ---- boards and tiles of a wrong shape
 
 -- no marks: eight words
-abbrev noMarks : List ℕ
+abbrev pub noMarks : List ℕ
 noMarks = replicate 8 0
 
 -- the bytes of a path of one code
-abbrev one : ℕ → List ℕ
+abbrev pub one : ℕ → List ℕ
 one code = 1 ∷ code ∷ replicate 31 0
 
 -- marks of 7 words, and of 9
@@ -98,7 +98,7 @@ then-the-board = refl
 -- ---- 01's worked example, 2 by 2 dominoes
 
 -- two of the four tiles are enough: Right and Down
-abbrev dominoes : List ℕ
+abbrev pub dominoes : List ℕ
 dominoes = one 3 ++ one 1
 
 -- the children of the empty board: the upper row, and the left column
@@ -194,10 +194,10 @@ causes-in-order = (refl, refl)
 
 -- ---- demand 3's conditions can be met by a host's calls: the three calls of 2 by 2 dominoes, in words that held 7
 
-abbrev lent : ℕ → List ℕ
+abbrev pub lent : ℕ → List ℕ
 lent n = replicate n 7
 
-no-marks-small : Small noMarks
+pub no-marks-small : Small noMarks
 no-marks-small i = subst (λ (n : ℕ). n < 2 ^ 64) (sym (zero-at 8 i)) (lit< tt)
 
 -- cell 0 is free
@@ -213,7 +213,7 @@ dominoes-joined : AllEdgeJoined ((3 ∷ []) ∷ (1 ∷ []) ∷ [])
 unfolding edgeJoined cellCount step
 dominoes-joined path m = edgeJoined-iff path .0 (map-at edgeJoined (λ q. true) ((3 ∷ []) ∷ (1 ∷ []) ∷ []) refl path m)
 
-joined : AllEdgeJoined (pathsIn (tilesIn dominoes))
+pub joined : AllEdgeJoined (pathsIn (tilesIn dominoes))
 joined = subst AllEdgeJoined (sym two-paths) dominoes-joined
 
 count-call : AnswersCount (counted 2 2 noMarks dominoes (layerRoom 8 2 8 2) 2) (lent 8) (lent 2) (lent 8) (lent 2) (lent 2)

@@ -12,7 +12,6 @@ use Rattle.cells.specs.Set.{Sound, value, wordsBelow}
 use Rattle.cells.specs.WordLaws.{Small}
 use Rattle.cells.specs.Lists.{padded}
 use Rattle.refusal.specs.Refusal.{Answer, refused, given, mapAnswer, refusalOf, valueOr}
-use Rattle.refusal.specs.RefusalLaws.{given-inj}
 use Rattle.tiles.specs.declared.Tiles.{Tiles}
 use Rattle.tiles.specs.Paths.{pathsIn}
 use Rattle.board.specs.declared.RectangularBoard.{RectangularBoard}
@@ -28,7 +27,7 @@ use Rattle.cuttings.specs.CuttingLaws.{full-given}
 use Rattle.cuttings.specs.Theorems.{free-is-layer-count, figure-fits, figure-is-cuttings}
 use Rattle.host_words.specs.Layout.{boardIn, plotShape, unless, AnswersWords}
 use Rattle.host_tiles.specs.TileBytes.{tilesIn}
-use Rattle.host_counts.specs.Calls.{counted, cuttingsCounted, AnswersCount}
+use Rattle.host_counts.specs.Calls.{counted, cuttingsCounted}
 use Rattle.hosts.specs.ReturnLaws.{zero-given, unless-given, plot-shape, cuttings-refuses}
 use Rattle.hosts.specs.ReadBackLaws.{number-at, two-small, value-two, count-back}
 use Rattle.hosts.specs.HandedOnLaws.{words-given}

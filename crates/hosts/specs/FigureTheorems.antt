@@ -2,9 +2,9 @@
 -- number of cuttings whether a cell is free or not; what the product of two such numbers is; and what an archive record holds into which its words are written. What
 -- it returns and leaves, for every input, is `AnswersCount` of `cuttingsCounted` (host_counts' `Calls`), and each statement here is of calls of which it holds. What stands in
 -- quotation marks is 02's, from its request 3. Rests on `FigureLaws`, `ReturnLaws` and `RecordTheorems`. Assumes nothing.
-use mathlib.Core.Path.{_≡_, refl, sym, ap, _∙_, subst}
+use mathlib.Core.Path.{_≡_, refl, sym, subst}
 use mathlib.Core.Logic.{_↔_}
-use mathlib.Core.Bool.{Bool, true}
+use mathlib.Core.Bool.{true}
 use mathlib.Core.List.{List, [], _∷_, _++_}
 use Prim.Native.Nat.{ℕ, _*_, _≤_, _<_, _^_}
 use native.Mathlib.Omega.{arith}

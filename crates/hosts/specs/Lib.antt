@@ -14,3 +14,4 @@ pub mod RecordTheorems
 pub mod RecordExamples
 pub mod FigureLaws
 pub mod FigureTheorems
+pub mod FigureExamples

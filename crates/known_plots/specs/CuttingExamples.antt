@@ -21,10 +21,10 @@ use Rattle.tile.specs.EdgeTest.{edgeJoined, edgeJoined-iff}
 use Rattle.tiles.specs.Paths.{pathsIn, tilesOf}
 use Rattle.tiles.specs.EqualLaws.{readEqualTiles-given}
 use Rattle.board.specs.declared.RectangularBoard.{RectangularBoard}
-use Rattle.rectangle.specs.Board.{Board, boardAt, marks, isFree, isFull, valid}
+use Rattle.rectangle.specs.Board.{Board, isFree, isFull, valid}
 use Rattle.board.specs.Board.{boardOf, ofMarks, newBoard}
 use Rattle.covers.specs.Counts.{Exactly}
-use Rattle.covers.specs.Theorems.{number-unique, numbering-carried, full-has-one}
+use Rattle.covers.specs.Theorems.{number-unique}
 use Rattle.graph.specs.declared.Complete.the-variants as N
 use Rattle.numbered_tilings.specs.declared.Tiling.{Tiling}
 use Rattle.numbered_tilings.specs.declared.Tiling.the-variants as T
@@ -38,10 +38,8 @@ use Rattle.tiler.specs.declared.MadeGraph.{MadeGraph}
 use Rattle.expansion.specs.Plots.{acceptPlot, IsCutting, HasFreeCell, AllEdgeJoined}
 use Rattle.layers.specs.LayerCounts.{layerCountFor, countTilings, countAnswer, CountsTilings}
 use Rattle.tiler.specs.Graphs.{Graph, graphFor, generateGraph, Makes, GeneratesGraph, countOfGraph}
-use Rattle.expansion.specs.Boards.{setting}
-use Rattle.expansion.specs.SettingLaws.{setting-laws, start-ok}
-use Rattle.expansion.specs.CuttingLaws.{cutting-start}
 use Rattle.layers.specs.CountLaws.{count-cuttings}
+use Rattle.cuttings.specs.FullLaws.{full-one-cutting}
 use Rattle.tiler.specs.CuttingTheorems.{number-of-cuttings, gives-a-cutting, different-cuttings, every-cutting-has-its-number}
 use Rattle.known_plots.specs.KnownPlots.{Row, D as dominoes, slanted, rows, map-at, known-tiles-read, known-plots-counted, fourByTwo, one-slanted-cutting}
 use Rattle.known_plots.specs.Examples.{board, full-start, full-start-graph, set, rectangle, dominoes-read, two-by-two-counted, two-by-two-given, no-marks}
@@ -49,7 +47,7 @@ use Rattle.known_plots.specs.Examples.{board, full-start, full-start-gra
 -- ---- 2 by 2 with dominoes meets the conditions
 
 -- cell 0 is free
-has-free-cell : HasFreeCell (boardOf (rectangle 2 2))
+pub has-free-cell : HasFreeCell (boardOf (rectangle 2 2))
 unfolding number isFree
 has-free-cell = (0, refl)
 
@@ -65,7 +63,7 @@ dominoes-joined = all-joined dominoes refl
 stored-dominoes : dominoes ≡ pathsIn (tilesOf dominoes)
 stored-dominoes = readEqualTiles-given (tilesOf dominoes) dominoes dominoes-read .1
 
-stored-joined : AllEdgeJoined (pathsIn (tilesOf dominoes))
+pub stored-joined : AllEdgeJoined (pathsIn (tilesOf dominoes))
 stored-joined = subst AllEdgeJoined stored-dominoes dominoes-joined
 
 -- ---- `count_tilings` and `generate_graph` are called: what they answer and leave
@@ -217,19 +215,19 @@ lying-or-standing X cuts = go (r .0) (r .1) (r .2)
 -- ---- "any board with a free cell" can't be dropped: a full board counts 0, but has one cutting, the empty set
 
 -- 2 by 1, one cell fixed and one laid
-abbrev fullBoard : RectangularBoard
+abbrev pub fullBoard : RectangularBoard
 fullBoard = ofMarks 2 1 (set 1) (set 2)
 
 -- a set in its lowest word has words of 64 bits
-small-set : (n : ℕ) → n < 2 ^ 64 → Sound (set n)
+pub small-set : (n : ℕ) → n < 2 ^ 64 → Sound (set n)
 small-set n h = record { s0 = h; s1 = lit< tt; s2 = lit< tt; s3 = lit< tt }
 
 -- board and tiles are read, and neither count is refused: both are 0
-full-board-read : acceptPlot fullBoard (tilesOf dominoes) ≡ given (board 2 1 1 2, dominoes)
+pub full-board-read : acceptPlot fullBoard (tilesOf dominoes) ≡ given (board 2 1 1 2, dominoes)
 unfolding acceptPlot bindAnswer mapAnswer number
 full-board-read = rw dominoes-read
 
-full-board-counted : countTilings fullBoard (tilesOf dominoes) 1 ≡ given 0
+pub full-board-counted : countTilings fullBoard (tilesOf dominoes) 1 ≡ given 0
 unfolding countTilings layerCountFor bindAnswer
 full-board-counted = ap (λ (a : Answer (Board × List Path)). bindAnswer a (λ p. layerCountFor (p .0) (p .1) 1)) full-board-read ∙ full-start
 
@@ -243,20 +241,13 @@ full-board-valid : So (valid (board 2 1 1 2))
 unfolding valid
 full-board-valid = refl
 
-full-board-full : So (isFull (boardAt (board 2 1 1 2) 3))
+full-board-full : isFull (board 2 1 1 2) ≡ true
 unfolding isFull
 full-board-full = refl
 
 -- but there is one cutting
 full-board-one : Exactly 1 (IsCutting (board 2 1 1 2) dominoes)
-unfolding setting marks
-full-board-one =
-    let same = cutting-start (board 2 1 1 2) dominoes full-board-valid (lit< tt) (lit< tt) in (
-      λ m p. false,
-      numbering-carried (λ X. X) (λ X u. same X .0 u) (λ X Y u v e. e) (λ X u. (X, same X .1 u, refl))
-          (full-has-one (setting (board 2 1 1 2) dominoes) (setting-laws (board 2 1 1 2) dominoes full-board-valid) 3
-          (start-ok (board 2 1 1 2) dominoes full-board-valid (lit< tt) (lit< tt)) full-board-full),
-    )
+full-board-one = (λ m p. false, full-one-cutting (board 2 1 1 2) dominoes full-board-valid (lit< tt) (lit< tt) full-board-full)
 
 -- so their number is not 0,
 full-board-not-none : Exactly 0 (IsCutting (boardOf fullBoard) (pathsIn (tilesOf dominoes))) → ⊥
@@ -282,17 +273,17 @@ unfolding rows
 slanted-row = mem-getD rows 11 slantedRow (lit< tt)
 
 -- neither count is refused: both are 0
-slanted-counted : (countTilings (rectangle 4 2) (tilesOf slanted) plotBoards ≡ given 0)
+pub slanted-counted : (countTilings (rectangle 4 2) (tilesOf slanted) plotBoards ≡ given 0)
     × (mapAnswer countOfGraph (generateGraph (rectangle 4 2) (tilesOf slanted) (4 * plotNodes) (countSpan plotNodes) (2 * plotEdges)) ≡ given 0)
 unfolding number newBoard
 slanted-counted = known-plots-counted slantedRow slanted-row (rectangle 4 2) (tilesOf slanted) refl (known-tiles-read slantedRow slanted-row)
 
-slanted-free-cell : HasFreeCell (boardOf (rectangle 4 2))
+pub slanted-free-cell : HasFreeCell (boardOf (rectangle 4 2))
 unfolding number isFree
 slanted-free-cell = (0, refl)
 
 -- but there is one cutting, so their number is not 0,
-slanted-not-none : Exactly 0 (IsCutting (boardOf (rectangle 4 2)) (pathsIn (tilesOf slanted))) → ⊥
+pub slanted-not-none : Exactly 0 (IsCutting (boardOf (rectangle 4 2)) (pathsIn (tilesOf slanted))) → ⊥
 unfolding number
 slanted-not-none none =
     let same = readEqualTiles-given (tilesOf slanted) slanted (known-tiles-read slantedRow slanted-row) .1 in

@@ -156,7 +156,7 @@ abbrev pub rectangle : ℕ → ℕ → RectangularBoard
 rectangle w h = ofMarks w h (set 0) (set 0)
 
 -- Right, and Right Right
-abbrev unequal : List Path
+abbrev pub unequal : List Path
 unequal = (3 ∷ []) ∷ (3 ∷ 3 ∷ []) ∷ []
 
 wrong-board : countTilings (rectangle 0 5) (tilesOf unequal) 0 ≡ refused 4
@@ -173,17 +173,20 @@ unequal-counts : equalCounts unequal ≡ false
 unfolding equalCounts step
 unequal-counts = refl
 
+pub unequal-tiles-read : readEqualTiles (tilesOf unequal) ≡ refused 7
+unequal-tiles-read = readEqualTiles-unequal (tilesOf unequal) unequal (readTiles-tilesOf unequal (lit≤ tt) stored) unequal-counts
+
 two-by-two-read : readBoard (rectangle 2 2) ≡ given (boardOf (rectangle 2 2))
 unfolding readBoard number
 two-by-two-read = refl
 
 unequal-tiles : countTilings (rectangle 2 2) (tilesOf unequal) 0 ≡ refused 7
 unfolding countTilings acceptPlot bindAnswer mapAnswer
-unequal-tiles = rw (two-by-two-read, readEqualTiles-unequal (tilesOf unequal) unequal (readTiles-tilesOf unequal (lit≤ tt) stored) unequal-counts)
+unequal-tiles = rw (two-by-two-read, unequal-tiles-read)
 
 unequal-tiles-graph : generateGraph (rectangle 2 2) (tilesOf unequal) 0 0 0 ≡ refused 7
 unfolding generateGraph acceptPlot bindAnswer mapAnswer
-unequal-tiles-graph = rw (two-by-two-read, readEqualTiles-unequal (tilesOf unequal) unequal (readTiles-tilesOf unequal (lit≤ tt) stored) unequal-counts)
+unequal-tiles-graph = rw (two-by-two-read, unequal-tiles-read)
 
 -- ---- rooms: "the least of both layers' words ÷ 4 and of both layers' count words", and at most 16,777,216
 

@@ -19,7 +19,7 @@ use Rattle.tiler.specs.Graphs.{Graph, countOfGraph, nodeListOf}
 use Rattle.tiler.specs.NumberLaws.{graph-count-small, list-below}
 use Rattle.path_count.specs.PathCounts.{countLimit}
 use Rattle.plot_file.specs.PlotFile.{Plot}
-use Rattle.report.specs.Report.{plotLayers, plotCuttings, plotGraph, listed, decimal, field, feed, refusedLine, boardLine, tilesLine, countLine, layersLine, cuttingsLine, graphLine, tilingLine, graphLines, plotLines}
+use Rattle.report.specs.Report.{plotLayers, plotCuttings, plotGraph, listed, decimal, field, feed, refusedLine, boardLine, tilesLine, layersLine, cuttingsLine, graphLine, tilingLine, graphLines, plotLines}
 use Rattle.report.specs.DecimalLaws.{decimal-length}
 use Rattle.report.specs.CountLaws.{layers-refusals, cuttings-refusals, graph-refusals}
 use Rattle.report.specs.BuiltLaws.{list-short}
