@@ -68,6 +68,20 @@ uint64_t cuttings_count_tilings(uint64_t width, uint64_t height,
                                 uint64_t *counts_b, size_t counts_b_len,
                                 uint64_t *answer, size_t answer_len);
 
+/* The figure called cuttings: 1 for a board with no free cell, 0 by 0 among them, otherwise the layer
+   count. So the product of the figures of neighbouring plots is not spoilt by one that is built over,
+   which has one cutting, the empty one. Lent words, answer and refusals are those of
+   cuttings_count_tilings, and the refusals come first: a board with no free cell is 7 with unequal tiles
+   and 8 with room for no board. Stack: at most 96 KB. */
+uint64_t cuttings_count_cuttings(uint64_t width, uint64_t height,
+                                 const uint64_t *marks, size_t marks_len,
+                                 const uint8_t *tiles, size_t tiles_len,
+                                 uint64_t *boards_a, size_t boards_a_len,
+                                 uint64_t *counts_a, size_t counts_a_len,
+                                 uint64_t *boards_b, size_t boards_b_len,
+                                 uint64_t *counts_b, size_t counts_b_len,
+                                 uint64_t *answer, size_t answer_len);
+
 /* The graph of partial cuttings: nodes, four words each; counts, one word a node; edges, two words
    each, parent and child. answer[0], answer[1]: how many nodes and edges; answer[2]: 1 if there is a
    full node, else 0; answer[3]: the full node. The number of tilings is counts[answer[3]] where
@@ -120,8 +134,8 @@ uint64_t cuttings_read_plot(const uint8_t *file, size_t file_len,
                             uint8_t *tiles, size_t tiles_len,
                             uint64_t *answer, size_t answer_len);
 
-/* One record of an archive file, its count as low word and high word: 24 bytes into out.
-   Refusal: 8, out has fewer. Stack: at most 16 KB. */
+/* One record of an archive file, its count as low word and high word: 24 bytes into out. The archive
+   takes the figure of cuttings_count_cuttings. Refusal: 8, out has fewer. Stack: at most 16 KB. */
 uint64_t cuttings_write_record(uint16_t id, uint16_t year, uint16_t revision,
                                uint64_t low, uint64_t high,
                                uint8_t *out, size_t out_len);

@@ -1,6 +1,7 @@
 """What is stored for a command: the oracle's answer, that of a model, or a refusal by 01 or 02.
 
-The models are those of tilings.py, for `tiling`, and of records.py, for the commands on archive files.
+The models are those of tilings.py, for `tiling`, and of records.py, for the commands on archive files;
+the one for `cuttings` is the oracle's.
 """
 
 import sys
@@ -25,11 +26,16 @@ def codes_of(name, number):
     return int(number) if name == "l" else 2 * int(number) + 1
 
 
+def free_cells(fields):
+    """How many cells are free on the board of a command."""
+    width, height, fixed, laid = (int(word, base) for word, base in zip(fields, (10, 10, 16, 16)))
+    return Plot(width, height, fixed, laid).free().bit_count()
+
+
 def has_room(fields):
     """Whether a command `one` has the room that 01 asks for: one board more than free cells."""
-    width, height, fixed, laid = (int(word, base) for word, base in zip(fields, (10, 10, 16, 16)))
     room = int(fields[5]) if fields[5:] else MOST_BOARDS
-    return Plot(width, height, fixed, laid).free().bit_count() < room
+    return free_cells(fields) < room
 
 
 def with_hole(fields):
@@ -43,10 +49,15 @@ def with_hole(fields):
     return f"{width} {height} {fixed | cell(row, column):x} {laid:x}"
 
 
+def figure(layers, free):
+    """What 02's request 3 has for a command `cuttings`, by the answer to `layers` and the free cells."""
+    return "1" if free == 0 and not layers.startswith("refused") else layers
+
+
 def refusal(command):
     """01's refusal of a command, or none. The Rust has no refusals.
 
-    Those of `layers` and `graph` from 7 to 10 are the oracle's.
+    Those of `layers`, `cuttings` and `graph` from 7 to 10 are the oracle's.
     """
     name, *fields = command.split()
     if name in ("l", "t"):
@@ -55,7 +66,7 @@ def refusal(command):
         a, b = map(int, fields)
         size = {"new": (a, b), "lb": (a * b, 2 * b), "tb": ((2 * a + 1) * b, 2 * b)}[name]
         return None if is_board(*size) else 4
-    if name in ("full", "children", "layers", "graph", "tilings", "one"):
+    if name in ("full", "children", "layers", "cuttings", "graph", "tilings", "one"):
         width, height, fixed, laid = fields[:4]
         if not is_board(int(width), int(height), int(fixed, 16), int(laid, 16)):
             return 4
@@ -71,7 +82,7 @@ def refusal(command):
 def is_for_oracle(command):
     """Whether the oracle has an answer: it takes no board that is none and counts no such tiles."""
     name, number = command.split()[0], refusal(command)
-    if name in ("layers", "graph", "tilings", "one"):
+    if name in ("layers", "cuttings", "graph", "tilings", "one"):
         return number is None
     if name == "tiling" or name in records.COMMANDS:
         return False

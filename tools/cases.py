@@ -33,13 +33,42 @@ def some_rooms(draws, name, weight):
     kind = draws.below(8)
     if weight is None or kind < 4:
         return ""
-    if name == "layers":
+    if name in ("layers", "cuttings"):
         largest = weight.largest
         return f" {[largest, largest - 1, 4096, draws.below(largest + 2)][kind - 4]}"
     nodes, edges = weight.nodes, weight.edges
     if kind == 7:
         return f" {draws.below(nodes + 3)} {draws.below(edges + 3)}"
     return f" {nodes - (kind == 5)} {max(edges - (kind == 6), 0)}"
+
+
+def fill(draws, plot):
+    """Marks the free cells of a plot, all or all but one to four; some are fixed and some laid."""
+    left = 0
+    if plot.free() and draws.one_in(3):
+        for _ in range(1 + draws.below(4)):
+            left |= draws.one_of([1 << bit for bit in range(256) if plot.free() >> bit & 1])
+    marked = plot.free() & ~left
+    laid = draws.one_of([0, marked, marked & draws.half()])
+    plot.laid |= laid
+    plot.fixed |= marked & ~laid
+
+
+def some_to_figure(draws, plot):
+    """Makes a plot one for `cuttings`: half of them are full or nearly full, some with unequal tiles."""
+    if draws.one_in(2):
+        fill(draws, plot)
+    if draws.one_in(40):
+        plot.width = plot.height = plot.fixed = plot.laid = 0
+    if draws.one_in(16):
+        plot.tiles = plots.unequal_tiles(draws)
+
+
+def room_to_figure(draws, weight):
+    """A room for a command `cuttings`; with none or one board too where nothing is known."""
+    if weight is None and draws.one_in(2):
+        return f" {draws.below(2)}"
+    return some_rooms(draws, "cuttings", weight)
 
 
 def plots_to_list(draws, ask, number, most_nodes):

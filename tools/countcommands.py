@@ -1,4 +1,5 @@
-"""The commands of the program replay_counts: layer counts, graphs, tilings and tilings by number.
+"""The commands of the program replay_counts: both counts, the figure called cuttings, tilings
+and tilings by number.
 
 Each section answers a list of commands, by its own generator and by the oracle's answers.
 """
@@ -7,6 +8,7 @@ import itertools
 import sys
 
 sys.dont_write_bytecode = True
+import cuttingcases
 import damages
 import plots
 import tilings
@@ -284,7 +286,14 @@ def counts_with_holes(draws, ask):
     return different(commands)
 
 
+def figures_like_layers(draws, ask):
+    """The figure with rooms that are just filled, and with large counts, where the layers have them."""
+    found = [text for text in large_counts(draws, ask) + exact_rooms(draws, ask) if text.startswith("layers ")]
+    return cuttingcases.held(ask, ((None, text.replace("layers", "cuttings", 1)) for text in found))
+
+
 SECTIONS = [known_plots, counted_plots, exact_rooms, count_refusals, large_counts]
 SECTIONS += [known_tilings, random_tilings, every_number, damaged_graphs, great_counts]
 SECTIONS += [changed_graphs]
 LATER_SECTIONS = [counts_with_holes]
+FIGURE_SECTIONS = [cuttingcases.figures, figures_like_layers, cuttingcases.random_figures]

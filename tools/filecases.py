@@ -3,7 +3,8 @@
 Each is a pair. A file that is made for a refusal comes with its number, which was read off 01's
 text by hand; a file that is read comes with words of the answer. make-answers holds the oracle's
 answers to both. Of the words those on boards and tiles are 01's, by hand; the counts and the
-numbers of nodes and edges were found by a search with a program of its own, which isn't kept.
+numbers of nodes and edges were found by a search with a program of its own, which isn't kept. The line
+of the figure called cuttings, behind that of the layers, is that of 02's request 3.
 """
 
 import sys
@@ -289,7 +290,7 @@ def long_files():
     tiles = [tile("TI", 16 * "32"), tile("TI", 16 * "10")]
     file = start("RB 2 2") + 32 * b"".join(tiles) + EN
     assert len(file) == 2246
-    yield "|tiles 64|layers 2|graph 2 nodes 4 edges 4|", file
+    yield "|tiles 64|layers 2|cuttings 2|graph 2 nodes 4 edges 4|", file
     yield 6, file[:-2] + tiles[0] + EN
     yield 6, file[:-2] + tile("OR", "-") + EN
     yield 3, file + b"\x00"
@@ -340,18 +341,18 @@ def counted_files():
     """Files with so many tilings, of which the first 16 are listed."""
     for count, texts in COUNTED.items():
         for text in texts.split(","):
-            yield f"|layers {count}|graph {count} nodes ", whole(text)
+            yield f"|layers {count}|cuttings {count}|graph {count} nodes ", whole(text)
 
 
 def bare_files():
     """Nothing to cut; no tiles; the single tile; tiles that cross themselves or stand twice."""
     for text in ("RB 0 0", "LB 5 0", "TB 3 0"):
         for tiles in ("", "TI -", "OR -", "OR 3", "OR 20 TI 33"):
-            yield "|layers 0|graph 0 nodes 1 edges 0|", whole(f"{text} {tiles}")
+            yield "|layers 0|cuttings 1|graph 0 nodes 1 edges 0|", whole(f"{text} {tiles}")
     for text in ("RB 1 1", "RB 1 7", "RB 7 1", "RB 5 4", "RB 16 16", "LB 3 1", "LB 2 8", "TB 2 2"):
-        yield "|tiles 0|layers 0|graph 0 nodes 1 edges 0|", whole(text)
-        yield "|tiles 1|layers 1|graph 1 nodes ", whole(f"{text} TI -")
-        yield "|tiles 1|layers 1|graph 1 nodes ", whole(f"{text} OR -")
+        yield "|tiles 0|layers 0|cuttings 0|graph 0 nodes 1 edges 0|", whole(text)
+        yield "|tiles 1|layers 1|cuttings 1|graph 1 nodes ", whole(f"{text} TI -")
+        yield "|tiles 1|layers 1|cuttings 1|graph 1 nodes ", whole(f"{text} OR -")
     yield "|graph 1 nodes 257 edges 256|tiling 0: 0 1 2 3 ", whole("RB 16 16 TI -")
     yield "|graph 1 nodes 129 edges 128|tiling 0: 0 1 2 3 ", whole("RB 16 16 TI 3")
     yield "|graph 1 nodes 129 edges 128|tiling 0: 0 1 2 3 ", whole("RB 16 16 TI 0")
@@ -372,7 +373,7 @@ def unequal_files():
     boards = ["RB 0 0", "RB 1 1", "RB 2 2", "RB 4 3", "RB 16 16", "LB 3 2", "TB 1 1"]
     for turn, text in enumerate(boards):
         for more in tiles[turn % 2 :: 2]:
-            yield "|layers refused 7|graph refused 7|", whole(f"{text} {more}")
+            yield "|layers refused 7|cuttings refused 7|graph refused 7|", whole(f"{text} {more}")
 
 
 def shaped_files():
@@ -391,42 +392,44 @@ def shaped_files():
 # What fills the rooms of the program or passes them by one, and counts at 2^64.
 
 LAYERS_OF_512_AND_513 = {
-    "RB 5 6 OR 11031 OR 30111 OR 33011": "|layers 240|graph refused 8|",
+    "RB 5 6 OR 11031 OR 30111 OR 33011": "|layers 240|cuttings 240|graph refused 8|",
     "RB 3 10 OR 12021 OR 12202 OR 3010202 OR 11222 OR 123303 OR 110303 OR 2331002 TI 330113"
-    " TI 0110311 TI 013303 TI 222100 TI 1033213 TI 100200": "|layers 133|graph 133 nodes 904 ",
+    " TI 0110311 TI 013303 TI 222100 TI 1033213 TI 100200": "|layers 133|cuttings 133|graph 133 nodes 904 ",
     "RB 5 5 OR 3111 OR 30111 OR 30322 OR 1211 OR 00230"
-    " OR 32011011": "|layers refused 8|graph 224 nodes 1000 ",
+    " OR 32011011": "|layers refused 8|cuttings refused 8|graph 224 nodes 1000 ",
     "RB 6 5 OR 11303213 OR 11000203 OR 230223202 OR 12103303 OR 0010012012 OR 3321311"
-    " OR 33212313": "|layers refused 8|graph 0 nodes 850 ",
+    " OR 33212313": "|layers refused 8|cuttings refused 8|graph 0 nodes 850 ",
     "RB 5 7 OR 2033 OR 0330 OR 3131 TI 1102320 TI 2033"
-    " TI 310013": "|layers refused 8|graph refused 8|",
+    " TI 310013": "|layers refused 8|cuttings refused 8|graph refused 8|",
 }
 LARGER_LAYERS = {
     "RB 4 5 OR 166 OR 636 OR 053 OR 412 OR 4615 OR 354 OR 770"
-    " OR 227": "|layers refused 8|graph 25 nodes 1009 ",
+    " OR 227": "|layers refused 8|cuttings refused 8|graph 25 nodes 1009 ",
     "RB 4 6 OR 1114 OR 10630 OR 77547 OR 14656 OR 6262 OR 61052"
-    " OR 55722": "|layers refused 8|graph 0 nodes 997 ",
-    "RB 16 16 OR 3": "|layers refused 8|graph refused 8|",
-    "RB 16 16 OR 306": "|layers refused 8|graph refused 8|",
+    " OR 55722": "|layers refused 8|cuttings refused 8|graph 0 nodes 997 ",
+    "RB 16 16 OR 3": "|layers refused 8|cuttings refused 8|graph refused 8|",
+    "RB 16 16 OR 306": "|layers refused 8|cuttings refused 8|graph refused 8|",
 }
 NODES_1023_TO_1025 = {
     "RB 12 4 OR 22 TI 66 TI 11 TI 61 TI 44 TI 33 TI 40"
-    " TI 014": "|layers 973|graph 973 nodes 1023 ",
-    "RB 5 5 OR 2342 OR 600 OR 611 OR 560": "|layers 0|graph 0 nodes 1024 ",
-    "RB 4 6 OR 433 OR 2306 OR 636 OR 253 OR 43261": "|layers 506|graph 506 nodes 1024 ",
+    " TI 014": "|layers 973|cuttings 973|graph 973 nodes 1023 ",
+    "RB 5 5 OR 2342 OR 600 OR 611 OR 560": "|layers 0|cuttings 0|graph 0 nodes 1024 ",
+    "RB 4 6 OR 433 OR 2306 OR 636 OR 253 OR 43261": "|layers 506|cuttings 506|graph 506 nodes 1024 ",
     "RB 4 7 TI 17 TI 647 TI 013 TI 34 TI 31 TI 103 TI 77 TI 105"
-    " TI 53": "|layers 0|graph refused 8|",
-    "RB 7 6 TI 54 TI 645 TI 24 TI 63 TI 11 TI 14 TI 51 TI 16": "|layers 65|graph refused 8|",
-    "RB 8 8 OR 3": "|layers 12988816|graph refused 8|",
+    " TI 53": "|layers 0|cuttings 0|graph refused 8|",
+    "RB 7 6 TI 54 TI 645 TI 24 TI 63 TI 11 TI 14 TI 51 TI 16": "|layers 65|cuttings 65|graph refused 8|",
+    "RB 8 8 OR 3": "|layers 12988816|cuttings 12988816|graph refused 8|",
     "RB 16 7 OR 3": "|graph refused 8|",
 }
 COUNTS_AT_2_64 = {
-    "RB 16 14 TI 3 TI 6 TI 5": "|layers 3502740242239480580|graph 3502740242239480580 nodes 775 ",
-    "RB 14 16 TI 3 TI 6 TI 5": "|layers 2991718142753260158|graph 2991718142753260158 nodes 862 ",
-    "RB 16 15 TI 3 TI 6 TI 5": "|layers refused 9|graph refused 9|",
-    "RB 16 16 TI 3 TI 6 TI 5": "|layers refused 9|graph refused 9|",
+    "RB 16 14 TI 3 TI 6 TI 5": "|layers 3502740242239480580|cuttings 3502740242239480580"
+    "|graph 3502740242239480580 nodes 775 ",
+    "RB 14 16 TI 3 TI 6 TI 5": "|layers 2991718142753260158|cuttings 2991718142753260158"
+    "|graph 2991718142753260158 nodes 862 ",
+    "RB 16 15 TI 3 TI 6 TI 5": "|layers refused 9|cuttings refused 9|graph refused 9|",
+    "RB 16 16 TI 3 TI 6 TI 5": "|layers refused 9|cuttings refused 9|graph refused 9|",
     # This one has no cutting.
-    "RB 15 16 TI 3 TI 6 TI 5": "|layers refused 9|graph refused 9|",
+    "RB 15 16 TI 3 TI 6 TI 5": "|layers refused 9|cuttings refused 9|graph refused 9|",
 }
 
 # Tiles of 8 cells. Of the first 32 two each fill a square of 4 by 4, in 16 ways, and by them 16 by
@@ -472,11 +475,11 @@ def full_rooms():
         for text, expected in texts.items():
             yield expected, whole(text)
     halves, wide = HALVES.split(), WIDE.split()
-    yield f"|layers {15**16}|graph {15**16} nodes 408 ", with_tiles("RB 16 16", halves[:30])
-    yield f"|layers {16**12}|graph {16**12} nodes ", with_tiles("RB 16 12", halves[:32])
-    yield "|layers refused 9|graph refused 9|", with_tiles("RB 16 16", halves[:32])
-    yield "|layers refused 9|graph refused 8|", with_tiles("RB 16 16", halves)
+    yield f"|layers {15**16}|cuttings {15**16}|graph {15**16} nodes 408 ", with_tiles("RB 16 16", halves[:30])
+    yield f"|layers {16**12}|cuttings {16**12}|graph {16**12} nodes ", with_tiles("RB 16 12", halves[:32])
+    yield "|layers refused 9|cuttings refused 9|graph refused 9|", with_tiles("RB 16 16", halves[:32])
+    yield "|layers refused 9|cuttings refused 9|graph refused 8|", with_tiles("RB 16 16", halves)
     fewer = without(wide, (37, 53, 60)) + ["31150065244063522453150"]
     yield "|graph 12567025 nodes 738 edges 4096|", with_tiles("RB 15 16", fewer)
-    yield "|layers 7595536|graph refused 10|", with_tiles("RB 15 16", without(wide, (8, 24)))
-    yield "|layers 16777216|graph refused 10|", with_tiles("RB 15 16", wide)
+    yield "|layers 7595536|cuttings 7595536|graph refused 10|", with_tiles("RB 15 16", without(wide, (8, 24)))
+    yield "|layers 16777216|cuttings 16777216|graph refused 10|", with_tiles("RB 15 16", wide)

@@ -203,23 +203,27 @@ def changed_hole_files():
 
 
 def all_fixed():
-    """All cells are fixed: both counts are 0, with one node, no edge and no tiling; or 7 by both."""
-    one, none = "layers 1|graph 1 nodes 2 edges 1|tiling 0: 0 1|", "layers 0|graph 0 nodes 1 edges 0|"
+    """All cells are fixed: both counts are 0, with one node, no edge and no tiling; or 7 by both.
+
+    The figure called cuttings is then 1 (02's request 3), or refused by 7 too.
+    """
+    one, none = "layers 1|cuttings 1|graph 1 nodes 2 edges 1|tiling 0: 0 1|", "graph 0 nodes 1 edges 0|"
+    full, left = f"layers 0|cuttings 1|{none}", f"layers 0|cuttings 0|{none}"
     lists = {"": 0, "TI -": 1, "OR 3": 4, "TI 3 TI 1": 2, "OR 20": 8, "OR 3 OR 306": 12, "TI - TI 3": 2}
     for turn, text in enumerate(("RB 1 1", "RB 2 1", "RB 1 3", "RB 2 2", "RB 3 2", "LB 2 1", "TB 1 1", "LB 3 2")):
         cells = free_places(text)
         for tiles, number in lists.items():
             is_unequal = tiles in ("OR 3 OR 306", "TI - TI 3")
-            counts = "layers refused 7|graph refused 7|" if is_unequal else none
+            counts = "layers refused 7|cuttings refused 7|graph refused 7|" if is_unequal else full
             yield words(text, 0, number) + counts, with_holes(text, cells, tiles)
         turned = cells[turn % len(cells) :] + cells[: turn % len(cells)]
         for other in (cells[::-1], by_columns(cells), turned):
-            yield words(text, 0, 4) + none, with_holes(text, other, "OR 3")
+            yield words(text, 0, 4) + full, with_holes(text, other, "OR 3")
         for at in (cells[0], cells[-1]):
             yield 15, with_holes(text, [*cells, at], "OR 3")
         # One cell is left: the single tile cuts it, no other does.
         yield words(text, 1, 1) + one, with_holes(text, cells[1:], "TI -")
-        yield words(text, 1, 4) + none, with_holes(text, cells[:-1], "OR 3")
+        yield words(text, 1, 4) + left, with_holes(text, cells[:-1], "OR 3")
 
 
 def long_hole_files():
@@ -229,7 +233,7 @@ def long_hole_files():
     tiles = tile("TI", 16 * "32")
     longest = holes + 64 * tiles + EN
     assert len(longest) == 3270
-    counts = "layers 0|graph 0 nodes 1 edges 0|"
+    counts = "layers 0|cuttings 1|graph 0 nodes 1 edges 0|"
     yield f"board 16 16 free 0|tiles 64|{counts}", longest
     over = holes + 65 * tiles
     assert len(over) == 3303
@@ -249,11 +253,11 @@ def long_hole_files():
     yield f"board 16 16 free 0|tiles 4|{counts}", with_holes("RB 16 16", by_columns(cells), "OR 3")
     # One, two and four cells are left.
     for left, tiles, counts in (
-        ([(15, 15)], "TI -", "tiles 1|layers 1|graph 1 nodes 2 edges 1|"),
-        ([(0, 0)], "OR 3", "tiles 4|layers 0|graph 0 nodes 1 edges 0|"),
-        ([(7, 8), (8, 8)], "OR 3", "tiles 4|layers 1|graph 1 nodes 2 edges 1|"),
-        ([(0, 0), (15, 15)], "OR 3", "tiles 4|layers 0|graph 0 nodes 1 edges 0|"),
-        ([(3, 4), (3, 5), (4, 4), (4, 5)], "OR 3", "tiles 4|layers 2|graph 2 nodes "),
+        ([(15, 15)], "TI -", "tiles 1|layers 1|cuttings 1|graph 1 nodes 2 edges 1|"),
+        ([(0, 0)], "OR 3", "tiles 4|layers 0|cuttings 0|graph 0 nodes 1 edges 0|"),
+        ([(7, 8), (8, 8)], "OR 3", "tiles 4|layers 1|cuttings 1|graph 1 nodes 2 edges 1|"),
+        ([(0, 0), (15, 15)], "OR 3", "tiles 4|layers 0|cuttings 0|graph 0 nodes 1 edges 0|"),
+        ([(3, 4), (3, 5), (4, 4), (4, 5)], "OR 3", "tiles 4|layers 2|cuttings 2|graph 2 nodes "),
     ):
         kept = [at for at in cells if at not in left]
         yield f"board 16 16 free {len(left)}|{counts}", with_holes("RB 16 16", kept, tiles)

@@ -111,7 +111,7 @@ def counted_hole_files():
     """Files with holes and counts that were worked out by hand; all tilings are listed."""
     rings = {f"{ring(*size)} OR 3": 2 for size in RINGS}
     for text, count in {**COUNTED, **rings}.items():
-        yield f"|layers {count}|graph {count} nodes ", whole(text)
+        yield f"|layers {count}|cuttings {count}|graph {count} nodes ", whole(text)
 
 
 # Large counts, and what passes the rooms of the program. The counts are those of the parts: 01's 8 by 8, 10
@@ -119,13 +119,13 @@ def counted_hole_files():
 # a room is passed was taken from the oracle's answers.
 FOURS = "OR 333 OR 330 OR 303 OR 306 OR 302"
 LARGE = {
-    f"{bordered(8, 8)} OR 3": "|layers 12988816|graph refused 8|",
-    f"{parted([3] * 4, [3] * 4)} OR 33 OR 30": f"|layers {10**16}|graph {10**16} nodes ",
-    f"{parted([4] * 3, [4] * 3)} {FOURS}": f"|layers {117**9}|graph refused 8|",
-    f"{parted([4, 4, 5], [4] * 3)} {FOURS}": "|layers refused 9|graph refused 8|",
-    "RB 16 16 HO 8 8 TI 3 TI 6 TI 5": "|layers refused 9|graph refused 8|",
-    "RB 16 16 HO 8 8 OR 3": "|layers refused 8|graph refused 8|",
-    "RB 8 8 HO 0 0 HO 7 7 OR 3": "|layers 0|graph refused 8|",
+    f"{bordered(8, 8)} OR 3": "|layers 12988816|cuttings 12988816|graph refused 8|",
+    f"{parted([3] * 4, [3] * 4)} OR 33 OR 30": f"|layers {10**16}|cuttings {10**16}|graph {10**16} nodes ",
+    f"{parted([4] * 3, [4] * 3)} {FOURS}": f"|layers {117**9}|cuttings {117**9}|graph refused 8|",
+    f"{parted([4, 4, 5], [4] * 3)} {FOURS}": "|layers refused 9|cuttings refused 9|graph refused 8|",
+    "RB 16 16 HO 8 8 TI 3 TI 6 TI 5": "|layers refused 9|cuttings refused 9|graph refused 8|",
+    "RB 16 16 HO 8 8 OR 3": "|layers refused 8|cuttings refused 8|graph refused 8|",
+    "RB 8 8 HO 0 0 HO 7 7 OR 3": "|layers 0|cuttings 0|graph refused 8|",
 }
 
 
@@ -136,16 +136,17 @@ def large_hole_files():
 
 
 # The file examples/shed.plot: pairs lie in three ways on either side of the holes, and none lies across.
-SHED = ("board 6 3 free 16|tiles 4|layers 9|graph 9 nodes 16 edges 19|", whole("RB 6 3 HO 1 2 HO 1 3 OR 3"))
+SHED_WORDS = "board 6 3 free 16|tiles 4|layers 9|cuttings 9|graph 9 nodes 16 edges 19|"
+SHED = (SHED_WORDS, whole("RB 6 3 HO 1 2 HO 1 3 OR 3"))
 
 
 def with_other_tiles():
     """Plots with holes and unequal tiles (7), with no tiles, and with tiles that cross themselves."""
     for text in ("RB 4 4 HO 1 1 HO 2 2", "LB 3 2 HO 3 3", "TB 1 2 HO 2 0", "RB 3 3 HO 1 1", "RB 16 16 HO 8 8"):
         for tiles in ("TI - TI 3", "OR 3 OR 20", "TI 3021 TI 33"):
-            yield "|layers refused 7|graph refused 7|", whole(f"{text} {tiles}")
-        yield "|tiles 0|layers 0|graph 0 nodes 1 edges 0|", whole(text)
-        yield "|tiles 1|layers 1|graph 1 nodes ", whole(f"{text} TI -")
+            yield "|layers refused 7|cuttings refused 7|graph refused 7|", whole(f"{text} {tiles}")
+        yield "|tiles 0|layers 0|cuttings 0|graph 0 nodes 1 edges 0|", whole(text)
+        yield "|tiles 1|layers 1|cuttings 1|graph 1 nodes ", whole(f"{text} TI -")
         yield "|layers ", whole(f"{text} TI 3021 TI 0213")
         yield "|layers ", whole(f"{text} TI 3232 TI 1")
 

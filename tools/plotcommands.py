@@ -7,13 +7,16 @@ import itertools
 import sys
 
 sys.dont_write_bytecode = True
+import cuttingcases
 import filecases
 import holecases
 import holecounts
 import plotfiles
 import plots
 import tilings
+from answers import figure
 from cases import MOST_TILINGS
+from cuttingcases import figure_by_hand
 from holeplots import counted_with_holes, with_unequal_tiles
 from knownplots import KNOWN_PLOTS, bare_plots, different, has_few_sequences, known
 from plots import DOMINOES, MOST_CODES, MOST_TILES, Plot, stop
@@ -62,7 +65,8 @@ def hold_text(ask, file, answer):
     width, height = board.split()[:2]
     plot = f"{board} {','.join(tiles) or '.'}"
     lines = [f"board {width} {height} free {free}", f"tiles {len(tiles)}"]
-    lines.append("layers " + ask([plots.with_rooms(f"layers {plot}")])[0])
+    layers = ask([plots.with_rooms(f"layers {plot}")])[0]
+    lines += [f"layers {layers}", f"cuttings {figure(layers, free)}"]
     lines += graph_lines(ask, plot)
     if answer != "".join(f"{line}|" for line in lines):
         stop(f"{plotfiles.command(file)}: the lines are {lines}, the oracle has {answer}")
@@ -93,6 +97,7 @@ WORKED_EXAMPLE = "52 42 02 02 4F 52 01 03 45 4E"
 WORKED_TEXT = """board 2 2 free 4
 tiles 4
 layers 2
+cuttings 2
 graph 2 nodes 4 edges 4
 tiling 0: 0 1 3
 tiling 1: 0 2 3
@@ -100,7 +105,10 @@ tiling 1: 0 2 3
 
 
 def known_files(_draws, ask):
-    """01's worked example, held to 01's text, and its known plots, held to their counts."""
+    """01's worked example, held to 01's text, and its known plots, held to their counts.
+
+    The line of the figure called cuttings, directly behind the layers, is 02's.
+    """
     example = plotfiles.command(bytes.fromhex(WORKED_EXAMPLE))
     if ask([example]) != [WORKED_TEXT.replace("\n", "|")]:
         stop(f"{example}: 01 has another text")
@@ -112,7 +120,7 @@ def known_files(_draws, ask):
         tiles = orbits.get(name) or " ".join(f"TI {path}" for path in name.split(","))
         graph = f"{count} nodes " if count < 1000 else "refused 8|"
         file = plotfiles.whole(" ".join([marks[kind], *numbers, tiles]))
-        pairs.append((f"|layers {count}|graph {graph}", file))
+        pairs.append((f"|layers {count}|cuttings {figure_by_hand(made, count)}|graph {graph}", file))
     return different([example, *held_files(ask, pairs)])
 
 
@@ -173,6 +181,12 @@ def random_holes(draws, ask):
     """Random files with holes, two of five damaged."""
     files = [plotfiles.some_file_with_holes(draws)[1] for _ in range(220)]
     return different(held_texts(ask, files)[0])
+
+
+def full_files(_draws, ask):
+    """Files with no free cell, with one, and with refused layers, by the figure called cuttings."""
+    pairs = [*cuttingcases.built_files(), *cuttingcases.nearly_built_files()]
+    return held_files(ask, pairs + [*cuttingcases.refused_figures(), *cuttingcases.products()])
 
 
 def searches_with_holes(draws, ask):
@@ -308,3 +322,4 @@ def search_refusals():
 SECTIONS = [known_files, refused_files, damaged_files, read_files, random_files]
 SECTIONS += [single_tilings]
 LATER_SECTIONS = [refused_holes, damaged_holes, read_holes, random_holes, searches_with_holes]
+FIGURE_SECTIONS = [full_files]

@@ -469,7 +469,7 @@ def weights_of(ask, plots, most=20_000):
 
 
 # What the program replay_counts lends where a command doesn't say: boards a layer; nodes and edges.
-USUAL_ROOMS = {"layers": ["512"], "graph": ["1024", "4096"]}
+USUAL_ROOMS = {"layers": ["512"], "cuttings": ["512"], "graph": ["1024", "4096"]}
 
 
 def with_rooms(command):

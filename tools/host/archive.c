@@ -5,7 +5,8 @@
        archive current FILE ID                   prints the record of ID that counts
 
    `add` makes FILE if there is none, and leaves one with a broken record as it is; a write that fails may
-   leave a record that is cut short, which the next call tells. COUNT is below 2^128.
+   leave a record that is cut short, which the next call tells. COUNT is below 2^128:
+   the archive takes the figure called cuttings.
    A record is printed as `PLACE: id ID year YEAR revision REVISION count COUNT`, by `current` without
    the place; a broken file as `refused 13 at PLACE`, an ID without a record as `refused 14`. Exit
    status: 0; 1, the file or the output cannot be read or written or there is no memory; 2, bad usage;

@@ -1,15 +1,9 @@
-/* The library with one error in a call on plots, by broken.h; those in records HO stand in
-   brokenholes.h. */
+/* The library with one error in a call on plots, by broken.h; those in records HO stand in brokenholes.h,
+   those in the figure called cuttings in brokencuttings.h. */
+#include "brokencuttings.h"
 #include "brokenholes.h"
 
-/* The parameters of a board and tiles, and the same handed on. */
-#define PLOT uint64_t width, uint64_t height, const uint64_t *marks, size_t marks_len, \
-             const uint8_t *tiles, size_t tiles_len
-#define PLOT_ON width, height, marks, marks_len, tiles, tiles_len
-
 uint64_t __real_cuttings_place_tile(PLOT, OUT(out), OUT(answer));
-uint64_t __real_cuttings_count_tilings(PLOT, OUT(boards_a), OUT(counts_a), OUT(boards_b), OUT(counts_b),
-                                       OUT(answer));
 uint64_t __real_cuttings_generate_graph(PLOT, OUT(nodes), OUT(counts), OUT(edges), OUT(answer));
 uint64_t __real_cuttings_single_tiling(PLOT, OUT(out), OUT(answer));
 uint64_t __real_cuttings_tiling(IN(nodes), IN(counts), IN(edges), IN(graph), IN(m), OUT(out),
@@ -179,7 +173,7 @@ uint64_t __wrap_cuttings_orbit(const uint8_t *tile, size_t tile_len, uint8_t *ti
 uint64_t __wrap_cuttings_read_plot(const uint8_t *file, size_t file_len, OUT(board), uint8_t *tiles,
                                    size_t tiles_len, OUT(answer))
 {
-    if (error() >= FIRST_HOLE_ERROR)
+    if (error() >= FIRST_HOLE_ERROR && error() < FIRST_FIGURE_ERROR)
         return read_with_hole_error(file, file_len, ON(board), tiles, tiles_len, ON(answer));
     uint64_t r = __real_cuttings_read_plot(file, file_len, ON(board), tiles, tiles_len, ON(answer));
     uint64_t n = r ? 0 : answer[0];

@@ -14,6 +14,11 @@
 #define IN(name) const uint64_t *name, size_t name##_len
 #define ON(name) name, name##_len
 
+/* The parameters of a board and tiles, and the same handed on. */
+#define PLOT uint64_t width, uint64_t height, const uint64_t *marks, size_t marks_len, \
+             const uint8_t *tiles, size_t tiles_len
+#define PLOT_ON width, height, marks, marks_len, tiles, tiles_len
+
 static int error(void)
 {
     const char *text = getenv("ERROR");

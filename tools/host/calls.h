@@ -40,8 +40,11 @@ static uint64_t place_tile(const Plot *plot, Slice *out, uint64_t *number)
     return refusal;
 }
 
-/* One of the four slices holds just the room, the others perhaps more, and some words are left over. */
-static uint64_t count_tilings(const Plot *plot, size_t room, uint64_t *count)
+enum { PLACE_TILE, COUNT_TILINGS, GENERATE_GRAPH, SINGLE_TILING, COUNT_CUTTINGS };
+
+/* The layer count or the figure called cuttings, by COUNT_TILINGS or COUNT_CUTTINGS. One of the four slices
+   holds just the room, the others perhaps more, and some words are left over. */
+static uint64_t count_by(int call, const Plot *plot, size_t room, uint64_t *count)
 {
     size_t before = used, least = below(4), rooms[4];
     for (size_t i = 0; i < 4; i++)
@@ -51,8 +54,8 @@ static uint64_t count_tilings(const Plot *plot, size_t room, uint64_t *count)
     Slice *counts_a = lend_words("counts_a", rooms[1]);
     Slice *boards_b = lend_words("boards_b", 4 * rooms[2] + below(4));
     Slice *counts_b = lend_words("counts_b", rooms[3]);
-    uint64_t refusal = cuttings_count_tilings(PLOT(plot, marks, tiles), W(boards_a), W(counts_a),
-                                              W(boards_b), W(counts_b), W(answer));
+    uint64_t refusal = (call == COUNT_TILINGS ? cuttings_count_tilings : cuttings_count_cuttings)(
+        PLOT(plot, marks, tiles), W(boards_a), W(counts_a), W(boards_b), W(counts_b), W(answer));
     finish(refusal, answer, 2, count);
     expect_zero(boards_a, 0, 1);
     expect_zero(counts_a, 0, 1);
@@ -60,6 +63,34 @@ static uint64_t count_tilings(const Plot *plot, size_t room, uint64_t *count)
     expect_zero(counts_b, 0, 1);
     expect(count[1] == 0, "the count's high word");
     used = before;
+    return refusal;
+}
+
+/* Whether marks, both kinds together, leave no cell of a board free. */
+static int is_full(const Plot *plot, const uint64_t *marks)
+{
+    for (size_t row = 0; row < plot->height && row < 16; row++)
+        for (size_t column = 0; column < plot->width && column < 16; column++) {
+            size_t bit = 16 * row + column;
+            if (!(marks[bit / 64] >> bit % 64 & 1))
+                return 0;
+        }
+    return 1;
+}
+
+/* The figure, held to the layer count with the same room: the same refusal, 1 for a board with no free
+   cell, otherwise the same count. */
+static uint64_t count_cuttings(const Plot *plot, size_t room, uint64_t *figure)
+{
+    uint64_t layers[2], marks[4];
+    uint64_t refusal = count_by(COUNT_CUTTINGS, plot, room, figure);
+    expect(count_by(COUNT_TILINGS, plot, room, layers) == refusal, "the figure's refusal");
+    for (size_t k = 0; k < 4; k++)
+        marks[k] = plot->marks[k] | plot->marks[4 + k];
+    if (!refusal && is_full(plot, marks))
+        expect(layers[0] == 0 && figure[0] == 1, "the figure of a full board");
+    else
+        expect(layers[0] == figure[0], "the figure of a layer count");
     return refusal;
 }
 
@@ -185,13 +216,12 @@ static void check_refused(uint64_t refusal, uint64_t expected, size_t from)
             expect_zero(&slices[i], 0, 1);
 }
 
-enum { PLACE_TILE, COUNT_TILINGS, GENERATE_GRAPH, SINGLE_TILING };
 enum { ENOUGH = 1028 }; /* words: 257 boards, so that most plots have nothing wrong but the shape */
 
 /* Marks, tiles or answer of a wrong length, or several of them. */
 static void try_plot_shapes(const Plot *plot, int call)
 {
-    static const size_t needed[4] = {1, 2, 4, 1};
+    static const size_t needed[5] = {1, 2, 4, 1, 2}, slices_lent[5] = {1, 4, 3, 1, 4};
     size_t before = used, wrong = 1 + below(7), all = plot->tile_bytes + TILE;
     uint64_t more_marks[12] = {0};
     unsigned char *more_tiles = memory(NULL, all);
@@ -208,14 +238,14 @@ static void try_plot_shapes(const Plot *plot, int call)
     Slice *tiles = hand("tiles", more_tiles, tile_bytes, 1);
     Slice *answer = lend_words("answer", wrong & 4 ? below(needed[call]) : needed[call] + below(3));
     Slice *lent[4];
-    for (int i = 0; i < (call == COUNT_TILINGS ? 4 : call == GENERATE_GRAPH ? 3 : 1); i++)
+    for (size_t i = 0; i < slices_lent[call]; i++)
         lent[i] = lend_words("lent words", below(60) + (one_in(2) ? 0 : ENOUGH));
     uint64_t refusal = 0;
     if (call == PLACE_TILE)
         refusal = cuttings_place_tile(PLOT(plot, marks, tiles), W(lent[0]), W(answer));
-    if (call == COUNT_TILINGS)
-        refusal = cuttings_count_tilings(PLOT(plot, marks, tiles), W(lent[0]), W(lent[1]), W(lent[2]),
-                                         W(lent[3]), W(answer));
+    if (call == COUNT_TILINGS || call == COUNT_CUTTINGS)
+        refusal = (call == COUNT_TILINGS ? cuttings_count_tilings : cuttings_count_cuttings)(
+            PLOT(plot, marks, tiles), W(lent[0]), W(lent[1]), W(lent[2]), W(lent[3]), W(answer));
     if (call == GENERATE_GRAPH)
         refusal = cuttings_generate_graph(PLOT(plot, marks, tiles), W(lent[0]), W(lent[1]), W(lent[2]),
                                           W(answer));

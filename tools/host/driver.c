@@ -1,6 +1,6 @@
 /* Answers the commands of the programs replay_boards, replay_counts, replay_plots and replay_records
-   that stand for a call, through the library alone: orbit, children, layers, graph, tilings, tiling,
-   one, plot, write, records, record, current. The forms stand in ../README.md. Here `children` takes a
+   that stand for a call, through the library alone: orbit, children, layers, cuttings, graph, tilings,
+   tiling, one, plot, write, records, record, current. The forms stand in ../README.md. Here `children` takes a
    room too, and no room has a limit but memory. The fields of a command and the printing stand in
    fields.h, the model of the tiling by number in numbers.h, the last four commands in records.h.
 
@@ -63,11 +63,21 @@ static void answer_children(Plot *plot)
 static void answer_layers(Plot *plot)
 {
     uint64_t count[2];
-    uint64_t refusal = count_tilings(plot, room_in(6, BOARDS), count);
+    uint64_t refusal = count_by(COUNT_TILINGS, plot, room_in(6, BOARDS), count);
     if (refusal)
         print_refusal(refusal);
     else
         print_number(count[0]);
+}
+
+static void answer_cuttings(Plot *plot)
+{
+    uint64_t figure[2];
+    uint64_t refusal = count_cuttings(plot, room_in(6, BOARDS), figure);
+    if (refusal)
+        print_refusal(refusal);
+    else
+        print_number(figure[0]);
 }
 
 static void answer_graph(Plot *plot)
@@ -184,17 +194,6 @@ static void answer_tiling(void)
         try_high_number(&graph, number[0], refusal != 11);
 }
 
-static int is_full(const Plot *plot, const uint64_t *marks)
-{
-    for (size_t row = 0; row < plot->height; row++)
-        for (size_t column = 0; column < plot->width; column++) {
-            size_t bit = 16 * row + column;
-            if (!(marks[bit / 64] >> bit % 64 & 1))
-                return 0;
-        }
-    return 1;
-}
-
 /* Two boards or more, the first of them the plot's, each other one a child of the one before, the last
    full. */
 static int is_tiling(const Plot *plot, const uint64_t *boards, size_t number)
@@ -234,34 +233,20 @@ static void answer_one(Plot *plot)
         expect(is_tiling(plot, WORDS(out), (size_t)number), "one tiling");
 }
 
-/* The lines of the program `plot`, with a bar behind each. */
-static void answer_plot(void)
+/* The line of a count or of its refusal, with a bar behind it. */
+static void print_count(const char *name, uint64_t refusal, const uint64_t *count)
 {
-    size_t number, free_cells = 0;
-    unsigned char *bytes = bytes_in(1, &number);
-    unsigned char tiles[PLOT_BYTES];
-    uint64_t count[2];
-    Plot plot = {.tiles = tiles};
-    Graph graph;
-    if (has_trials())
-        try_file_shapes(bytes, number);
-    uint64_t refusal = read_plot(bytes, number, &plot);
-    free(bytes);
-    if (refusal) {
-        printf("refused %" PRIu64 "|", refusal);
-        return;
-    }
-    for (size_t row = 0; row < plot.height && row < 16; row++)
-        for (size_t column = 0; column < plot.width && column < 16; column++)
-            free_cells += !(plot.marks[row / 4] >> (16 * (row % 4) + column) & 1);
-    printf("board %" PRIu64 " %" PRIu64 " free %zu|", plot.width, plot.height, free_cells);
-    printf("tiles %zu|", plot.tile_bytes / TILE);
-    refusal = count_tilings(&plot, BOARDS, count);
     if (refusal)
-        printf("layers refused %" PRIu64 "|", refusal);
+        printf("%s refused %" PRIu64 "|", name, refusal);
     else
-        printf("layers %" PRIu64 "|", count[0]);
-    refusal = generate_graph(&plot, NODES, EDGES, &graph);
+        printf("%s %" PRIu64 "|", name, count[0]);
+}
+
+/* The lines of a graph and of its first tilings, with a bar behind each. */
+static void print_plot_graph(const Plot *plot)
+{
+    Graph graph;
+    uint64_t refusal = generate_graph(plot, NODES, EDGES, &graph);
     if (refusal) {
         printf("graph refused %" PRIu64 "|", refusal);
         return;
@@ -284,15 +269,43 @@ static void answer_plot(void)
     }
 }
 
+/* The lines of the program `plot`, with a bar behind each. */
+static void answer_plot(void)
+{
+    size_t number, free_cells = 0;
+    unsigned char *bytes = bytes_in(1, &number);
+    unsigned char tiles[PLOT_BYTES];
+    uint64_t count[2];
+    Plot plot = {.tiles = tiles};
+    if (has_trials())
+        try_file_shapes(bytes, number);
+    uint64_t refusal = read_plot(bytes, number, &plot);
+    free(bytes);
+    if (refusal) {
+        printf("refused %" PRIu64 "|", refusal);
+        return;
+    }
+    for (size_t row = 0; row < plot.height && row < 16; row++)
+        for (size_t column = 0; column < plot.width && column < 16; column++)
+            free_cells += !(plot.marks[row / 4] >> (16 * (row % 4) + column) & 1);
+    printf("board %" PRIu64 " %" PRIu64 " free %zu|", plot.width, plot.height, free_cells);
+    printf("tiles %zu|", plot.tile_bytes / TILE);
+    refusal = count_by(COUNT_TILINGS, &plot, BOARDS, count);
+    print_count("layers", refusal, count);
+    refusal = count_by(COUNT_CUTTINGS, &plot, BOARDS, count);
+    print_count("cuttings", refusal, count);
+    print_plot_graph(&plot);
+}
+
 /* The commands on a board and tiles, in the order of the calls above. */
 static void answer_with_tiles(int call)
 {
     static void (*const answers[])(Plot *) = {answer_children, answer_layers, answer_graph, answer_one,
-                                              answer_tilings};
+                                              answer_cuttings, answer_tilings};
     Plot plot;
     plot_in(&plot);
     if (has_trials())
-        try_plot_shapes(&plot, call == 4 ? GENERATE_GRAPH : call);
+        try_plot_shapes(&plot, call == 5 ? GENERATE_GRAPH : call);
     answers[call](&plot);
     free(plot.tiles);
 }
@@ -316,15 +329,15 @@ static int answer_other(void)
 
 static void answer(char *line)
 {
-    static const char *const names[] = {"children", "layers", "graph", "one", "tilings"};
+    static const char *const names[] = {"children", "layers", "graph", "one", "cuttings", "tilings"};
     int call = 0;
     start_draws(line);
     split(line);
     used = 0;
     is_dirty = is_wrong = 0;
-    while (call < 5 && strcmp(fields[0], names[call]) != 0)
+    while (call < 6 && strcmp(fields[0], names[call]) != 0)
         call++;
-    if (call < 5)
+    if (call < 6)
         answer_with_tiles(call);
     else if (!answer_other())
         printf("unknown command");

@@ -36,7 +36,17 @@ static unsigned free_cells(const uint64_t *board)
     return count;
 }
 
-/* The layer count. Two layers are lent, each as boards and counts. */
+/* The line of a count. Its high word is 0, since a path count of 2^64 or more is refused. */
+static void print_count(const char *name, uint64_t refusal, const uint64_t *count)
+{
+    if (refusal)
+        printf("%s refused %" PRIu64 "\n", name, refusal);
+    else
+        printf("%s %" PRIu64 "\n", name, count[0]);
+}
+
+/* The layer count, and the figure called cuttings, which is 1 where no cell is free. Two layers are lent,
+   each as boards and counts, to one call after the other. */
 static void print_layers(const uint64_t *board, const uint8_t *tiles, size_t size, uint64_t boards)
 {
     uint64_t *boards_a = room(boards, 4), *boards_b = room(boards, 4);
@@ -45,10 +55,11 @@ static void print_layers(const uint64_t *board, const uint8_t *tiles, size_t siz
     uint64_t refusal = cuttings_count_tilings(
         board[0], board[1], board + 2, 8, tiles, size, boards_a, 4 * boards, counts_a, boards,
         boards_b, 4 * boards, counts_b, boards, count, 2);
-    if (refusal)
-        printf("layers refused %" PRIu64 "\n", refusal);
-    else /* the high word is 0, since a path count of 2^64 or more is refused */
-        printf("layers %" PRIu64 "\n", count[0]);
+    print_count("layers", refusal, count);
+    refusal = cuttings_count_cuttings(
+        board[0], board[1], board + 2, 8, tiles, size, boards_a, 4 * boards, counts_a, boards,
+        boards_b, 4 * boards, counts_b, boards, count, 2);
+    print_count("cuttings", refusal, count);
     free(boards_a), free(counts_a), free(boards_b), free(counts_b);
 }
 

@@ -63,6 +63,12 @@ static uint64_t count_tilings(void)
                                   SLICE(counts_b), SLICE(answer));
 }
 
+static uint64_t count_cuttings(void)
+{
+    return cuttings_count_cuttings(PLOT, SLICE(boards_a), SLICE(counts_a), SLICE(boards_b),
+                                   SLICE(counts_b), SLICE(answer));
+}
+
 static uint64_t generate_graph(void)
 {
     return cuttings_generate_graph(PLOT, SLICE(nodes), SLICE(counts), SLICE(edges), SLICE(graph));
@@ -204,7 +210,8 @@ static size_t least(uint64_t (*call)(void))
     for (size_t i = 0; i < sizeof inputs / sizeof inputs[0]; i++) {
         set_tiles(inputs[i][0], inputs[i][1]);
         /* the counts want tiles of one number of cells */
-        if (singles && number > singles && (call == count_tilings || call == generate_graph))
+        int is_count = call == count_tilings || call == count_cuttings || call == generate_graph;
+        if (singles && number > singles && is_count)
             continue;
         while (kb <= ENOUGH && !ends_well(call, kb * KB))
             kb += STEP;
@@ -219,7 +226,8 @@ int main(int count, char **arguments)
         uint64_t (*call)(void);
     } all[] = {
         {"cuttings_place_tile", place_tile}, {"cuttings_count_tilings", count_tilings},
-        {"cuttings_generate_graph", generate_graph}, {"cuttings_single_tiling", single_tiling},
+        {"cuttings_count_cuttings", count_cuttings}, {"cuttings_generate_graph", generate_graph},
+        {"cuttings_single_tiling", single_tiling},
         {"cuttings_tiling", tiling}, {"cuttings_orbit", orbit_of}, {"cuttings_read_plot", read_plot},
         {"cuttings_write_record", write_record}, {"cuttings_count_records", count_records},
         {"cuttings_record_at", record_at}, {"cuttings_current_record", current_record},

@@ -1,7 +1,7 @@
--- Laws of numberings: how many there are is unique; a numbering is carried along a map that is one-to-one onto; none, and exactly one; and pairs.
+-- Laws of numberings: how many there are is unique; a numbering is carried along a map that is one-to-one onto; none, and exactly one; pairs, and lists of one of each kind.
 -- Rests on `Counts` and cells' `MemberLaws`. Assumes nothing.
-use mathlib.Core.Path.{_≡_, sym, ap, ap₂, subst, _∙_}
-use mathlib.Core.List.{List·Memᴰ as Mem}
+use mathlib.Core.Path.{_≡_, refl, sym, ap, ap₂, subst, _∙_}
+use mathlib.Core.List.{List, [], _∷_, tail, List·Memᴰ as Mem, List·Memᴰ·head as here, List·Memᴰ·tail as there}
 use Prim.Native.Nat.{ℕ, zero, suc, _+_, _*_, _/_, _%_, _≤_, _<_}
 use native.Mathlib.Nat.{le-antisymm, mul-zero, mod-lt, div-add-mod', div-lt-iff-lt-mul}
 use native.Mathlib.Omega.{arith}
@@ -116,3 +116,42 @@ module _ {A B : Type 0} {Is : A → Type 0} {Has : B → Type 0} (n k : ℕ) (F 
           );
     },
   )
+
+-- ---- lists of one of each kind
+
+-- the product of f over a list
+abbrev pub productOf : {K : Type 0} → (K → ℕ) → List K → ℕ
+productOf f [] = 1
+productOf f (x ∷ xs) = f x * productOf f xs
+
+-- a list of things, one for each element of another list, each of that element's kind
+abbrev pub OneOfEach : {K A : Type 0} → (K → A → Type 0) → List K → List A → Type 0
+OneOfEach Is [] [] = Unit {0}
+OneOfEach Is [] (a ∷ rest) = ⊥
+OneOfEach Is (x ∷ xs) [] = ⊥
+OneOfEach Is (x ∷ xs) (a ∷ rest) = Is x a × OneOfEach Is xs rest
+
+module _ {K A : Type 0} (Is : K → A → Type 0) (n : K → ℕ) where
+  no-other : (rest : List A) → OneOfEach Is [] rest → rest ≡ []
+  no-other [] h = refl
+  no-other (a ∷ rest) h = absurd h
+
+  -- a list is its first element and the rest
+  cut-off : (x : K) (xs : List K) (rest : List A) → OneOfEach Is (x ∷ xs) rest → (p : A × List A) × (Is x (p .0) × OneOfEach Is xs (p .1)) × (p .0 ∷ p .1 ≡ rest)
+  cut-off x xs [] h = absurd h
+  cut-off x xs (a ∷ rest) h = ((a, rest), h, refl)
+
+  pub exactly-lists : (xs : List K) → ((x : K) → Mem x xs → Exactly (n x) (Is x)) → Exactly (productOf n xs) (OneOfEach Is xs)
+  exactly-lists [] each = exactly-one [] tt no-other
+  exactly-lists (x ∷ xs) each =
+      let pairs = exactly-pairs (n x) (productOf n xs) (each x (here refl)) (exactly-lists xs (λ y m. each y (there m))) in (
+        λ m. pairs .0 m .0 ∷ pairs .0 m .1,
+        carry (λ (p : A × List A). p .0 ∷ p .1) (λ p h. h) (λ p q h i e. same-pair p q e) (cut-off x xs) (pairs .1),
+      )
+    where
+      head-or : A → List A → A
+      head-or d [] = d
+      head-or d (a ∷ rest) = a
+
+      same-pair : (p q : A × List A) → p .0 ∷ p .1 ≡ q .0 ∷ q .1 → p ≡ q
+      same-pair p q e = ap₂ (λ (a : A) (rest : List A). (a, rest)) (ap (head-or (p .0)) e) (ap tail e)

@@ -10,7 +10,7 @@ use Rattle.cells.specs.FirstsLaws.{Once, Tells}
 use Rattle.cells.specs.Lists.{holds, firsts}
 use Rattle.covers.specs.Counts.{Numbering, Exactly, fullCount, Chain, ChildSequence, Entry, boards, sumOf, shares, weight, gather, nodeListTo, piecesOf}
 use Rattle.covers.specs.Setting.{Setting, CuttingOf, PlacingSequence, childBoards, Laws, SoundPruning, EqualSteps, layerOf, SumRule, nodesOf, pathCountOf, graphEdges, layerCountOf, graphCount, tilingOf, cuttingAt}
-use Rattle.covers.specs.NumberingLaws.{exactly-unique, carry, exactly-pairs}
+use Rattle.covers.specs.NumberingLaws.{exactly-unique, carry, exactly-pairs, productOf, OneOfEach, exactly-lists}
 use Rattle.covers.specs.SequenceLaws.{sequence-cutting, sequence-unique, sequences-at-most, one-sequence, full-cutting}
 use Rattle.covers.specs.ChildLaws.{child-once}
 use Rattle.covers.specs.LayerLaws.{recurrence}
@@ -37,6 +37,11 @@ numbering-carried = carry
 pub number-of-pairs : {A B : Type 0} {Is : A → Type 0} {Has : B → Type 0} (n k : ℕ) → Exactly n Is → Exactly k Has
     → Exactly (n * k) (λ (p : A × B). Is (p .0) × Has (p .1))
 number-of-pairs = exactly-pairs
+
+-- The lists of one thing of each of several kinds are as many as the product of the numbers of these.
+pub number-of-lists : {K A : Type 0} (Is : K → A → Type 0) (n : K → ℕ) (xs : List K) → ((x : K) → Mem x xs → Exactly (n x) (Is x))
+    → Exactly (productOf n xs) (OneOfEach Is xs)
+number-of-lists = exactly-lists
 
 -- ---- 2. Cuttings: `Cutting`, of the free cells, the tiles and what a piece covers, and of nothing else. What is known of a board with no free cell:
 

@@ -18,7 +18,8 @@ use Rattle.board.specs.declared.RectangularBoard.{RectangularBoard}
 use Rattle.rectangle.specs.Board.{Board, isFull, valid}
 use Rattle.board.specs.Board.{boardOf}
 use Rattle.covers.specs.Counts.{Numbering, Exactly}
-use Rattle.covers.specs.Theorems.{number-of-pairs}
+use Rattle.covers.specs.NumberingLaws.{productOf, OneOfEach}
+use Rattle.covers.specs.Theorems.{number-of-pairs, number-of-lists}
 use Rattle.path_count.specs.PathCounts.{countLimit}
 use Rattle.graph.specs.Graph.{layerRoom}
 use Rattle.expansion.specs.Plots.{acceptPlot, IsCutting, HasFreeCell, AllEdgeJoined}
@@ -101,3 +102,19 @@ pub product-is-number-of-pairs : (b d : RectangularBoard) (ts us : Tiles) (r s :
     → AllEdgeJoined (pathsIn ts) → AllEdgeJoined (pathsIn us) → (n k : ℕ) → countAnswer r ≡ given n → countAnswer s ≡ given k
     → Exactly (n * k) (CutsBoth (boardOf b) (pathsIn ts) (boardOf d) (pathsIn us))
 product-is-number-of-pairs b d ts us r s first second joined joined′ n k is is′ = number-of-pairs n k (first joined n is) (second joined′ k is′)
+
+-- Of any number of plots: for each a call of `count_cuttings`, of which its contract holds, told a figure, and its tiles are edge-joined.
+pub record Counted : Type 0 where
+  pub board : RectangularBoard
+  pub tiles : Tiles
+  pub answer : Count
+  pub contract : IsNumberOfCuttings board tiles answer
+  pub joined : AllEdgeJoined (pathsIn tiles)
+  pub figure : ℕ
+  pub told : countAnswer answer ≡ given figure
+
+-- The product of the figures is the number of lists of cuttings, one of each plot.
+pub product-is-number-of-lists : (plots : List Counted)
+    → Exactly (productOf (λ (p : Counted). p .figure) plots) (OneOfEach (λ (p : Counted). IsCutting (boardOf (p .board)) (pathsIn (p .tiles))) plots)
+product-is-number-of-lists plots =
+    number-of-lists (λ (p : Counted). IsCutting (boardOf (p .board)) (pathsIn (p .tiles))) (λ (p : Counted). p .figure) plots (λ p m. p .contract (p .joined) (p .figure) (p .told))

@@ -2,7 +2,7 @@
 -- theorems can be met, and the tiles' can't be dropped. What stands in quotation marks is 02's, from its request 3. Rests on `CuttingExamples` and the crate
 -- cuttings' `Theorems`. Assumes nothing.
 use mathlib.Core.Path.{_≡_, refl, sym, ap, _∙_}
-use mathlib.Core.List.{List}
+use mathlib.Core.List.{List, [], _∷_}
 use Prim.Native.Nat.{ℕ}
 use native.Mathlib.Omega.{arith}
 use lib.Dec.{lit<}
@@ -15,6 +15,7 @@ use Rattle.tiles.specs.Paths.{pathsIn, tilesOf}
 use Rattle.board.specs.declared.RectangularBoard.{RectangularBoard}
 use Rattle.board.specs.Board.{boardOf}
 use Rattle.covers.specs.Counts.{Exactly}
+use Rattle.covers.specs.NumberingLaws.{OneOfEach}
 use Rattle.graph.specs.Graph.{layerRoom, plotBoards}
 use Rattle.path_count.specs.declared.PathCount.{PathCount}
 use Rattle.path_count.specs.PathCounts.{countValue}
@@ -22,7 +23,7 @@ use Rattle.layers.specs.declared.Count.the-variants as C
 use Rattle.layers.specs.LayerCounts.{countTilings}
 use Rattle.expansion.specs.Plots.{acceptPlot, IsCutting}
 use Rattle.cuttings.specs.Cuttings.{cuttingsOf, countCuttings, AnswersCuttings}
-use Rattle.cuttings.specs.Theorems.{no-room-is-8, board-and-tiles-first, free-is-layer-count, call-counts-cuttings, CutsBoth, product-is-number-of-pairs}
+use Rattle.cuttings.specs.Theorems.{no-room-is-8, board-and-tiles-first, free-is-layer-count, call-counts-cuttings, CutsBoth, product-is-number-of-pairs, Counted, product-is-number-of-lists}
 use Rattle.known_plots.specs.KnownPlots.{D as dominoes, slanted}
 use Rattle.known_plots.specs.Examples.{rectangle, unequal, unequal-tiles-read, two-by-two-counted, no-marks}
 use Rattle.known_plots.specs.CuttingExamples.{has-free-cell, stored-joined, fullBoard, small-set, full-board-read, full-board-counted, slanted-counted, slanted-free-cell, slanted-not-none}
@@ -91,6 +92,34 @@ two-pairs =
     (call-counts-cuttings fullBoard (tilesOf dominoes) (small-set 1 (lit< tt)) (small-set 2 (lit< tt)) (lent 4) (lent 1) (lent 5) (lent 2) (replicate 4 0) (replicate 1 0) (replicate 5 0)
     (replicate 2 0) (C.Number one) full-called)
     stored-joined stored-joined 2 1 refl refl
+
+-- and so have three plots of which two are full, as lists
+abbrev freePlot : Counted
+freePlot = record {
+  board = rectangle 2 2;
+  tiles = tilesOf dominoes;
+  answer = C.Number two;
+  contract = call-counts-cuttings (rectangle 2 2) (tilesOf dominoes) no-marks no-marks (lent 8) (lent 2) (lent 8) (lent 2) (replicate 8 0) (replicate 2 0) (replicate 8 0) (replicate 2 0)
+      (C.Number two) two-by-two-called;
+  joined = stored-joined;
+  figure = 2;
+  told = refl;
+}
+
+abbrev fullPlot : Counted
+fullPlot = record {
+  board = fullBoard;
+  tiles = tilesOf dominoes;
+  answer = C.Number one;
+  contract = call-counts-cuttings fullBoard (tilesOf dominoes) (small-set 1 (lit< tt)) (small-set 2 (lit< tt)) (lent 4) (lent 1) (lent 5) (lent 2) (replicate 4 0) (replicate 1 0)
+      (replicate 5 0) (replicate 2 0) (C.Number one) full-called;
+  joined = stored-joined;
+  figure = 1;
+  told = refl;
+}
+
+two-lists : Exactly 2 (OneOfEach (λ (p : Counted). IsCutting (boardOf (p .board)) (pathsIn (p .tiles))) (fullPlot ∷ freePlot ∷ fullPlot ∷ []))
+two-lists = product-is-number-of-lists (fullPlot ∷ freePlot ∷ fullPlot ∷ [])
 
 -- ---- the condition on the tiles can't be dropped: of 4 by 2 with UpLeft and UpRight the figure is the layer count, 0, though one cutting exists
 

@@ -1,6 +1,6 @@
-// The commands that count: layers and graph. Each lends words that are all ones and writes the answer.
-// Behind it stands `dirty` if a lent word that has to be zero afterwards is not, and `edges differ` if
-// the calls of crate graph do not give the edges as they are stored.
+// The commands that count: layers, cuttings and graph. Each lends words that are all ones and writes
+// the answer. Behind it stands `dirty` if a lent word that has to be zero afterwards is not, and `edges
+// differ` if the calls of crate graph do not give the edges as they are stored.
 //
 // A room is the least that the lent slices hold: one of them, by turns, holds just the room, the others
 // one board more, and some have words left over.
@@ -21,6 +21,16 @@ ghost use Prim.Native.Nat.{_≤_};
 // layers WIDTH HEIGHT FIXED LAID TILES [ROOM]: the layer count. The room is 512 boards a layer unless
 // it is given, and 4,096 at most.
 pub fn layers(line: &[u8]) {
+    lend_layers(line, false);
+}
+
+// cuttings WIDTH HEIGHT FIXED LAID TILES [ROOM]: the figure called cuttings, with the same room.
+pub fn cuttings(line: &[u8]) {
+    lend_layers(line, true);
+}
+
+// Lends two layers for the figure called cuttings, or for the layer count.
+fn lend_layers(line: &[u8], is_figure: bool) {
     let room = least(text::room_in(field(line, 6), 512), 4096);
     let turn = room % 4;
     let words_a = 4 * lent(room, turn, 0) + 3;
@@ -32,6 +42,7 @@ pub fn layers(line: &[u8]) {
     let mut boards_b = [u64::MAX; 16391];
     let mut counts_b = [u64::MAX; 4097];
     count(
+        is_figure,
         text::board_in(line),
         text::tiles_in(field(line, 5)),
         &mut boards_a[..words_a],
@@ -53,6 +64,7 @@ fn lent(room: usize, turn: usize, slice: usize) -> usize
 }
 
 fn count(
+    is_figure: bool,
     board: RectangularBoard,
     tiles: Tiles,
     boards_a: &mut [u64],
@@ -60,7 +72,15 @@ fn count(
     boards_b: &mut [u64],
     counts_b: &mut [u64],
 ) {
-    let answer = layers::count_tilings(board, tiles, boards_a, counts_a, boards_b, counts_b);
+    let answer = ask(
+        is_figure,
+        board,
+        tiles,
+        boards_a,
+        counts_a,
+        boards_b,
+        counts_b,
+    );
     match answer {
         Count::Number(n) => write::count(n),
         Count::Refused(refusal) => write::refused(refusal),
@@ -69,6 +89,21 @@ fn count(
     tell_dirt(counts_a, 0);
     tell_dirt(boards_b, 0);
     tell_dirt(counts_b, 0);
+}
+
+fn ask(
+    is_figure: bool,
+    board: RectangularBoard,
+    tiles: Tiles,
+    boards_a: &mut [u64],
+    counts_a: &mut [u64],
+    boards_b: &mut [u64],
+    counts_b: &mut [u64],
+) -> Count {
+    if is_figure {
+        return tiler::count_cuttings(board, tiles, boards_a, counts_a, boards_b, counts_b);
+    }
+    layers::count_tilings(board, tiles, boards_a, counts_a, boards_b, counts_b)
 }
 
 // graph WIDTH HEIGHT FIXED LAID TILES [NODES EDGES]: the graph. There is room for 1,024 nodes and 4,096

@@ -1,7 +1,7 @@
-// Reads commands from standard input, one a line, and writes what crates graph and tiler answer, one
-// line each: the file stdout has the answers of the Rust for the commands layers, graph and tilings of
-// the file stdin, and document 01's refusals. The commands tiling, which the Rust has not, have those of
-// a model of document 01.
+// Reads commands from standard input, one a line, and writes what crates graph, layers and tiler
+// answer, one line each: the file stdout has the answers of the Rust for the commands layers, graph and
+// tilings of the file stdin, and document 01's refusals. The commands tiling and cuttings, which the Rust
+// has not, have those of models of documents 01 and 02.
 //
 // The form of a line is said in crate replay_text. Another command is a function of counts.rt or
 // tilings.rt and a line of `answer`.
@@ -35,6 +35,8 @@ fn answer(line: &[u8]) {
     let command = field(line, 0);
     if same(command, b"layers") {
         counts::layers(line);
+    } else if same(command, b"cuttings") {
+        counts::cuttings(line);
     } else if same(command, b"graph") {
         counts::graph(line);
     } else if same(command, b"tilings") {

@@ -5,6 +5,7 @@
 //! driver that fails, ends the run with a message and the exit code 1.
 
 mod boards;
+mod cuttings;
 mod plot;
 mod plotfile;
 mod text;
@@ -105,6 +106,8 @@ fn answer_with_tiles(
         ("children", []) => boards::children(board, fixed, tiles),
         ("layers", []) => boards::layers(board, tiles),
         ("layers", [room]) => boards::layers_in(board, tiles, *room),
+        ("cuttings", []) => cuttings::cuttings(board, tiles),
+        ("cuttings", [room]) => cuttings::cuttings_in(board, tiles, *room),
         ("graph", []) => boards::graph(board, tiles),
         ("graph", [nodes, edges]) => boards::graph_in(board, tiles, *nodes, *edges),
         ("weigh", [most]) => boards::weigh(board, tiles, *most),

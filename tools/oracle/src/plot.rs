@@ -1,6 +1,7 @@
 //! What the program `plot` of document 01 prints for a file: the layer count and the graph with its
-//! rooms, and the first tilings by number.
+//! rooms, and the first tilings by number; between the counts the figure of document 02, request 3.
 
+use crate::cuttings::from_layers;
 use crate::plotfile::read_plot;
 use crate::tiles::free_cells;
 use crate::walk::{Walk, graph, layer_count};
@@ -29,10 +30,9 @@ fn print_plot(board: &RectangularBoard, tiles: Vec<Tile>, lines: &mut Vec<String
     lines.push(format!("board {width} {height} free {free}"));
     lines.push(format!("tiles {}", tiles.len()));
     let tiles = TileCollection::new(tiles);
-    lines.push(match layer_count(board, &tiles, BOARDS) {
-        Ok(count) => format!("layers {count}"),
-        Err(refusal) => format!("layers refused {refusal}"),
-    });
+    let layers = layer_count(board, &tiles, BOARDS);
+    lines.push(count_line("layers", &layers));
+    lines.push(count_line("cuttings", &from_layers(board, layers)));
     match graph(board, &tiles, NODES, EDGES) {
         Ok(walk) => {
             if !walk.is_compared(board, &tiles) {
@@ -41,6 +41,14 @@ fn print_plot(board: &RectangularBoard, tiles: Vec<Tile>, lines: &mut Vec<String
             print_graph(&walk, lines);
         }
         Err(refusal) => lines.push(format!("graph refused {refusal}")),
+    }
+}
+
+/// The line of a count or of its refusal.
+fn count_line(name: &str, count: &Result<BigUint, u32>) -> String {
+    match count {
+        Ok(count) => format!("{name} {count}"),
+        Err(refusal) => format!("{name} refused {refusal}"),
     }
 }
 

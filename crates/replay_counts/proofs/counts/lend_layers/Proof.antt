@@ -1,11 +1,11 @@
--- `replay_counts::counts::layers` is safe: the lent parts lie in the arrays.
+-- `replay_counts::counts::lend_layers` is safe: the lent parts lie in the arrays.
 -- Assumes nothing.
 use mathlib.Core.Path.{sym}
 use lib.Seq.{length-take-le}
 use native.Mathlib.Omega.{arith}
 use borrow.Author.Needs.{needs}
-use Rattle.replay_counts.proofs.counts.layers.Statement.{statement}
-use Rattle.replay_counts.proofs.counts.layers.Tie as tie
+use Rattle.replay_counts.proofs.counts.lend_layers.Statement.{statement}
+use Rattle.replay_counts.proofs.counts.lend_layers.Tie as tie
 
 slice-aggregate-count : tie.Need-slice-aggregate-count
 slice-aggregate-count c = sym (length-take-le _ _ (omega arith))
@@ -19,8 +19,8 @@ slice-aggregate-count-3 c = sym (length-take-le _ _ (omega arith))
 slice-aggregate-count-4 : tie.Need-slice-aggregate-count-4
 slice-aggregate-count-4 c = sym (length-take-le _ _ (omega arith))
 
-pub layers-spec : {M : Type 1} → statement M
-layers-spec =
+pub lend-layers-spec : {M : Type 1} → statement M
+lend-layers-spec =
     tie.close
     (tie.spec
     (λ c κs. search needs)
