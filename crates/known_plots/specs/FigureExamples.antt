@@ -20,7 +20,7 @@ use Rattle.graph.specs.Graph.{layerRoom, plotBoards}
 use Rattle.path_count.specs.declared.PathCount.{PathCount}
 use Rattle.path_count.specs.PathCounts.{countValue}
 use Rattle.layers.specs.declared.Count.the-variants as C
-use Rattle.layers.specs.LayerCounts.{countTilings}
+use Rattle.layers.specs.LayerCounts.{countTilings, countAnswer}
 use Rattle.expansion.specs.Plots.{acceptPlot, IsCutting}
 use Rattle.cuttings.specs.Cuttings.{cuttingsOf, countCuttings, AnswersCuttings}
 use Rattle.cuttings.specs.Theorems.{no-room-is-8, board-and-tiles-first, free-is-layer-count, call-counts-cuttings, CutsBoth, product-is-number-of-pairs, Counted, product-is-number-of-lists}
@@ -94,6 +94,14 @@ two-pairs =
     stored-joined stored-joined 2 1 refl refl
 
 -- and so have three plots of which two are full, as lists
+one-told : countAnswer (C.Number one) ≡ given 1
+unfolding countValue
+one-told = refl
+
+two-told : countAnswer (C.Number two) ≡ given 2
+unfolding countValue
+two-told = refl
+
 abbrev freePlot : Counted
 freePlot = record {
   board = rectangle 2 2;
@@ -103,7 +111,7 @@ freePlot = record {
       (C.Number two) two-by-two-called;
   joined = stored-joined;
   figure = 2;
-  told = refl;
+  told = two-told;
 }
 
 abbrev fullPlot : Counted
@@ -115,7 +123,7 @@ fullPlot = record {
       (replicate 5 0) (replicate 2 0) (C.Number one) full-called;
   joined = stored-joined;
   figure = 1;
-  told = refl;
+  told = one-told;
 }
 
 two-lists : Exactly 2 (OneOfEach (λ (p : Counted). IsCutting (boardOf (p .board)) (pathsIn (p .tiles))) (fullPlot ∷ freePlot ∷ fullPlot ∷ []))
