@@ -37,6 +37,7 @@ abbrev pub AnswersCuttings : RectangularBoard → Tiles → List ℕ → List �
 AnswersCuttings b ts boardsA countsA boardsB countsB =
     LeavesCount (countCuttings b ts (layerRoom (length boardsA) (length countsA) (length boardsB) (length countsB))) boardsA countsA boardsB countsB
 
--- "Against exact covers, cuttings needs no free cell any more": a figure that is given is the number of cuttings, where every tile is edge-joined
+-- "Against exact covers, cuttings needs no free cell any more": a figure that is given is the number of cuttings, where every tile is edge-joined (of a
+-- refused one it says nothing). What `CountsCuttings` is to `count_tilings`, with no condition on the board
 abbrev pub IsNumberOfCuttings : RectangularBoard → Tiles → Count → Type 0
 IsNumberOfCuttings b ts r = AllEdgeJoined (pathsIn ts) → (n : ℕ) → countAnswer r ≡ given n → Exactly n (IsCutting (boardOf b) (pathsIn ts))

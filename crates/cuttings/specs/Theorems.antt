@@ -24,7 +24,7 @@ use Rattle.path_count.specs.PathCounts.{countLimit}
 use Rattle.graph.specs.Graph.{layerRoom}
 use Rattle.expansion.specs.Plots.{acceptPlot, IsCutting, HasFreeCell, AllEdgeJoined}
 use Rattle.layers.specs.declared.Count.{Count}
-use Rattle.layers.specs.LayerCounts.{countTilings, countAnswer}
+use Rattle.layers.specs.LayerCounts.{countTilings}
 use Rattle.cuttings.specs.Cuttings.{cuttingsOf, countCuttings, cuttingsFrom, AnswersCuttings, IsNumberOfCuttings}
 use Rattle.cuttings.specs.FullLaws.{full-iff-none, no-width-full}
 use Rattle.cuttings.specs.CuttingLaws as Law
@@ -97,24 +97,28 @@ module _ (b : RectangularBoard) (ts : Tiles) where
 abbrev pub CutsBoth : Board → List Path → Board → List Path → (ℕ → Bool) × (ℕ → Bool) → Type 0
 CutsBoth b paths d others p = IsCutting b paths (p .0) × IsCutting d others (p .1)
 
--- and the product of the figures of two calls is the number of these pairs. A fully built plot counts 1 in it.
-pub product-is-number-of-pairs : (b d : RectangularBoard) (ts us : Tiles) (r s : Count) → IsNumberOfCuttings b ts r → IsNumberOfCuttings d us s
-    → AllEdgeJoined (pathsIn ts) → AllEdgeJoined (pathsIn us) → (n k : ℕ) → countAnswer r ≡ given n → countAnswer s ≡ given k
+-- and the product of two figures that are given is the number of these pairs. A fully built plot counts 1 in it.
+pub product-is-number-of-pairs : (b : RectangularBoard) → Sound (b .fixed) → Sound (b .laid) → (ts : Tiles) → AllEdgeJoined (pathsIn ts)
+    → (d : RectangularBoard) → Sound (d .fixed) → Sound (d .laid) → (us : Tiles) → AllEdgeJoined (pathsIn us)
+    → (room n : ℕ) → countCuttings b ts room ≡ given n → (room′ k : ℕ) → countCuttings d us room′ ≡ given k
     → Exactly (n * k) (CutsBoth (boardOf b) (pathsIn ts) (boardOf d) (pathsIn us))
-product-is-number-of-pairs b d ts us r s first second joined joined′ n k is is′ = number-of-pairs n k (first joined n is) (second joined′ k is′)
+product-is-number-of-pairs b fixed laid ts joined d fixed′ laid′ us joined′ room n is room′ k is′ =
+    number-of-pairs n k (figure-is-cuttings b ts fixed laid joined room n is) (figure-is-cuttings d us fixed′ laid′ joined′ room′ k is′)
 
--- Of any number of plots: for each a call of `count_cuttings`, of which its contract holds, told a figure, and its tiles are edge-joined.
-pub record Counted : Type 0 where
+-- Of any number of plots: a plot of edge-joined tiles, with its figure,
+pub record PlotWithFigure : Type 0 where
   pub board : RectangularBoard
+  pub fixed : Sound (board .fixed)
+  pub laid : Sound (board .laid)
   pub tiles : Tiles
-  pub answer : Count
-  pub contract : IsNumberOfCuttings board tiles answer
   pub joined : AllEdgeJoined (pathsIn tiles)
+  pub room : ℕ
   pub figure : ℕ
-  pub told : countAnswer answer ≡ given figure
+  pub is : countCuttings board tiles room ≡ given figure
 
--- The product of the figures is the number of lists of cuttings, one of each plot.
-pub product-is-number-of-lists : (plots : List Counted)
-    → Exactly (productOf (λ (p : Counted). p .figure) plots) (OneOfEach (λ (p : Counted). IsCutting (boardOf (p .board)) (pathsIn (p .tiles))) plots)
+-- and the product of the figures is the number of lists of cuttings, one of each plot.
+pub product-is-number-of-lists : (plots : List PlotWithFigure)
+    → Exactly (productOf (λ (p : PlotWithFigure). p .figure) plots) (OneOfEach (λ (p : PlotWithFigure). IsCutting (boardOf (p .board)) (pathsIn (p .tiles))) plots)
 product-is-number-of-lists plots =
-    number-of-lists (λ (p : Counted). IsCutting (boardOf (p .board)) (pathsIn (p .tiles))) (λ (p : Counted). p .figure) plots (λ p m. p .contract (p .joined) (p .figure) (p .told))
+    number-of-lists (λ (p : PlotWithFigure). IsCutting (boardOf (p .board)) (pathsIn (p .tiles))) (λ (p : PlotWithFigure). p .figure) plots
+    (λ p m. figure-is-cuttings (p .board) (p .tiles) (p .fixed) (p .laid) (p .joined) (p .room) (p .figure) (p .is))

@@ -1,6 +1,6 @@
-// Calls over a host's words that count: the layer count, the figure called cuttings, and the graph. Each tests the shapes of its
-// slices and then hands on what the call of the lower crate answers; after a refusal every lent word
-// is zero. Nothing is asked of a caller.
+// Calls over a host's words that count: the layer count, the figure called cuttings, and the graph. Each
+// tests the shapes of its slices and then hands on what the call of the lower crate answers; after a
+// refusal every lent word is zero. Nothing is asked of a caller.
 use cells::list;
 use refusal::Verdict;
 ghost use lib.ListN.{length};

@@ -81,6 +81,13 @@ full-call =
     subst (λ (a : Answer ℕ). AnswersCount a (lent 4) (lent 1) (lent 4) (lent 1) (lent 3) (replicate 4 0) (replicate 1 0) (replicate 4 0) (replicate 1 0) (1 ∷ 0 ∷ 0 ∷ []) 0) (sym full-figure)
     record { answered = record { number = refl; words = refl }; zeroBoardsA = refl; zeroCountsA = refl; zeroBoardsB = refl; zeroCountsB = refl }
 
+-- layer B has words for no board: the least room counts
+no-room-call : Called 2 1 fullMarks dominoes (lent 4) (lent 1) (lent 3) (lent 1) (lent 2) (replicate 4 0) (replicate 1 0) (replicate 3 0) (replicate 1 0) (0 ∷ 0 ∷ []) 8
+unfolding layerRoom refusalOf mapAnswer valueOr padded
+no-room-call =
+    subst (λ (a : Answer ℕ). AnswersCount a (lent 4) (lent 1) (lent 3) (lent 1) (lent 2) (replicate 4 0) (replicate 1 0) (replicate 3 0) (replicate 1 0) (0 ∷ 0 ∷ []) 8) (sym full-without-room)
+    record { answered = record { number = refl; words = refl }; zeroBoardsA = refl; zeroCountsA = refl; zeroBoardsB = refl; zeroCountsB = refl }
+
 free-call : Called 2 2 noMarks dominoes (lent 8) (lent 2) (lent 8) (lent 2) (lent 2) (replicate 8 0) (replicate 2 0) (replicate 8 0) (replicate 2 0) (2 ∷ 0 ∷ []) 0
 unfolding layerRoom refusalOf mapAnswer valueOr wordsBelow padded
 free-call =

@@ -23,7 +23,7 @@ use Rattle.path_count.specs.PathCounts.{countLimit}
 use Rattle.expansion.specs.Plots.{IsCutting, HasFreeCell, AllEdgeJoined}
 use Rattle.layers.specs.LayerCounts.{countTilings}
 use Rattle.cuttings.specs.Cuttings.{cuttingsOf, countCuttings}
-use Rattle.cuttings.specs.CuttingLaws.{full-given}
+use Rattle.cuttings.specs.CuttingLaws.{free-of, full-given}
 use Rattle.cuttings.specs.Theorems.{free-is-layer-count, figure-fits, figure-is-cuttings}
 use Rattle.host_words.specs.Layout.{boardIn, plotShape, unless, AnswersWords}
 use Rattle.host_tiles.specs.TileBytes.{tilesIn}
@@ -68,13 +68,31 @@ module _ (width height : ℕ) (marks tiles boardsA countsA boardsB countsB answe
   unfolding cuttingsCounted counted
   answers-alike free = ap (unless (plotShape 2 (length marks) (length tiles) (length answer))) (free-is-layer-count b ts free room)
 
+  answers-same : isFull (boardOf b) ≡ false → figure ≡ layers
+  unfolding cuttingsCounted counted countCuttings mapAnswer
+  answers-same free = ap (unless (plotShape 2 (length marks) (length tiles) (length answer))) (go (countTilings b ts room))
+    where
+      go : (a : Answer ℕ) → mapAnswer (cuttingsOf (boardOf b)) a ≡ a
+      go (refused k) = refl
+      go (given m) = ap given (free-of (boardOf b) m free)
+
   module _ (answer′ answer″ : List ℕ) (r s : ℕ) (told : AnswersWords (mapAnswer (wordsBelow 2) figure) answer answer′ r)
       (beside : AnswersWords (mapAnswer (wordsBelow 2) layers) answer answer″ s) where
     pub returns-alike : r ≡ s
     returns-alike = told .number ∙ numbers-alike ∙ sym (beside .number)
 
+    same-words : figure ≡ layers → answer′ ≡ answer″
+    same-words e = told .words ∙ ap (λ (a : Answer ℕ). padded (valueOr [] (mapAnswer (wordsBelow 2) a)) (length answer)) e ∙ sym (beside .words)
+
     pub words-alike : HasFreeCell (boardOf b) → answer′ ≡ answer″
-    words-alike free = told .words ∙ ap (λ (a : Answer ℕ). padded (valueOr [] (mapAnswer (wordsBelow 2) a)) (length answer)) (answers-alike free) ∙ sym (beside .words)
+    words-alike free = same-words (answers-alike free)
+
+    pub words-differ : (answer′ ≡ answer″ → ⊥) → isFull (boardOf b) ≡ true
+    words-differ other = go (isFull (boardOf b)) refl
+      where
+        go : (t : Bool) → isFull (boardOf b) ≡ t → t ≡ true
+        go true e = refl
+        go false e = absurd (other (same-words (answers-same e)))
 
   -- ---- the figure alone
 

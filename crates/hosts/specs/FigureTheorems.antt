@@ -80,6 +80,10 @@ module _ (width height : ℕ) (marks tiles : List ℕ) (boardsA countsA boardsB 
       pub leaves-the-same : HasFreeCell (boardOf (boardIn width height marks)) → answer′ ≡ answer″
       leaves-the-same = Law.words-alike width height marks tiles boardsA countsA boardsB countsB answer answer′ answer″ r s (told .answered) (beside .answered)
 
+      -- Where the answers differ no cell is free.
+      pub differs-of-full : (answer′ ≡ answer″ → ⊥) → isFull (boardOf (boardIn width height marks)) ≡ true
+      differs-of-full = Law.words-differ width height marks tiles boardsA countsA boardsB countsB answer answer′ answer″ r s (told .answered) (beside .answered)
+
     -- ---- 3. What the number is that it tells where it returns 0. The words of marks have 64 bits, as a host's words do
 
     module _ (small : Small marks) (told : Called boardsA′ countsA′ boardsB′ countsB′ answer′ 0) where

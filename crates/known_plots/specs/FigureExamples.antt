@@ -9,6 +9,7 @@ use lib.Dec.{lit<}
 use lib.ListN.{replicate}
 use Rattle.cells.specs.Set.{number, Sound}
 use Rattle.tiles.specs.declared.Tiles.{Tiles}
+use Rattle.refusal.specs.declared.Refusal.the-variants as R
 use Rattle.refusal.specs.Refusal.{refused, given, mapAnswer, bindAnswer}
 use Rattle.refusal.specs.RefusalLaws.{given-inj}
 use Rattle.tiles.specs.Paths.{pathsIn, tilesOf}
@@ -20,10 +21,10 @@ use Rattle.graph.specs.Graph.{layerRoom, plotBoards}
 use Rattle.path_count.specs.declared.PathCount.{PathCount}
 use Rattle.path_count.specs.PathCounts.{countValue}
 use Rattle.layers.specs.declared.Count.the-variants as C
-use Rattle.layers.specs.LayerCounts.{countTilings, countAnswer}
+use Rattle.layers.specs.LayerCounts.{countTilings}
 use Rattle.expansion.specs.Plots.{acceptPlot, IsCutting}
 use Rattle.cuttings.specs.Cuttings.{cuttingsOf, countCuttings, AnswersCuttings}
-use Rattle.cuttings.specs.Theorems.{no-room-is-8, board-and-tiles-first, free-is-layer-count, call-counts-cuttings, CutsBoth, product-is-number-of-pairs, Counted, product-is-number-of-lists}
+use Rattle.cuttings.specs.Theorems.{no-room-is-8, board-and-tiles-first, free-is-layer-count, call-counts-cuttings, CutsBoth, product-is-number-of-pairs, PlotWithFigure, product-is-number-of-lists}
 use Rattle.known_plots.specs.KnownPlots.{D as dominoes, slanted}
 use Rattle.known_plots.specs.Examples.{rectangle, unequal, unequal-tiles-read, two-by-two-counted, no-marks}
 use Rattle.known_plots.specs.CuttingExamples.{has-free-cell, stored-joined, fullBoard, small-set, full-board-read, full-board-counted, slanted-counted, slanted-free-cell, slanted-not-none}
@@ -66,6 +67,11 @@ full-called : AnswersCuttings fullBoard (tilesOf dominoes) (lent 4) (lent 1) (le
 unfolding layerRoom countValue
 full-called = record { answer = sym figure-of-full; zeroBoardsA = refl; zeroCountsA = refl; zeroBoardsB = refl; zeroCountsB = refl }
 
+-- 3 words have room for none: the least room counts
+no-room-called : AnswersCuttings fullBoard (tilesOf dominoes) (lent 4) (lent 1) (lent 3) (lent 1) (replicate 4 0) (replicate 1 0) (replicate 3 0) (replicate 1 0) (C.Refused R.NoRoom)
+unfolding layerRoom
+no-room-called = record { answer = sym full-without-room; zeroBoardsA = refl; zeroCountsA = refl; zeroBoardsB = refl; zeroCountsB = refl }
+
 -- 2 by 2 dominoes: the layer count
 two-by-two-figure : countCuttings (rectangle 2 2) (tilesOf dominoes) 2 ≡ given 2
 two-by-two-figure = free-is-layer-count (rectangle 2 2) (tilesOf dominoes) has-free-cell 2 ∙ two-by-two-counted
@@ -84,49 +90,27 @@ one-cutting =
 
 -- "A plot with no free cell ruins the product with its 0": 2 by 2 dominoes beside the full board have 2 pairs of cuttings
 two-pairs : Exactly 2 (CutsBoth (boardOf (rectangle 2 2)) (pathsIn (tilesOf dominoes)) (boardOf fullBoard) (pathsIn (tilesOf dominoes)))
-unfolding countValue
 two-pairs =
-    product-is-number-of-pairs (rectangle 2 2) fullBoard (tilesOf dominoes) (tilesOf dominoes) (C.Number two) (C.Number one)
-    (call-counts-cuttings (rectangle 2 2) (tilesOf dominoes) no-marks no-marks (lent 8) (lent 2) (lent 8) (lent 2) (replicate 8 0) (replicate 2 0) (replicate 8 0) (replicate 2 0) (C.Number two)
-    two-by-two-called)
-    (call-counts-cuttings fullBoard (tilesOf dominoes) (small-set 1 (lit< tt)) (small-set 2 (lit< tt)) (lent 4) (lent 1) (lent 5) (lent 2) (replicate 4 0) (replicate 1 0) (replicate 5 0)
-    (replicate 2 0) (C.Number one) full-called)
-    stored-joined stored-joined 2 1 refl refl
+    product-is-number-of-pairs (rectangle 2 2) no-marks no-marks (tilesOf dominoes) stored-joined fullBoard (small-set 1 (lit< tt)) (small-set 2 (lit< tt)) (tilesOf dominoes) stored-joined
+    2 2 two-by-two-figure 1 1 figure-of-full
 
 -- and so have three plots of which two are full, as lists
-one-told : countAnswer (C.Number one) ≡ given 1
-unfolding countValue
-one-told = refl
+abbrev freePlot : PlotWithFigure
+freePlot = record { board = rectangle 2 2; fixed = no-marks; laid = no-marks; tiles = tilesOf dominoes; joined = stored-joined; room = 2; figure = 2; is = two-by-two-figure }
 
-two-told : countAnswer (C.Number two) ≡ given 2
-unfolding countValue
-two-told = refl
-
-abbrev freePlot : Counted
-freePlot = record {
-  board = rectangle 2 2;
-  tiles = tilesOf dominoes;
-  answer = C.Number two;
-  contract = call-counts-cuttings (rectangle 2 2) (tilesOf dominoes) no-marks no-marks (lent 8) (lent 2) (lent 8) (lent 2) (replicate 8 0) (replicate 2 0) (replicate 8 0) (replicate 2 0)
-      (C.Number two) two-by-two-called;
-  joined = stored-joined;
-  figure = 2;
-  told = two-told;
-}
-
-abbrev fullPlot : Counted
+abbrev fullPlot : PlotWithFigure
 fullPlot = record {
   board = fullBoard;
+  fixed = small-set 1 (lit< tt);
+  laid = small-set 2 (lit< tt);
   tiles = tilesOf dominoes;
-  answer = C.Number one;
-  contract = call-counts-cuttings fullBoard (tilesOf dominoes) (small-set 1 (lit< tt)) (small-set 2 (lit< tt)) (lent 4) (lent 1) (lent 5) (lent 2) (replicate 4 0) (replicate 1 0)
-      (replicate 5 0) (replicate 2 0) (C.Number one) full-called;
   joined = stored-joined;
+  room = 1;
   figure = 1;
-  told = one-told;
+  is = figure-of-full;
 }
 
-two-lists : Exactly 2 (OneOfEach (λ (p : Counted). IsCutting (boardOf (p .board)) (pathsIn (p .tiles))) (fullPlot ∷ freePlot ∷ fullPlot ∷ []))
+two-lists : Exactly 2 (OneOfEach (λ (p : PlotWithFigure). IsCutting (boardOf (p .board)) (pathsIn (p .tiles))) (fullPlot ∷ freePlot ∷ fullPlot ∷ []))
 two-lists = product-is-number-of-lists (fullPlot ∷ freePlot ∷ fullPlot ∷ [])
 
 -- ---- the condition on the tiles can't be dropped: of 4 by 2 with UpLeft and UpRight the figure is the layer count, 0, though one cutting exists

@@ -1,7 +1,7 @@
 -- Laws of the texts in which no tiling is listed, whatever the board: of a plot with no free cell the layer count is 0, the figure 1, and the graph has one node and no
 -- tiling; of tiles with different numbers of cells all three are refused. Rests on `PlotLaws` and the `FullLaws` of `cuttings` and `tiler`. Assumes nothing.
 use mathlib.Core.Path.{_≡_, refl, sym, ap, ap₂, _∙_, subst}
-use mathlib.Core.Bool.{Bool, true, false, cond}
+use mathlib.Core.Bool.{true, false}
 use mathlib.Core.List.{List, _++_, flatMap, append-assoc}
 use Prim.Native.Nat.{ℕ, _^_, _<_}
 use lib.Dec.{lit<}
@@ -14,12 +14,13 @@ use Rattle.tiler.specs.Graphs.{Graph, countOfGraph}
 use Rattle.tiler.specs.FullLaws.{onlyStart, full-graph-given}
 use Rattle.cuttings.specs.Cuttings.{cuttingsOf}
 use Rattle.cuttings.specs.FullLaws.{full-layer-count}
+use Rattle.cuttings.specs.CuttingLaws.{full-of}
 use Rattle.covers.specs.Counts.{atNode}
 use Rattle.plot_file.specs.PlotFile.{Plot}
 use Rattle.report.specs.Report.{withEqualTiles, plotLayers, plotCuttings, plotGraph, listed, decimal, digits, field, feed, boardLine, tilesLine, layersLine, cuttingsLine, graphLine, graphLines, plotLines}
 use Rattle.report.specs.PlotLaws.{AcceptedPlot}
 
--- ---- the lines of both counts
+-- ---- the lines of the counts
 
 counts-none : (b : Board) → layersLine (given 0) ++ cuttingsLine (given 1) ++ graphLines (given (onlyStart b)) ≡ ascii "layers 0\ncuttings 1\ngraph 0 nodes 1 edges 0\n"
 unfolding layersLine cuttingsLine graphLines graphLine listed countOfGraph atNode listOf listFrom flatMap field decimal digits feed ascii
@@ -44,8 +45,8 @@ module _ (plot : Plot) (ok : AcceptedPlot plot) (full : isFull (plot .board) ≡
   full-layers-none = rw equal (full-layer-count (plot .board) (plot .tiles) (ok .board) (ok .fixed) none-laid full plotBoards (lit< tt))
 
   full-figure-one : plotCuttings plot ≡ given 1
-  unfolding plotCuttings cuttingsOf mapAnswer
-  full-figure-one = ap (mapAnswer (cuttingsOf (plot .board))) full-layers-none ∙ ap (λ (t : Bool). given (cond t 1 0)) full
+  unfolding plotCuttings mapAnswer
+  full-figure-one = ap (mapAnswer (cuttingsOf (plot .board))) full-layers-none ∙ ap given (full-of (plot .board) 0 full)
 
   full-graph-one : plotGraph plot ≡ given (onlyStart (plot .board))
   unfolding plotGraph withEqualTiles

@@ -1,7 +1,7 @@
--- The theorems about the text that the program `plot` prints: how long it is at most, how many bytes of a file settle it, that its counts and its
--- figure called cuttings are the number of cuttings, also of a plot with holes, that its two counts agree, what its tiling lines list, and what is printed for a plot with no free cell. The text is
--- `report` of `Report`; its examples are in `Examples`. Each is said here in words and proved in `CountLaws`, `BuiltLaws`, `FitLaws`, `PlotLaws`, `FullLaws` or
--- tiler's `NumberLaws`. What stands in quotation marks is 01's, or where it is said so 02's. Assumes nothing.
+-- The theorems about the text that the program `plot` prints: how long it is at most, how many bytes of a file settle it, that its counts and its figure called
+-- cuttings are the number of cuttings, also of a plot with holes, that its two counts agree, what its tiling lines list, and what is printed for a plot with no
+-- free cell. The text is `report` of `Report`; its examples are in `Examples`. Each is said here in words and proved in `CountLaws`, `BuiltLaws`, `FitLaws`,
+-- `PlotLaws`, `FullLaws` or tiler's `NumberLaws`. What stands in quotation marks is 01's, or where it is said so 02's. Assumes nothing.
 use mathlib.Core.Path.{_≡_, refl, sym, ap, ap₂, _∙_, subst}
 use mathlib.Core.Logic.{_↔_, ⊎-elim}
 use mathlib.Core.Bool.{true, false}
