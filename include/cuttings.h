@@ -70,7 +70,8 @@ uint64_t cuttings_count_tilings(uint64_t width, uint64_t height,
 
 /* The figure called cuttings: 1 for a board with no free cell, 0 by 0 among them, otherwise the layer
    count. So the product of the figures of neighbouring plots is not spoilt by one that is built over,
-   which has one cutting, the empty one. Lent words, answer and refusals are those of
+   which has one cutting, the empty one. It is the number of cuttings where every cell of a tile of two
+   or more cells shares an edge with another cell of that tile; elsewhere it can be fewer. Lent words, answer and refusals are those of
    cuttings_count_tilings, and the refusals come first: a board with no free cell is 7 with unequal tiles
    and 8 with room for no board. Stack: at most 96 KB. */
 uint64_t cuttings_count_cuttings(uint64_t width, uint64_t height,

@@ -54,7 +54,7 @@ def fill(draws, plot):
     plot.fixed |= marked & ~laid
 
 
-def some_to_figure(draws, plot):
+def some_for_cuttings(draws, plot):
     """Makes a plot one for `cuttings`: half of them are full or nearly full, some with unequal tiles."""
     if draws.one_in(2):
         fill(draws, plot)
@@ -64,7 +64,7 @@ def some_to_figure(draws, plot):
         plot.tiles = plots.unequal_tiles(draws)
 
 
-def room_to_figure(draws, weight):
+def room_for_cuttings(draws, weight):
     """A room for a command `cuttings`; with none or one board too where nothing is known."""
     if weight is None and draws.one_in(2):
         return f" {draws.below(2)}"

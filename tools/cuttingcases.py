@@ -2,7 +2,8 @@
 
 Each case is a pair: what is expected, and the command or, as in filecases.py, the file. What is expected
 was read off 02 by hand: 1 for a board with no free cell, otherwise the layer count, and in either case
-the refusals of the layer count first. It is none where only the second reading of answers.py holds the
+the refusals of the layer count first; which layers pass 512 boards (8) or have a count of 2^64 first (9)
+was taken from the oracle's answers. It is none where only the second reading of answers.py holds the
 oracle's answer.
 """
 
@@ -22,7 +23,7 @@ SMALL = ["RB 0 0", "RB 1 1", "RB 2 1", "RB 1 2", "RB 2 2", "RB 3 2", "LB 2 1", "
 LARGE = ["RB 5 3", "RB 16 1", "RB 1 16", "RB 16 16", "RB 15 16", "RB 16 15", "LB 2 8", "LB 16 1"]
 LARGE += ["TB 2 2", "TB 7 1", "TB 1 5"]
 KINDS = ["fixed", "laid", "both"]  # what marks the cells that the board leaves free
-CHESS = sum(cell(row, column) for row in range(16) for column in range(16) if (row + column) % 2)
+EVERY_SECOND = sum(cell(row, column) for row in range(16) for column in range(16) if (row + column) % 2)
 
 MANY = ",".join(["3"] * MOST_TILES)
 LONG = "3" * (MOST_CODES + 1)
@@ -43,7 +44,7 @@ def built(text, kind, left=0):
     """A board of words such as `LB 3 1` of which only some cells are left free."""
     plot = plot_of(text)
     free = plot.free() & ~left
-    plot.laid = {"fixed": 0, "laid": free, "both": free & CHESS}[kind]
+    plot.laid = {"fixed": 0, "laid": free, "both": free & EVERY_SECOND}[kind]
     plot.fixed |= free & ~plot.laid
     return plot
 
@@ -151,10 +152,10 @@ def random_figures(draws, ask):
     """Random plots, half of them full or nearly full, each by `layers` and by `cuttings`."""
     drawn = [plots.counted_plot(draws, 6) for _ in range(260)]
     for plot in drawn:
-        cases.some_to_figure(draws, plot)
+        cases.some_for_cuttings(draws, plot)
     commands = []
     for plot, weight in zip(drawn, plots.weights_of(ask, drawn)):
-        room = cases.room_to_figure(draws, weight)
+        room = cases.room_for_cuttings(draws, weight)
         commands += [plot.command("layers") + room, plot.command("cuttings") + room]
     held(ask, ((None, text) for text in commands if text.startswith("cuttings")))
     return different(commands)

@@ -1,5 +1,6 @@
 /* The errors of broken.c in the figure called cuttings (02's request 3): what the library answered is
-   spoilt, or the call is made with other slices. */
+   spoilt, or the call is made with other slices. A number behind the last error goes the same way and
+   spoils nothing. */
 #ifndef BROKENCUTTINGS_H
 #define BROKENCUTTINGS_H
 
@@ -23,29 +24,29 @@ static int has_all(uint64_t width, uint64_t height, const uint64_t *cells)
     return 1;
 }
 
-/* Whether all cells have a fixed mark (1), a laid one (2), either of them (3), or both (0). */
+/* Whether all cells have a fixed mark (1), a laid one (2), or either of them (3). */
 static int is_full_by(uint64_t width, uint64_t height, const uint64_t *marks, int kinds)
 {
     uint64_t cells[4];
     for (int k = 0; k < 4; k++) {
         uint64_t fixed = marks[k], laid = marks[4 + k];
-        cells[k] = kinds == 0 ? fixed & laid : (kinds & 1 ? fixed : 0) | (kinds & 2 ? laid : 0);
+        cells[k] = (kinds & 1 ? fixed : 0) | (kinds & 2 ? laid : 0);
     }
     return has_all(width, height, cells);
 }
 
 /* The refusals before which 1 is told for a full board. */
-static int comes_too_late(uint64_t r)
+static int is_passed_over(uint64_t r)
 {
     return (is(77) && r == 7) || (is(78) && r == 8) || (is(79) && r == 4) || (is(80) && r == 6) ||
            (is(81) && r == 5) || (is(82) && r != 0);
 }
 
-/* Other words of an answer; `full` is whether no cell is free, `is_bare` whether there is no cell. */
-static void spoil_words(uint64_t r, uint64_t layers, int full, int is_bare, OUT(answer))
+/* Other words of an answer; `full` is whether no cell is free, `has_no_cells` whether there is no cell. */
+static void spoil_words(uint64_t r, uint64_t layers, int full, int has_no_cells, OUT(answer))
 {
     int is_told = !r, is_one = is_told && full;
-    if (is_one && (is(76) || (is(83) && !is_bare) || (is(84) && is_bare)))
+    if (is_one && (is(76) || (is(83) && !has_no_cells) || (is(84) && has_no_cells)))
         answer[0] = 0; /* 0 for every full board, for all but 0 by 0, and for 0 by 0 */
     if (is(85) && is_told)
         answer[0]++; /* 1 added to every figure */
@@ -68,7 +69,7 @@ static void spoil_words(uint64_t r, uint64_t layers, int full, int is_bare, OUT(
 /* The refusal that is told in the place of r. */
 static uint64_t other_number(uint64_t r, int full, OUT(answer))
 {
-    if (full && comes_too_late(r)) {
+    if (full && is_passed_over(r)) {
         answer[0] = 1;
         return 0;
     }
@@ -87,7 +88,9 @@ static uint64_t other_number(uint64_t r, int full, OUT(answer))
 static void judge_otherwise(uint64_t width, uint64_t height, const uint64_t *marks, uint64_t layers,
                             uint64_t *answer)
 {
-    int kinds = is(99) ? 1 : is(100) ? 2 : is(101) ? 0 : 3; /* fixed alone, laid alone, both at once */
+    int kinds = is(99) ? 1 : is(100) ? 2 : 3; /* fixed alone, laid alone */
+    if (is(101) && width > 8)
+        width = 8; /* only the first eight columns are looked at */
     if (is(102) && height > 0)
         height--; /* the last row is not looked at */
     if (is(103) && width > 0)
@@ -100,7 +103,7 @@ static void judge_otherwise(uint64_t width, uint64_t height, const uint64_t *mar
 }
 
 /* Words that are left in the lent layers. */
-static void leave_dirt(uint64_t r, int full, OUT(boards_a), OUT(counts_b))
+static void leave_words(uint64_t r, int full, OUT(boards_a), OUT(counts_b))
 {
     if (is(106) && full && boards_a_len > 0)
         boards_a[0] = 1; /* of a full board */
@@ -119,14 +122,14 @@ static uint64_t count_with_error(PLOT, LAYERS)
     uint64_t layers = 0, r = __real_cuttings_count_cuttings(PLOT_ON, LAYERS_ON);
     if (marks_len != 8 || tiles_len % 33 != 0 || answer_len < 2)
         return r; /* a wrong shape */
-    int full = is_full_by(width, height, marks, 3), is_bare = width == 0 && height == 0;
+    int full = is_full_by(width, height, marks, 3), has_no_cells = width == 0 && height == 0;
     if (!r) {
         __real_cuttings_count_tilings(PLOT_ON, LAYERS_ON);
         layers = answer[0];
         judge_otherwise(width, height, marks, layers, answer);
     }
-    leave_dirt(r, full, ON(boards_a), ON(counts_b));
-    spoil_words(r, layers, full, is_bare, ON(answer));
+    leave_words(r, full, ON(boards_a), ON(counts_b));
+    spoil_words(r, layers, full, has_no_cells, ON(answer));
     return other_number(r, full, ON(answer));
 }
 

@@ -89,7 +89,7 @@ static uint64_t count_cuttings(const Plot *plot, size_t room, uint64_t *figure)
         marks[k] = plot->marks[k] | plot->marks[4 + k];
     if (!refusal && is_full(plot, marks))
         expect(layers[0] == 0 && figure[0] == 1, "the figure of a full board");
-    else
+    else if (!refusal)
         expect(layers[0] == figure[0], "the figure of a layer count");
     return refusal;
 }
