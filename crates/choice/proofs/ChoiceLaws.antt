@@ -141,9 +141,11 @@ module _ (free : ℕ → Bool) (count : ℕ → ℕ) where
   unfolding bestOf listOf
   scanned-none first f o e = e
 
-  pub scanned-more : (first best next : ChosenCell) (f : ℕ → ℕ) (n : ℕ) → Scanned first best (listOf f n) → Scanned best next (f n ∷ []) → Scanned first next (listOf f (n + 1))
-  scanned-more first best next f n a b o e =
+  -- the cell that is looked at is the next of the list
+  pub scanned-more : (first best next : ChosenCell) (f : ℕ → ℕ) (n cell : ℕ) → cell ≡ f n → Scanned first best (listOf f n) → Scanned best next (cell ∷ []) → Scanned first next (listOf f (n + 1))
+  scanned-more first best next f n cell q a b o e =
       b (bestOf free count o (listOf f n)) (a o e)
+      ∙ ap (λ (c : ℕ). foundOf count (bestOf free count (bestOf free count o (listOf f n)) (c ∷ []))) q
       ∙ ap (foundOf count) (sym (ap (bestOf free count o) (listOf-snoc f n) ∙ bestOf-append free count o (listOf f n) (f n ∷ [])))
 
   pub scanned-all : (first best : ChosenCell) (f : ℕ → ℕ) (n m : ℕ) → Scanned first best (listOf f n) → n ≤ m → m ≤ n → Scanned first best (listOf f m)

@@ -10,6 +10,12 @@ ghost use Rattle.cells.specs.Lists.{listOf};
 ghost use Rattle.choice.specs.Choice.{columns, bestOf};
 ghost use Rattle.choice.specs.Inner.{arrayCount, openIn, foundOf, Looked};
 
+// A scan on its way: the best of the cells so far, and the bit number where it stands, which runs with it.
+struct Scan {
+    best: ChosenCell,
+    cell: usize,
+}
+
 // One cell more is looked at.
 fn look_at(marks: Cells, counts: &[u8; 256], best: ChosenCell, cell: usize) -> ChosenCell
     requires { ⌜ cell < 256 ⌝ }
@@ -31,36 +37,39 @@ fn look_at(marks: Cells, counts: &[u8; 256], best: ChosenCell, cell: usize) -> C
     }
 }
 
-// The cells of a column, from its top.
-fn scan_column(
-    marks: Cells,
-    counts: &[u8; 256],
-    height: usize,
-    col: usize,
-    best: ChosenCell,
-) -> ChosenCell
-    requires { ⌜ (height ≤ 16) × (col < 16) ⌝ }
-    ensures { λ r. ⌜ Looked (number marks) (now (counts .entry)) best (listOf (λ row. 16 * row + col) height) r ⌝ }
+// The cells of a column, from its top: the bit number, which is 16 × row + column at every cell, steps down by 16.
+fn scan_column(marks: Cells, counts: &[u8; 256], height: usize, col: usize, scan: Scan) -> Scan
+    requires { ⌜ (height ≤ 16) × (col < 16) × (scan .cell ≡ 16 * 0 + col) ⌝ }
+    ensures best { λ r. ⌜ Looked (number marks) (now (counts .entry)) (scan .best) (listOf (λ row. 16 * row + col) height) (r .best) ⌝ }
+    ensures below { λ r. ⌜ r .cell ≡ 16 * height + col ⌝ }
 {
-    let mut found = best;
+    let mut best = scan.best;
+    let mut cell = scan.cell;
     let mut row = 0;
     while row < height {
-        found = look_at(marks, counts, found, 16 * row + col);
+        best = look_at(marks, counts, best, cell);
+        cell += 16;
         row += 1;
     }
-    found
+    Scan { best, cell }
 }
 
-// The free cell with the highest count, the first by columns and then by rows.
+// The free cell with the highest count, the first by columns and then by rows. From below a column the bit number
+// steps over to the top of the next: one column on, and as far up as the column runs down.
 pub fn choose(marks: Cells, counts: &[u8; 256], width: usize, height: usize) -> ChosenCell
     requires { ⌜ (width ≤ 16) × (height ≤ 16) ⌝ }
     ensures { λ r. ⌜ r ≡ foundOf (arrayCount (now (counts .entry))) (bestOf (openIn (number marks)) (arrayCount (now (counts .entry))) none (columns height width)) ⌝ }
 {
-    let mut found = ChosenCell::Full;
+    let depth = 16 * height;
+    let mut scan = Scan {
+        best: ChosenCell::Full,
+        cell: 0,
+    };
     let mut col = 0;
     while col < width {
-        found = scan_column(marks, counts, height, col, found);
+        scan = scan_column(marks, counts, height, col, scan);
+        scan.cell = scan.cell + 1 - depth;
         col += 1;
     }
-    found
+    scan.best
 }

@@ -1,8 +1,9 @@
--- `choice::scan::choose` meets its contract: the loop keeps the best of the columns so far.
+-- `choice::scan::choose` meets its contract: the loop keeps the best of the columns so far, and the running bit number is 16 × row + column
+-- at the top of every column.
 -- Assumes nothing.
 use mathlib.Core.Path.{_≡_}
 use mathlib.Core.Option.{none}
-use Prim.Native.Nat.{_-_, _≤_}
+use Prim.Native.Nat.{_+_, _-_, _*_, _≤_}
 use borrow.Author.Needs.{needs}
 use native.Mathlib.Omega.{arith}
 use Rattle.cells.specs.Set.{number}
@@ -13,23 +14,44 @@ use Rattle.choice.proofs.scan.choose.Statement.{statement}
 use Rattle.choice.proofs.scan.choose.Tie as tie
 
 abbrev Inv-loop : tie.InvT-loop
-Inv-loop marks counts width height found₀ col₀ found col =
+Inv-loop marks counts width height depth scan₀ col₀ scan col =
     (col ≤ width)
-    × (found ≡ foundOf (arrayCount counts) (bestOf (openIn (number marks)) (arrayCount counts) none (columns height col)))
+    × (depth ≡ 16 * height)
+    × (scan .cell ≡ 16 * 0 + col)
+    × (scan .best ≡ foundOf (arrayCount counts) (bestOf (openIn (number marks)) (arrayCount counts) none (columns height col)))
 
 abbrev μ-loop : tie.MeasureT-loop
-μ-loop marks counts width height found₀ col₀ found col = width - col
+μ-loop marks counts width height depth scan₀ col₀ scan col = width - col
 
 loop-holds : tie.Need-loop-holds Inv-loop μ-loop
-loop-holds c = (search needs, columns-none _ _ _)
+loop-holds c = (search needs, search needs, omega arith, columns-none _ _ _)
+
+scan-column-requires : tie.Need-scan-column-requires Inv-loop μ-loop
+scan-column-requires c κs = search needs
 
 loop-again : tie.Need-loop-again Inv-loop μ-loop
-loop-again c = (omega arith, columns-more _ _ _ _ _ _ (c .before .before .loop .inv .1) (c .scan-column .ensures))
+loop-again c = (
+  omega arith,
+  omega arith,
+  omega arith,
+  columns-more _ _ _ _ _ _ (c .before .before .before .loop .inv .3) (c .before .scan-column .ensures .0),
+)
 
 returns : tie.Need-returns Inv-loop μ-loop
-returns c = columns-all _ _ _ _ _ _ (c .before .loop .inv .1) (c .before .loop .inv .0) (c .loop-test .left)
+returns c = columns-all _ _ _ _ _ _ (c .before .loop .inv .3) (c .before .loop .inv .0) (c .loop-test .left)
 
 pub choose-spec : {M : Type 1} → statement M
 choose-spec =
     tie.close
-    (tie.spec Inv-loop μ-loop loop-holds (λ c κs. search needs) (λ c. search needs) (λ c. search needs) loop-again returns)
+    (tie.spec
+    Inv-loop
+    μ-loop
+    (λ c. search needs)
+    loop-holds
+    scan-column-requires
+    (λ c. search needs)
+    (λ c. search needs)
+    (λ c. search needs)
+    (λ c. search needs)
+    loop-again
+    returns)

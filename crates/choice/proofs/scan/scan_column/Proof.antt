@@ -1,5 +1,7 @@
--- `choice::scan::scan_column` meets its contract: the loop keeps the best of the rows so far (`Scanned`).
+-- `choice::scan::scan_column` meets its contract: the loop keeps the best of the rows so far (`Scanned`), and the running bit number is
+-- 16 × row + column at every cell.
 -- Assumes nothing.
+use mathlib.Core.Path.{_≡_}
 use Prim.Native.Nat.{_+_, _-_, _*_, _≤_}
 use borrow.Author.Needs.{needs}
 use native.Mathlib.Omega.{arith}
@@ -11,20 +13,32 @@ use Rattle.choice.proofs.scan.scan_column.Statement.{statement}
 use Rattle.choice.proofs.scan.scan_column.Tie as tie
 
 abbrev Inv-loop : tie.InvT-loop
-Inv-loop marks counts height col found₀ row₀ found row =
-    (row ≤ height) × Scanned (openIn (number marks)) (arrayCount counts) found₀ found (listOf (λ i. 16 * i + col) row)
+Inv-loop marks counts height col best₀ cell₀ row₀ best cell row =
+    (row ≤ height)
+    × (cell ≡ 16 * row + col)
+    × Scanned (openIn (number marks)) (arrayCount counts) best₀ best (listOf (λ i. 16 * i + col) row)
 
 abbrev μ-loop : tie.MeasureT-loop
-μ-loop marks counts height col found₀ row₀ found row = height - row
+μ-loop marks counts height col best₀ cell₀ row₀ best cell row = height - row
 
 loop-holds : tie.Need-loop-holds Inv-loop μ-loop
-loop-holds c = (search needs, scanned-none _ _ _ _)
+loop-holds c = (search needs, omega arith, scanned-none _ _ _ _)
+
+look-at-requires : tie.Need-look-at-requires Inv-loop μ-loop
+look-at-requires c κs = omega arith
 
 loop-again : tie.Need-loop-again Inv-loop μ-loop
-loop-again c = (omega arith, scanned-more _ _ _ _ _ _ _ (c .before .before .loop .inv .1) (c .look-at .ensures))
+loop-again c = (
+  omega arith,
+  omega arith,
+  scanned-more _ _ _ _ _ _ _ _ (c .before .before .loop .inv .1) (c .before .before .loop .inv .2) (c .look-at .ensures),
+)
 
 returns : tie.Need-returns Inv-loop μ-loop
-returns c = scanned-all _ _ _ _ _ _ _ (c .before .loop .inv .1) (c .before .loop .inv .0) (c .loop-test .left)
+returns c = (
+  scanned-all _ _ _ _ _ _ _ (c .before .loop .inv .2) (c .before .loop .inv .0) (c .loop-test .left),
+  omega arith,
+)
 
 pub scan-column-spec : {M : Type 1} → statement M
 scan-column-spec =
@@ -33,9 +47,8 @@ scan-column-spec =
     Inv-loop
     μ-loop
     loop-holds
+    look-at-requires
     (λ c. search needs)
-    (λ c. search needs)
-    (λ c κs. search needs)
     (λ c. search needs)
     (λ c. search needs)
     loop-again
