@@ -10,7 +10,7 @@ ghost use Rattle.cells.specs.Lists.{listOf};
 ghost use Rattle.choice.specs.Choice.{columns, bestOf};
 ghost use Rattle.choice.specs.Inner.{arrayCount, openIn, foundOf, Looked};
 
-// A scan on its way: the best of the cells so far, and the bit number where it stands, which runs with it.
+// How far a scan is: the best of the cells so far, and the bit number of the place it has come to.
 struct Scan {
     best: ChosenCell,
     cell: usize,
@@ -37,7 +37,8 @@ fn look_at(marks: Cells, counts: &[u8; 256], best: ChosenCell, cell: usize) -> C
     }
 }
 
-// The cells of a column, from its top: the bit number, which is 16 × row + column at every cell, steps down by 16.
+// The cells of a column. The scan comes in at its top, in row 0, and goes out below its last row; 16 is added to the
+// bit number for each step down, so that it is 16 × row + column at every cell. `col` is there for the contract, which says so.
 fn scan_column(marks: Cells, counts: &[u8; 256], height: usize, col: usize, scan: Scan) -> Scan
     requires { ⌜ (height ≤ 16) × (col < 16) × (scan .cell ≡ 16 * 0 + col) ⌝ }
     ensures best { λ r. ⌜ Looked (number marks) (now (counts .entry)) (scan .best) (listOf (λ row. 16 * row + col) height) (r .best) ⌝ }
@@ -54,8 +55,8 @@ fn scan_column(marks: Cells, counts: &[u8; 256], height: usize, col: usize, scan
     Scan { best, cell }
 }
 
-// The free cell with the highest count, the first by columns and then by rows. From below a column the bit number
-// steps over to the top of the next: one column on, and as far up as the column runs down.
+// The free cell with the highest count, the first by columns and then by rows. For the step over, from below a column
+// to the top of the next, 1 is added to the bit number and what the column has added is taken away.
 pub fn choose(marks: Cells, counts: &[u8; 256], width: usize, height: usize) -> ChosenCell
     requires { ⌜ (width ≤ 16) × (height ≤ 16) ⌝ }
     ensures { λ r. ⌜ r ≡ foundOf (arrayCount (now (counts .entry))) (bestOf (openIn (number marks)) (arrayCount (now (counts .entry))) none (columns height width)) ⌝ }

@@ -16,7 +16,6 @@ use Rattle.choice.proofs.scan.choose.Tie as tie
 abbrev Inv-loop : tie.InvT-loop
 Inv-loop marks counts width height depth scan₀ col₀ scan col =
     (col ≤ width)
-    × (depth ≡ 16 * height)
     × (scan .cell ≡ 16 * 0 + col)
     × (scan .best ≡ foundOf (arrayCount counts) (bestOf (openIn (number marks)) (arrayCount counts) none (columns height col)))
 
@@ -24,21 +23,17 @@ abbrev μ-loop : tie.MeasureT-loop
 μ-loop marks counts width height depth scan₀ col₀ scan col = width - col
 
 loop-holds : tie.Need-loop-holds Inv-loop μ-loop
-loop-holds c = (search needs, search needs, omega arith, columns-none _ _ _)
-
-scan-column-requires : tie.Need-scan-column-requires Inv-loop μ-loop
-scan-column-requires c κs = search needs
+loop-holds c = (search needs, omega arith, columns-none _ _ _)
 
 loop-again : tie.Need-loop-again Inv-loop μ-loop
 loop-again c = (
   omega arith,
   omega arith,
-  omega arith,
-  columns-more _ _ _ _ _ _ (c .before .before .before .loop .inv .3) (c .before .scan-column .ensures .0),
+  columns-more _ _ _ _ _ _ (c .before .before .before .loop .inv .2) (c .before .scan-column .ensures .0),
 )
 
 returns : tie.Need-returns Inv-loop μ-loop
-returns c = columns-all _ _ _ _ _ _ (c .before .loop .inv .3) (c .before .loop .inv .0) (c .loop-test .left)
+returns c = columns-all _ _ _ _ _ _ (c .before .loop .inv .2) (c .before .loop .inv .0) (c .loop-test .left)
 
 pub choose-spec : {M : Type 1} → statement M
 choose-spec =
@@ -48,7 +43,7 @@ choose-spec =
     μ-loop
     (λ c. search needs)
     loop-holds
-    scan-column-requires
+    (λ c κs. search needs)
     (λ c. search needs)
     (λ c. search needs)
     (λ c. search needs)
