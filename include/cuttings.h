@@ -17,8 +17,6 @@
    are Up, Down, Left, Right, UpLeft, UpRight, DownRight, DownLeft. 33 zero bytes are a tile too, the
    one of a single cell: where a call wrote tiles, hand on 33 * answer[0] bytes of them and no more.
    A board in an output, or a node, is four words, both kinds of marks together.
-   A COUNT is two words, low word first. So many count words hold half as many counts; an odd word left
-   over holds none.
    An ARCHIVE FILE is a run of records of 24 bytes: the mark TY, plot id, survey year and revision of
    two bytes each, a count of 16; each number highest byte first. Places are counted from 0.
 
@@ -29,7 +27,7 @@
 
    Refusals: 1 a mark of the plot file is cut or missing, or a length or body byte; 2 an unknown mark;
    3 a record in a wrong place, or a byte after EN; 4 the board; 5 a tile; 6 over 64 tiles; 7 two
-   tiles with different numbers of cells; 8 no room; 9 a path count of 2^128 or more; 10 no room for the
+   tiles with different numbers of cells; 8 no room; 9 a path count of 2^64 or more; 10 no room for the
    edges; 11 words that are no graph's; 12 no such tiling; 13 a record of the archive file is cut short
    or its mark is not TY; 14 no such record; 15 a hole of the plot file outside the board or on a
    marked cell.
@@ -57,10 +55,10 @@ uint64_t cuttings_place_tile(uint64_t width, uint64_t height,
                              uint64_t *answer, size_t answer_len);
 
 /* The layer count, with two layers: boards_a and boards_b have four words a board, counts_a and
-   counts_b two. All four are zero afterwards. answer[0], answer[1]: the count, low word and high word.
+   counts_b one. All four are zero afterwards. answer[0], answer[1]: the count, low word and high word.
    Refusals: 4, 6, 5, 7; then, of the earliest layer that has one, 8 if it has more boards than the
-   least of boards_a_len / 4, counts_a_len / 2, boards_b_len / 4 and counts_b_len / 2, else 9. Stack: at
-   most 96 KB. */
+   least of boards_a_len / 4, counts_a_len, boards_b_len / 4 and counts_b_len, else 9. Stack: at most
+   96 KB. */
 uint64_t cuttings_count_tilings(uint64_t width, uint64_t height,
                                 const uint64_t *marks, size_t marks_len,
                                 const uint8_t *tiles, size_t tiles_len,
@@ -85,10 +83,10 @@ uint64_t cuttings_count_cuttings(uint64_t width, uint64_t height,
                                  uint64_t *counts_b, size_t counts_b_len,
                                  uint64_t *answer, size_t answer_len);
 
-/* The graph of partial cuttings: nodes, four words each; counts, two words a node, low and high; edges,
-   two words each, parent and child. answer[0], answer[1]: how many nodes and edges; answer[2]: 1 if
-   there is a full node, else 0; answer[3]: the full node. The number of tilings is that node's count,
-   counts[2 * answer[3]] and counts[2 * answer[3] + 1], where answer[2] is 1, else 0.
+/* The graph of partial cuttings: nodes, four words each; counts, one word a node; edges, two words
+   each, parent and child. answer[0], answer[1]: how many nodes and edges; answer[2]: 1 if there is a
+   full node, else 0; answer[3]: the full node. The number of tilings is counts[answer[3]] where
+   answer[2] is 1, else 0.
    Refusals: 4, 6, 5, 7; 8, more nodes than nodes or counts hold; 10, more edges than edges holds; 9.
    Stack: at most 96 KB. */
 uint64_t cuttings_generate_graph(uint64_t width, uint64_t height,
@@ -112,8 +110,8 @@ uint64_t cuttings_single_tiling(uint64_t width, uint64_t height,
 /* The tiling with the number m (two words, low and high) of a graph: nodes, counts and edges as
    cuttings_generate_graph left them, and graph, its four answer words. The node list from node 0 to
    the full node, one word a node, into out. answer[0]: its length.
-   Refusals: 11; 12, no full node, or m is not below its count; 8, out is shorter than the list. Stack:
-   at most 16 KB. */
+   Refusals: 11; 12, no full node, or m is not below its count, as no m with a high word is; 8, out is
+   shorter than the list. Stack: at most 16 KB. */
 uint64_t cuttings_tiling(const uint64_t *nodes, size_t nodes_len,
                          const uint64_t *counts, size_t counts_len,
                          const uint64_t *edges, size_t edges_len,

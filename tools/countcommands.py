@@ -12,8 +12,6 @@ import cuttingcases
 import damages
 import plots
 import tilings
-import widecases
-import wideplots
 from answers import refusal
 from cases import MOST_TILINGS
 from holeplots import counted_with_holes
@@ -101,7 +99,7 @@ EXACTLY_2_64 = 0x218021802100711125002100210021122330210071002100210021002140210
 
 def large_counts(_draws, ask):
     """Counts near 2^64 and beyond it, in small layers and small graphs."""
-    return counts_at_2_64(ask) + counts_of_blocks(ask) + first_too_great()
+    return counts_at_2_64(ask) + counts_of_blocks(ask) + first_too_great(ask)
 
 
 def counts_at_2_64(ask):
@@ -118,11 +116,7 @@ def counts_at_2_64(ask):
 
 
 def counts_of_blocks(ask):
-    """10^16, whose graph is stored; 117^9; 117^6 * 454^3, which is beyond 2^64.
-
-    The graph of the last one has 3,102 nodes, and so it is stored with one node or edge less alone, by which
-    it is refused.
-    """
+    """10^16, whose graph is stored; 117^9; 117^6 * 454^3, which is beyond 2^64."""
     commands = []
     tens = plots.blocks([3] * 4, [3] * 4, plots.TROMINOES)
     nines = plots.blocks([4] * 3, [4] * 3, plots.TETROMINOES)
@@ -134,31 +128,30 @@ def counts_of_blocks(ask):
         commands += [layers, f"{layers} {weight.largest}", f"{layers} {weight.largest - 1}"]
         commands += [graph, f"{graph} {nodes - 1} {edges}", f"{graph} {nodes} {edges - 1}"]
         commands += [f"{graph} {nodes - 1} {edges - 1}"]
+    commands.append(f"{graph} {nodes} {edges}")  # of the last, refused for its counts alone
     # With one cell less no cutting is left, but path counts beyond 2^64.
     beyond.fixed |= plots.cell(5, 5)
     layers = beyond.command("layers")
     if ask([layers]) != ["0"]:
         stop(f"{layers}: the Rust's count isn't 0")
-    return [*commands, layers]
+    return commands + [layers, beyond.command("graph") + f" {nodes} {edges}"]
 
 
-# Rooms of the two plots below: of the layers before the first path count of 2^64 or more, of that layer
-# and of those behind it the largest each, and one board less.
-ROOMS_AT_2_64 = {0: (279, 280, 153, 154, 941, 942), 0xF: (279, 280, 613, 614, 941, 942)}
-
-
-def first_too_great():
-    """Rooms before, in and behind the layer with the first path count of 2^64 or more.
+def first_too_great(ask):
+    """Path counts that pass 2^64 before, in and behind the first layer that passes the room.
 
     Nine rectangles, the midmost of 5 by 5 cells less one, which is cut last. With a row of marks
-    more, the layer with the first such count is larger than all before it. No count is refused any more,
-    and 8 is told where a later layer passes the room; counts of 2^128 or more stand in wideplots.py.
+    more, the layer with the first such count is larger than all before it.
     """
     commands = []
-    for row, rooms in ROOMS_AT_2_64.items():
+    for row in (0, 0xF):
         plot = plots.blocks([4, 5, 4], [4, 5, 4], plots.TETROMINOES)
         plot.fixed |= plots.cell(5, 5) | row
-        commands += [plot.command("layers") + f" {room}" for room in rooms]
+        weight = plots.weights_of(ask, [plot])[0]
+        here = weight.sizes[weight.over]
+        before, behind = max(weight.sizes[: weight.over]), max(weight.sizes[weight.over + 1 :])
+        for room in (before - 1, before, here - 1, here, behind - 1, behind):
+            commands.append(plot.command("layers") + f" {room}")
     return commands
 
 
@@ -299,33 +292,8 @@ def figures_like_layers(draws, ask):
     return cuttingcases.held(ask, ((None, text.replace("layers", "cuttings", 1)) for text in found))
 
 
-def wide_counts(_draws, ask):
-    """Counts and figures past 2^64 and at 2^128, and graphs, with rooms at which the answer changes."""
-    wideplots.in_layer(ask)
-    figures = cuttingcases.held(ask, ((None, text) for text in wideplots.counts(ask, "cuttings")))
-    return [text.replace("cuttings", "layers", 1) for text in figures] + figures + wideplots.graphs(ask)
-
-
-def wide_graphs(_draws, ask):
-    """A plot's graph with the count 2^64: its last numbers, and without its high word."""
-    graph = tilings.Graph(ask([plots.with_rooms(wideplots.plot_in(wideplots.SMALL_GRAPHS[0]).command("graph"))])[0])
-    case = graph.case()
-    pairs = widecases.at_numbers(case, (0, tilings.LARGEST, tilings.WORD, tilings.WORD + 1))
-    words = case.count_words[:-1]
-    return checked([*pairs, (11, case.but(count_words=(*words, 0))), (11, case.but(count_words=words))])
-
-
-def wide_words(draws, ask):
-    """Damages of single words, sums past 2^64 and at 2^128, numbers at their borders, in graphs that no plot has."""
-    commands = checked([*widecases.lone_boards(), *widecases.sums_past_2_64(), *widecases.sums_at_2_128()])
-    for graph in some_known(ask, (1, 3, 6)) + small_graphs(draws, ask, 3, 9, range(2, 9)):
-        commands += checked(widecases.with_word_refusals(graph.case(graph.count - 1)))
-    return different(commands)
-
-
 SECTIONS = [known_plots, counted_plots, exact_rooms, count_refusals, large_counts]
 SECTIONS += [known_tilings, random_tilings, every_number, damaged_graphs, great_counts]
 SECTIONS += [changed_graphs]
 LATER_SECTIONS = [counts_with_holes]
 FIGURE_SECTIONS = [cuttingcases.figures, figures_like_layers, cuttingcases.random_figures]
-WIDE_SECTIONS = [wide_counts, wide_graphs, wide_words]

@@ -2,8 +2,8 @@
 
 Each case is a pair: what is expected, and the command or, as in filecases.py, the file. What is expected
 was read off 02 by hand: 1 for a board with no free cell, otherwise the layer count, and in either case
-the refusals of the layer count first; which layers pass 512 boards (8) was taken from the oracle's answers,
-and so were counts past 2^64. Figures refused by 9 stand in wideplots.py. It is none where only the second reading of answers.py holds the
+the refusals of the layer count first; which layers pass 512 boards (8) or have a count of 2^64 first (9)
+was taken from the oracle's answers. It is none where only the second reading of answers.py holds the
 oracle's answer.
 """
 
@@ -195,12 +195,11 @@ def nearly_built_files():
 
 
 def refused_figures():
-    """Layers that are refused by 8, and the figure with them; and two plots with path counts past 2^64."""
+    """Layers that are refused by 8 or by 9, and the figure with them."""
     for text in ("RB 16 16 HO 0 0 HO 15 15 OR 3", "RB 16 16 HO 0 0 HO 0 1 OR 3", "RB 12 12 HO 3 3 OR 33 OR 30"):
         yield "|layers refused 8|cuttings refused 8|graph refused 8|", whole(text)
-    count = 2952825806897467775946
-    yield f"|layers {count}|cuttings {count}|graph {count} ", whole("RB 16 16 HO 0 0 HO 0 1 TI 3 TI 6 TI 5")
-    yield "|layers 0|cuttings 0|graph 0 ", whole("RB 16 16 HO 0 15 TI 3 TI 6 TI 5")
+    for text in ("RB 16 16 HO 0 0 HO 0 1 TI 3 TI 6 TI 5", "RB 16 16 HO 0 15 TI 3 TI 6 TI 5"):
+        yield "|layers refused 9|cuttings refused 9|graph refused ", whole(text)
 
 
 # How many cuttings n by 2 has in pairs.

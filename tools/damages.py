@@ -1,14 +1,13 @@
 """Copies of graphs with other words, for commands `tiling`: damaged ones and other sound ones.
 
 Nothing here answers a command. A case that is made for one refusal comes with its number, or with
-None if it stays sound, and the model's answer is held to that. Counts are whole counts here, of two words
-each; damages of single words stand in widecases.py.
+None if it stays sound, and the model's answer is held to that.
 """
 
 import sys
 
 sys.dont_write_bytecode = True
-from tilings import GREATEST, LARGEST, MOST_ROOM, Case, counts_of, fitted, flat, with_edges, words_of
+from tilings import LARGEST, MOST_ROOM, Case, counts_of, fitted, flat, with_edges
 
 
 def places(n):
@@ -84,15 +83,15 @@ def bad_edges(case):
 
 def bad_counts(case):
     counts, last = case.counts, case.full
-    for count in (0, 2, GREATEST):
+    for count in (0, 2, LARGEST):
         yield case.but(counts=changed(counts, 0, count))
     # Every other node's count is the sum of its parents'.
     yield case.but(counts=tuple(2 * count for count in counts))
     yield case.but(counts=(0,) * case.nodes)
     for node in sorted({1, case.nodes // 2, last} - {0}):
-        for count in sorted({counts[node] + 1, counts[node] - 1, 0, GREATEST} - {counts[node], -1}):
+        for count in sorted({counts[node] + 1, counts[node] - 1, 0, LARGEST} - {counts[node], -1}):
             yield case.but(counts=changed(counts, node, count))
-            if count != GREATEST:
+            if count != LARGEST:
                 # Carried on: no other node's count is wrong.
                 yield case.but(counts=counts_of(case.nodes, case.pairs(), {node: count}))
     yield with_lone_node(case).but(counts=(*counts, 1))
@@ -102,7 +101,7 @@ def late_refusals(case):
     """Refusals 12 and 8, and several causes at once. Each with the refusal."""
     count, n, out = case.counts[case.full], case.nodes, case.out
     bad = case.but(counts=changed(case.counts, n - 1, case.counts[n - 1] + 1))
-    passed = [case.but(m=count), case.but(m=count + 1), case.but(m=GREATEST), case.but(full=None)]
+    passed = [case.but(m=count), case.but(m=count + 1), case.but(m=LARGEST), case.but(full=None)]
     passed += [case.but(full=None, m=0), with_lone_node(case).but(full=n, m=0)]
     short = [case.but(out=out - 1), case.but(out=0)]
     for other in passed:
@@ -110,7 +109,7 @@ def late_refusals(case):
         yield 12, other.but(out=0)
     for other in short:
         yield 8, other
-    for other in (bad, bad.but(m=GREATEST), bad.but(full=None), bad.but(m=count + 1, out=0)):
+    for other in (bad, bad.but(m=LARGEST), bad.but(full=None), bad.but(m=count + 1, out=0)):
         yield 11, other
         yield 11, other.but(out=out - 1)
     yield 12, case.but(full=0, m=1, out=9)
@@ -129,18 +128,17 @@ def other_full_nodes(case):
 
 
 def words_left_over(case):
-    """Words behind those of the graph, whatever they hold: of the counts one, a whole count, and more."""
     n = case.nodes
     garbage = (LARGEST, 3, 0, 7)
     for more in (1, 2, 3, 4):
         yield case.but(node_words=4 * n + more)
-        yield case.but(count_words=case.count_words + garbage[:more])
+        yield case.but(counts=case.counts + garbage[:more])
         yield case.but(edge_words=case.edge_words + garbage[:more])
     for more in (1, 2, 9):
         yield case.but(out=case.out + more)
     yield case.but(
         node_words=4 * n + 9,
-        count_words=case.count_words + garbage,
+        counts=case.counts + garbage,
         edge_words=case.edge_words + garbage[:3],
         out=case.out + 3,
     )
@@ -192,29 +190,21 @@ def with_unreached_nodes(case, draws):
     return fitted(other.but(edges=len(pairs), counts=counts, edge_words=flat(pairs)))
 
 
-# Counts at 2^64 and at 2^128. Node i of a chain of double edges has the count 2^i: two edges lead to it from
-# the node before.
+# Counts at 2^64. Node i of a chain of double edges has the count 2^i: two edges lead to it from the node before.
+
+DOUBLING = [(node, node + 1) for node in range(63) for _ in range(2)]
 
 
-def doubling_case(parents, count=None, full=None, m=0, last=64):
-    """A chain of double edges and a last node with these parents, and with another count than their sum if given.
-
-    The full node is the last one, unless another is given, or -1 for none.
-    """
-    pairs = [(node, node + 1) for node in range(last - 1) for _ in range(2)]
-    pairs += [(parent, last) for parent in parents]
-    counts = counts_of(last + 1, pairs, {} if count is None else {last: count})
-    full = last if full is None else None if full < 0 else full
-    case = Case(last + 1, len(pairs), full, 4 * last + 4, words_of(counts), flat(pairs), m, last + 1)
-    return fitted(case)
+def doubling_case(parents, count=None, full=64, m=0):
+    """A chain of double edges and node 64 with these parents, and with another count than their sum if given."""
+    pairs = DOUBLING + [(parent, 64) for parent in parents]
+    given = {} if count is None else {64: count}
+    counts = counts_of(65, pairs, given)
+    return fitted(Case(65, len(pairs), full, 260, counts, flat(pairs), m, 65))
 
 
 def counts_at_2_64():
-    """Sums of 2^64 - 1, and sums that pass it, for which the count is what their low word alone would hold.
-
-    They were made for counts of one word. The sums are exact numbers, so that a count which is another number
-    is none of a graph, though now it could be the right one.
-    """
+    """Sums of 2^64 - 1, which are sound, and sums that pass it, and so another number in a word."""
     down, up = list(range(63, -1, -1)), list(range(64))
     for m in (0, 2**63 - 1, 2**63, 2**64 - 2):
         yield None, doubling_case(down, m=m)
@@ -234,17 +224,17 @@ def counts_at_2_64():
         ([0] + up, 0),
     ):
         yield 11, doubling_case(parents, count)
-    yield 11, doubling_case([63, 63], 0, full=-1)
+    yield 11, doubling_case([63, 63], 0, full=None)
     yield 11, doubling_case([63, 63], 0, full=63)
 
 
 # Random changes.
 
 
-def some_word(draws, near, largest=LARGEST):
-    """A word near another, small or large; a count or a number of a tiling, if the largest is one."""
-    beside = min(near + 1, largest), max(near - 1, 0)
-    return draws.one_of([near, *beside, 0, 1, 2, draws.below(9), largest])
+def some_word(draws, near):
+    """A word near another, small or large."""
+    beside = min(near + 1, LARGEST), max(near - 1, 0)
+    return draws.one_of([near, *beside, 0, 1, 2, draws.below(9), LARGEST])
 
 
 def some_change(draws, case):
@@ -259,7 +249,7 @@ def some_change(draws, case):
         return case.but(full=draws.one_of([None, some_word(draws, max(case.nodes - 1, 0))]))
     if kind == 3 and counts:
         place = draws.below(len(counts))
-        return case.but(counts=changed(counts, place, some_word(draws, counts[place], GREATEST)))
+        return case.but(counts=changed(counts, place, some_word(draws, counts[place])))
     if kind == 4 and words:
         place = draws.below(len(words))
         return case.but(edge_words=changed(words, place, some_word(draws, words[place])))
@@ -270,7 +260,7 @@ def some_change(draws, case):
     if kind == 7:
         return case.but(edge_words=words[: len(words) - draws.below(4)])
     if kind == 8:
-        return case.but(m=some_word(draws, case.m, GREATEST))
+        return case.but(m=some_word(draws, case.m))
     if kind == 9:
         return case.but(out=draws.below(case.out + 3))
     if kind == 10:

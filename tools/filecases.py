@@ -426,17 +426,15 @@ COUNTS_AT_2_64 = {
     "|graph 3502740242239480580 nodes 775 ",
     "RB 14 16 TI 3 TI 6 TI 5": "|layers 2991718142753260158|cuttings 2991718142753260158"
     "|graph 2991718142753260158 nodes 862 ",
-    "RB 16 15 TI 3 TI 6 TI 5": "|layers 101701218988614000000|cuttings 101701218988614000000"
-    "|graph 101701218988614000000 nodes 883 ",
-    "RB 16 16 TI 3 TI 6 TI 5": "|layers 2952825806897467775946|cuttings 2952825806897467775946"
-    "|graph 2952825806897467775946 nodes 998 ",
-    # This one has no cutting, but path counts past 2^64.
-    "RB 15 16 TI 3 TI 6 TI 5": "|layers 0|cuttings 0|graph 0 nodes 953 ",
+    "RB 16 15 TI 3 TI 6 TI 5": "|layers refused 9|cuttings refused 9|graph refused 9|",
+    "RB 16 16 TI 3 TI 6 TI 5": "|layers refused 9|cuttings refused 9|graph refused 9|",
+    # This one has no cutting.
+    "RB 15 16 TI 3 TI 6 TI 5": "|layers refused 9|cuttings refused 9|graph refused 9|",
 }
 
 # Tiles of 8 cells. Of the first 32 two each fill a square of 4 by 4, in 16 ways, and by them 16 by
-# 16 is cut in 16^16 ways, which is 2^64; the first 30 cut it in 15^16 ways; with all it is
-# 20^16, and there are more than 1,024 nodes.
+# 16 is cut in 16^16 ways, which is 2^64; the first 30 cut it in 15^16 ways; with all there are
+# more than 1,024 nodes.
 HALVES = "0033371 1733300 3711330 1503111 1537713 3051112 3400331 1313000 0033130 3006130 0003311"
 HALVES += " 1133000 1130061 3330002 1303377 1330511 3711303 3031112 1634033 1333002 2200333"
 HALVES += " 3330022 2211153 3511122 1531150 5173330 1115006 3060002 1533112 5377333 1562713 3130002"
@@ -479,8 +477,8 @@ def full_rooms():
     halves, wide = HALVES.split(), WIDE.split()
     yield f"|layers {15**16}|cuttings {15**16}|graph {15**16} nodes 408 ", with_tiles("RB 16 16", halves[:30])
     yield f"|layers {16**12}|cuttings {16**12}|graph {16**12} nodes ", with_tiles("RB 16 12", halves[:32])
-    yield f"|layers {2**64}|cuttings {2**64}|graph {2**64} nodes 484 ", with_tiles("RB 16 16", halves[:32])
-    yield f"|layers {20**16}|cuttings {20**16}|graph refused 8|", with_tiles("RB 16 16", halves)
+    yield "|layers refused 9|cuttings refused 9|graph refused 9|", with_tiles("RB 16 16", halves[:32])
+    yield "|layers refused 9|cuttings refused 9|graph refused 8|", with_tiles("RB 16 16", halves)
     fewer = without(wide, (37, 53, 60)) + ["31150065244063522453150"]
     yield "|graph 12567025 nodes 738 edges 4096|", with_tiles("RB 15 16", fewer)
     yield "|layers 7595536|cuttings 7595536|graph refused 10|", with_tiles("RB 15 16", without(wide, (8, 24)))

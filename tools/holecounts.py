@@ -116,14 +116,14 @@ def counted_hole_files():
 
 # Large counts, and what passes the rooms of the program. The counts are those of the parts: 01's 8 by 8, 10
 # cuttings of 3 by 3 in threes, 117 of 4 by 4 in fours and 454 of 5 by 4, with which 9 parts pass 2^64. Where
-# a room is passed was taken from the oracle's answers. Counts at 2^128 stand in wideplots.py.
+# a room is passed was taken from the oracle's answers.
 FOURS = "OR 333 OR 330 OR 303 OR 306 OR 302"
 LARGE = {
     f"{bordered(8, 8)} OR 3": "|layers 12988816|cuttings 12988816|graph refused 8|",
     f"{parted([3] * 4, [3] * 4)} OR 33 OR 30": f"|layers {10**16}|cuttings {10**16}|graph {10**16} nodes ",
     f"{parted([4] * 3, [4] * 3)} {FOURS}": f"|layers {117**9}|cuttings {117**9}|graph refused 8|",
-    f"{parted([4, 4, 5], [4] * 3)} {FOURS}": f"|layers {117**6 * 454**3}|cuttings {117**6 * 454**3}|graph refused 8|",
-    "RB 16 16 HO 8 8 TI 3 TI 6 TI 5": "|layers 0|cuttings 0|graph refused 8|",
+    f"{parted([4, 4, 5], [4] * 3)} {FOURS}": "|layers refused 9|cuttings refused 9|graph refused 8|",
+    "RB 16 16 HO 8 8 TI 3 TI 6 TI 5": "|layers refused 9|cuttings refused 9|graph refused 8|",
     "RB 16 16 HO 8 8 OR 3": "|layers refused 8|cuttings refused 8|graph refused 8|",
     "RB 8 8 HO 0 0 HO 7 7 OR 3": "|layers 0|cuttings 0|graph refused 8|",
 }

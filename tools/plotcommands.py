@@ -14,7 +14,6 @@ import holecounts
 import plotfiles
 import plots
 import tilings
-import wideplots
 from answers import figure
 from cases import MOST_TILINGS
 from cuttingcases import figure_by_hand
@@ -190,11 +189,6 @@ def full_files(_draws, ask):
     return held_files(ask, pairs + [*cuttingcases.refused_figures(), *cuttingcases.products()])
 
 
-def wide_files(_draws, ask):
-    """Files with counts past 2^64, up to 39 digits, and with path counts of 2^128 or more."""
-    return held_files(ask, wideplots.files())
-
-
 def searches_with_holes(draws, ask):
     """One tiling of plots with holes, with and without rooms; with equal tiles as the counts say."""
     unequal = with_unequal_tiles(draws)
@@ -329,4 +323,3 @@ SECTIONS = [known_files, refused_files, damaged_files, read_files, random_files]
 SECTIONS += [single_tilings]
 LATER_SECTIONS = [refused_holes, damaged_holes, read_holes, random_holes, searches_with_holes]
 FIGURE_SECTIONS = [full_files]
-WIDE_SECTIONS = [wide_files]

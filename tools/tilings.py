@@ -1,14 +1,12 @@
 """The tiling by number, by the text of 01: the answers to commands `tiling`.
 
 The Rust has no such call and no refusals. So these answers come from a model of 01's section
-"Tiling by number", whose numbers have no word size; how counts and the number stand in words, two each
-and the low word first, is 02's request 5. The graphs are the Rust's, as the oracle gives them, and copies
-of them with other words, which damages.py and widecounts.py make. Of the Rust's graphs the model's lists
-are held to the Rust's tilings.
+"Tiling by number", whose numbers have no word size. The graphs are the Rust's, as the oracle gives
+them, and copies of them with other words, which damages.py makes. Of the Rust's graphs the model's
+lists are held to the Rust's tilings.
 """
 
 import dataclasses
-import functools
 import re
 import sys
 
@@ -16,19 +14,7 @@ sys.dont_write_bytecode = True
 from plots import stop
 
 MOST_ROOM = 16_777_216  # nodes or edges, however many words are lent
-WORD = 2**64
-LARGEST = WORD - 1  # word
-GREATEST = WORD**2 - 1  # count, and number of a tiling
-
-
-def words_of(counts):
-    """The words of counts: two each, the low word first."""
-    return tuple(word for count in counts for word in (count % WORD, count // WORD))
-
-
-def counts_in(words):
-    """The counts of words; a word left over is in none."""
-    return tuple(words[i] + WORD * words[i + 1] for i in range(0, len(words) - 1, 2))
+LARGEST = 2**64 - 1  # word
 
 
 @dataclasses.dataclass(frozen=True)
@@ -36,34 +22,25 @@ class Case:
     """A command `tiling`: a result, lent words, a number and an output.
 
     `nodes`, `edges` and `full` are the result, where `full` may be None. Of the node words and of
-    the output only the number of words matters. The number m is below 2^128.
+    the output only the number of words matters.
     """
 
     nodes: int
     edges: int
     full: int | None
     node_words: int
-    count_words: tuple[int, ...]
+    counts: tuple[int, ...]
     edge_words: tuple[int, ...]
     m: int
     out: int
 
     def but(self, **changes):
-        """The case with other fields; `counts` stands for the count words of these counts."""
-        if "counts" in changes:
-            changes["count_words"] = words_of(changes.pop("counts"))
         return dataclasses.replace(self, **changes)
-
-    @functools.cached_property
-    def counts(self):
-        """The counts that the count words hold."""
-        return counts_in(self.count_words)
 
     def check(self):
         """Stops if the program replay_counts can't lend so many words, or a number is no word."""
-        lent = self.node_words <= 4096 and len(self.count_words) <= 2048 and self.out <= 1024
-        words = [self.nodes, self.edges, self.full or 0, *self.count_words, *self.edge_words]
-        words += words_of([self.m])
+        lent = self.node_words <= 4096 and max(len(self.counts), self.out) <= 1024
+        words = [self.nodes, self.edges, self.full or 0, *self.counts, *self.edge_words, self.m]
         if not lent or len(self.edge_words) > 2048 or not 0 <= min(words) <= max(words) <= LARGEST:
             stop(f"no command: {self}")
 
@@ -76,15 +53,10 @@ class Case:
         self.check()
         words = [str(word) for word in self.edge_words]
         edges = ",".join(">".join(words[i : i + 2]) for i in range(0, len(words), 2))
-        counts = ",".join(map(str, self.count_words))
+        counts = ",".join(map(str, self.counts))
         full = "none" if self.full is None else self.full
         result = f"{self.nodes} {self.edges} {full} {self.node_words}"
-        return f"tiling {result} {counts or '.'} {edges or '.'} {number_text(self.m)} {self.out}"
-
-
-def number_text(m):
-    """A number as it stands in a command: its low word, and behind a comma its high word if it has one."""
-    return str(m) if m < WORD else f"{m % WORD},{m // WORD}"
+        return f"tiling {result} {counts or '.'} {edges or '.'} {self.m} {self.out}"
 
 
 def read(command):
@@ -96,8 +68,7 @@ def read(command):
 
     full = None if full == "none" else int(full)
     lent = int(node_words), words(counts), words(edge_words)
-    number = sum(word << 64 * place for place, word in enumerate(words(m)))
-    return Case(int(nodes), int(edges), full, *lent, number, int(out))
+    return Case(int(nodes), int(edges), full, *lent, int(m), int(out))
 
 
 # The model.
@@ -107,7 +78,7 @@ def is_graph(case):
     """Whether the result and the words have no cause of refusal 11."""
     if case.nodes == 0:
         return False
-    if case.nodes > min(case.node_words // 4, len(case.count_words) // 2, MOST_ROOM):
+    if case.nodes > min(case.node_words // 4, len(case.counts), MOST_ROOM):
         return False
     if case.edges > min(len(case.edge_words) // 2, MOST_ROOM):
         return False
@@ -174,7 +145,7 @@ def flat(pairs):
 def graph_case(nodes, pairs, full, m=0):
     """A case with words that the graph fills and an output that the list fills."""
     counts = counts_of(nodes, pairs)
-    return fitted(Case(nodes, len(pairs), full, 4 * nodes, words_of(counts), flat(pairs), m, 0))
+    return fitted(Case(nodes, len(pairs), full, 4 * nodes, counts, flat(pairs), m, 0))
 
 
 def fitted(case):

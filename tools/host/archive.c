@@ -12,13 +12,13 @@
    status: 0; 1, the file or the output cannot be read or written or there is no memory; 2, bad usage;
    3, something is refused. */
 #define PROGRAM "archive"
-#include "counts.h"
+#include "files.h"
 
 #include <string.h>
 
 #include "cuttings.h"
 
-enum { RECORD = 24, FIELDS = 5 };
+enum { RECORD = 24, FIELDS = 5, DIGITS = 39 }; /* 2^128 - 1 has so many digits */
 
 static uint16_t pair_in(const char *text)
 {
@@ -28,12 +28,50 @@ static uint16_t pair_in(const char *text)
     return (uint16_t)number;
 }
 
+/* A decimal number below 2^128 as low word and high word; in four parts, the lowest first. */
+static void count_in(const char *text, uint64_t *low, uint64_t *high)
+{
+    uint64_t parts[4] = {0};
+    if (*text == 0)
+        stop(2, "a number is missing");
+    for (; *text; text++) {
+        uint64_t carry = (uint64_t)(*text - '0');
+        if (*text < '0' || *text > '9')
+            stop(2, "not a number below 2^128");
+        for (int i = 0; i < 4; i++) {
+            carry += 10 * parts[i];
+            parts[i] = carry & UINT32_MAX;
+            carry >>= 32;
+        }
+        if (carry)
+            stop(2, "not a number below 2^128");
+    }
+    *low = parts[1] << 32 | parts[0];
+    *high = parts[3] << 32 | parts[2];
+}
+
+static void print_count(uint64_t low, uint64_t high)
+{
+    uint64_t parts[4] = {high >> 32, high & UINT32_MAX, low >> 32, low & UINT32_MAX};
+    char text[DIGITS + 1] = {0};
+    int at = DIGITS;
+    do {
+        uint64_t rest = 0;
+        for (int i = 0; i < 4; i++) {
+            rest = rest << 32 | parts[i];
+            parts[i] = rest / 10;
+            rest %= 10;
+        }
+        text[--at] = (char)('0' + rest);
+    } while (parts[0] | parts[1] | parts[2] | parts[3]);
+    printf("%s\n", text + at);
+}
+
 static void print_record(const uint64_t *record)
 {
     printf("id %" PRIu64 " year %" PRIu64 " revision %" PRIu64 " count ", record[0], record[1],
            record[2]);
-    print_words(record + 3);
-    printf("\n");
+    print_count(record[3], record[4]);
 }
 
 static int status = 0;
@@ -54,15 +92,15 @@ static void add(const char *name, char **fields)
 {
     uint8_t record[RECORD];
     uint16_t id = pair_in(fields[0]), year = pair_in(fields[1]), revision = pair_in(fields[2]);
-    uint64_t count[2], number;
+    uint64_t low, high, number;
     size_t length;
-    count_in(fields[3], count);
+    count_in(fields[3], &low, &high);
     FILE *end = fopen(name, "ab");
     if (end == NULL)
         stop(1, "the file cannot be opened");
     uint8_t *bytes = bytes_of(name, &length);
     if (!is_refused(cuttings_count_records(bytes, length, &number, 1), &number) &&
-        !is_refused(cuttings_write_record(id, year, revision, count[0], count[1], record, RECORD), &number) &&
+        !is_refused(cuttings_write_record(id, year, revision, low, high, record, RECORD), &number) &&
         fwrite(record, RECORD, 1, end) != 1)
         stop(1, "the file cannot be written");
     if (fclose(end) != 0)

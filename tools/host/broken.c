@@ -1,5 +1,5 @@
 /* The library with one error in a call on plots, by broken.h; those in records HO stand in brokenholes.h,
-   those in the figure called cuttings in brokencuttings.h, those in counts of two words in brokenwide.h. */
+   those in the figure called cuttings in brokencuttings.h. */
 #include "brokencuttings.h"
 #include "brokenholes.h"
 
@@ -48,8 +48,6 @@ uint64_t __wrap_cuttings_place_tile(PLOT, OUT(out), OUT(answer))
 uint64_t __wrap_cuttings_count_tilings(PLOT, OUT(boards_a), OUT(counts_a), OUT(boards_b), OUT(counts_b),
                                        OUT(answer))
 {
-    if (error() >= FIRST_WIDE_ERROR)
-        return count_with_wide_error(__real_cuttings_count_tilings, PLOT_ON, LAYERS_ON);
     uint64_t r = __real_cuttings_count_tilings(PLOT_ON, ON(boards_a), ON(counts_a), ON(boards_b),
                                                ON(counts_b), ON(answer));
     if (is(13) && !r && answer[0] > 1)
@@ -69,16 +67,13 @@ uint64_t __wrap_cuttings_count_tilings(PLOT, OUT(boards_a), OUT(counts_a), OUT(b
 
 uint64_t __wrap_cuttings_generate_graph(PLOT, OUT(nodes), OUT(counts), OUT(edges), OUT(answer))
 {
-    if (error() >= FIRST_WIDE_ERROR)
-        return graph_with_wide_error(__real_cuttings_generate_graph, PLOT_ON, ON(nodes), ON(counts), ON(edges),
-                                     ON(answer));
     uint64_t r = __real_cuttings_generate_graph(PLOT_ON, ON(nodes), ON(counts), ON(edges), ON(answer));
     if (is(19) && !r && answer[1] > 1)
         exchange(edges, edges + 2, 16); /* the first two edges */
     if (is(20) && !r && !answer[2])
         answer[3] = 1; /* a full node where there is none */
     if (is(21) && !r && answer[0] > 1)
-        counts[2]++; /* a path count */
+        counts[1]++; /* a path count */
     if (is(22) && !r && answer[0] > 1)
         nodes[4] ^= 1; /* a mark of node 1 */
     if (is(23) && r == 10)
@@ -118,9 +113,6 @@ uint64_t __wrap_cuttings_single_tiling(PLOT, OUT(out), OUT(answer))
 uint64_t __wrap_cuttings_tiling(IN(nodes), IN(counts), IN(edges), IN(graph), IN(m), OUT(out),
                                 OUT(answer))
 {
-    if (error() >= FIRST_WIDE_ERROR)
-        return tiling_with_wide_error(__real_cuttings_tiling, ON(nodes), ON(counts), ON(edges), ON(graph), ON(m),
-                                      ON(out), ON(answer));
     uint64_t other[4] = {0}, number[2] = {0};
     if (graph_len == 4)
         memcpy(other, graph, 32);

@@ -1,10 +1,10 @@
 /* The errors of broken.c in the figure called cuttings (02's request 3): what the library answered is
-   spoilt, or the call is made with other slices. The number behind the last error goes the same way and
-   spoils nothing; those behind it are of brokenwide.h. */
+   spoilt, or the call is made with other slices. A number behind the last error goes the same way and
+   spoils nothing. */
 #ifndef BROKENCUTTINGS_H
 #define BROKENCUTTINGS_H
 
-#include "brokenwide.h"
+#include "broken.h"
 
 enum { FIRST_FIGURE_ERROR = 76 };
 
@@ -135,8 +135,6 @@ static uint64_t count_with_error(PLOT, LAYERS)
 
 uint64_t __wrap_cuttings_count_cuttings(PLOT, LAYERS)
 {
-    if (error() >= FIRST_WIDE_ERROR)
-        return count_with_wide_error(__real_cuttings_count_cuttings, PLOT_ON, LAYERS_ON);
     if (error() < FIRST_FIGURE_ERROR)
         return __real_cuttings_count_cuttings(PLOT_ON, LAYERS_ON);
     return count_with_error(PLOT_ON, LAYERS_ON);

@@ -43,7 +43,7 @@ static uint64_t place_tile(const Plot *plot, Slice *out, uint64_t *number)
 enum { PLACE_TILE, COUNT_TILINGS, GENERATE_GRAPH, SINGLE_TILING, COUNT_CUTTINGS };
 
 /* The layer count or the figure called cuttings, by COUNT_TILINGS or COUNT_CUTTINGS. One of the four slices
-   holds just the room, two words a count, the others perhaps more, and some words are left over. */
+   holds just the room, the others perhaps more, and some words are left over. */
 static uint64_t count_by(int call, const Plot *plot, size_t room, uint64_t *count)
 {
     size_t before = used, least = below(4), rooms[4];
@@ -51,9 +51,9 @@ static uint64_t count_by(int call, const Plot *plot, size_t room, uint64_t *coun
         rooms[i] = room + (i == least ? 0 : below(4));
     Slice *marks = hand_marks(plot), *tiles = hand_tiles(plot), *answer = lend_answer(2);
     Slice *boards_a = lend_words("boards_a", 4 * rooms[0] + below(4));
-    Slice *counts_a = lend_words("counts_a", 2 * rooms[1] + below(2));
+    Slice *counts_a = lend_words("counts_a", rooms[1]);
     Slice *boards_b = lend_words("boards_b", 4 * rooms[2] + below(4));
-    Slice *counts_b = lend_words("counts_b", 2 * rooms[3] + below(2));
+    Slice *counts_b = lend_words("counts_b", rooms[3]);
     uint64_t refusal = (call == COUNT_TILINGS ? cuttings_count_tilings : cuttings_count_cuttings)(
         PLOT(plot, marks, tiles), W(boards_a), W(counts_a), W(boards_b), W(counts_b), W(answer));
     finish(refusal, answer, 2, count);
@@ -61,6 +61,7 @@ static uint64_t count_by(int call, const Plot *plot, size_t room, uint64_t *coun
     expect_zero(counts_a, 0, 1);
     expect_zero(boards_b, 0, 1);
     expect_zero(counts_b, 0, 1);
+    expect(count[1] == 0, "the count's high word");
     used = before;
     return refusal;
 }
@@ -87,9 +88,9 @@ static uint64_t count_cuttings(const Plot *plot, size_t room, uint64_t *figure)
     for (size_t k = 0; k < 4; k++)
         marks[k] = plot->marks[k] | plot->marks[4 + k];
     if (!refusal && is_full(plot, marks))
-        expect(wide(layers) == 0 && wide(figure) == 1, "the figure of a full board");
+        expect(layers[0] == 0 && figure[0] == 1, "the figure of a full board");
     else if (!refusal)
-        expect(wide(layers) == wide(figure), "the figure of a layer count");
+        expect(layers[0] == figure[0], "the figure of a layer count");
     return refusal;
 }
 
@@ -103,7 +104,7 @@ static uint64_t generate_graph(const Plot *plot, size_t nodes, size_t edges, Gra
 {
     size_t is_nodes = below(2);
     graph->nodes = lend_words("nodes", 4 * (nodes + (is_nodes ? 0 : below(4))) + below(4));
-    graph->counts = lend_words("counts", 2 * (nodes + (is_nodes ? below(4) : 0)) + below(2));
+    graph->counts = lend_words("counts", nodes + (is_nodes ? below(4) : 0));
     graph->edges = lend_words("edges", 2 * edges + below(2));
     size_t before = used;
     Slice *marks = hand_marks(plot), *tiles = hand_tiles(plot), *answer = lend_answer(4);
@@ -111,7 +112,7 @@ static uint64_t generate_graph(const Plot *plot, size_t nodes, size_t edges, Gra
                                                W(graph->counts), W(graph->edges), W(answer));
     finish(refusal, answer, 4, graph->result);
     expect_zero(graph->nodes, graph->result[0], 32);
-    expect_zero(graph->counts, graph->result[0], 16);
+    expect_zero(graph->counts, graph->result[0], 8);
     expect_zero(graph->edges, graph->result[1], 16);
     expect(graph->result[2] <= 1, "neither a full node nor none");
     expect(graph->result[2] || !graph->result[3], "a full node where there is none");
@@ -277,17 +278,11 @@ static void try_tiling_shapes(const Graph *graph, const uint64_t *number)
     used = before;
 }
 
-/* A number whose high word is above the count's is no tiling's, whatever its low word is. A graph's full
-   node, if it has one, has this count. */
+/* A number of 2^64 or more is below no count. */
 static void try_high_number(const Graph *graph, uint64_t low, int is_graph)
 {
     size_t before = used;
-    uint64_t least = 0, number[2] = {low, 0}, length;
-    if (is_graph && graph->result[2])
-        least = WORDS(graph->counts)[2 * graph->result[3] + 1];
-    number[1] = least == UINT64_MAX || one_in(4) ? UINT64_MAX : least + 1;
-    if (least == UINT64_MAX)
-        number[0] = UINT64_MAX;
+    uint64_t number[2] = {low, one_in(2) ? 1 : draw() | 1}, length;
     Slice *out = lend_words("out", below(300));
     uint64_t refusal = tiling(graph, number, out, &length);
     expect(refusal == (is_graph ? 12 : 11), "the refusal of an m with a high word");

@@ -67,7 +67,7 @@ static void answer_layers(Plot *plot)
     if (refusal)
         print_refusal(refusal);
     else
-        print_wide(wide(count));
+        print_number(count[0]);
 }
 
 static void answer_cuttings(Plot *plot)
@@ -77,7 +77,7 @@ static void answer_cuttings(Plot *plot)
     if (refusal)
         print_refusal(refusal);
     else
-        print_wide(wide(figure));
+        print_number(figure[0]);
 }
 
 static void answer_graph(Plot *plot)
@@ -90,7 +90,7 @@ static void answer_graph(Plot *plot)
     }
     int holds = is_graph(&graph);
     expect(holds, "the path counts of a graph");
-    print_wide(holds ? count_of(&graph) : 0);
+    print_number(holds ? count_of(&graph) : 0);
     printf(" %" PRIu64 " %" PRIu64, graph.result[0], graph.result[1]);
     if (graph.result[2])
         printf(" %" PRIu64, graph.result[3]);
@@ -149,12 +149,12 @@ static void answer_tilings(Plot *plot)
         return;
     }
     expect(is_graph(&graph), "the path counts of a graph");
-    if (count_of(&graph) > MOST_TILINGS) {
+    uint64_t count = count_of(&graph);
+    if (count > MOST_TILINGS) {
         printf("large");
         return;
     }
     try_numbers(&graph);
-    uint64_t count = (uint64_t)count_of(&graph);
     for (size_t m = 0; m < count; m++)
         list_tiling(&graph, m, &lists[m]);
     qsort(lists, (size_t)count, sizeof lists[0], compare_lists);
@@ -169,8 +169,7 @@ static void answer_tilings(Plot *plot)
 static void answer_tiling(void)
 {
     Graph graph;
-    uint64_t length, number[2];
-    wide_in(7, number);
+    uint64_t length, number[2] = {number_in(7), 0};
     int has_full = strcmp(field(3), "none") != 0;
     graph.result[0] = number_in(1);
     graph.result[1] = number_in(2);
@@ -237,12 +236,10 @@ static void answer_one(Plot *plot)
 /* The line of a count or of its refusal, with a bar behind it. */
 static void print_count(const char *name, uint64_t refusal, const uint64_t *count)
 {
-    printf("%s ", name);
     if (refusal)
-        print_refusal(refusal);
+        printf("%s refused %" PRIu64 "|", name, refusal);
     else
-        print_wide(wide(count));
-    putchar('|');
+        printf("%s %" PRIu64 "|", name, count[0]);
 }
 
 /* The lines of a graph and of its first tilings, with a bar behind each. */
@@ -255,9 +252,8 @@ static void print_plot_graph(const Plot *plot)
         return;
     }
     expect(is_graph(&graph), "the path counts of a graph");
-    printf("graph ");
-    print_wide(count_of(&graph));
-    printf(" nodes %" PRIu64 " edges %" PRIu64 "|", graph.result[0], graph.result[1]);
+    printf("graph %" PRIu64 " nodes %" PRIu64, count_of(&graph), graph.result[0]);
+    printf(" edges %" PRIu64 "|", graph.result[1]);
     keep(graph.nodes);
     keep(graph.counts);
     keep(graph.edges);

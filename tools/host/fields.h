@@ -58,16 +58,6 @@ static uint64_t number_in(size_t i)
     return number;
 }
 
-/* A number of one word, or of two that a comma joins, the low word first. */
-static void wide_in(size_t i, uint64_t *words)
-{
-    const char *end;
-    words[0] = number_at(field(i), &end);
-    words[1] = *end == ',' ? number_at(end + 1, &end) : 0;
-    if (*end != 0)
-        stop("not a number of one or two words");
-}
-
 static size_t room_in(size_t i, size_t usual)
 {
     uint64_t room = fields[i] == NULL ? usual : number_in(i);
@@ -167,18 +157,6 @@ static Slice *words_in(const char *name, size_t i)
 static void print_number(uint64_t number)
 {
     printf("%" PRIu64, number);
-}
-
-/* A number of up to 39 digits. */
-static void print_wide(Wide number)
-{
-    char text[40] = {0};
-    int at = 39;
-    do {
-        text[--at] = (char)('0' + (int)(number % 10));
-        number /= 10;
-    } while (number > 0);
-    printf("%s", text + at);
 }
 
 static void print_marks(const uint64_t *words)

@@ -2,11 +2,11 @@
 
        host PLOT-FILE BOARDS NODES EDGES M
 
-   BOARDS is the room of a layer, NODES and EDGES those of the graph; tiling M of the graph, a number
-   below 2^128, is printed. The lines are those of the program `plot`. Exit status: 0, also where something is
+   BOARDS is the room of a layer, NODES and EDGES those of the graph; tiling M of the graph is
+   printed. The lines are those of the program `plot`. Exit status: 0, also where something is
    refused; 1, the file cannot be read or there is no memory; 2, bad usage. */
 #define PROGRAM "host"
-#include "counts.h"
+#include "files.h"
 
 #include "cuttings.h"
 
@@ -36,15 +36,13 @@ static unsigned free_cells(const uint64_t *board)
     return count;
 }
 
-/* The line of a count of two words. */
+/* The line of a count. Its high word is 0, since a path count of 2^64 or more is refused. */
 static void print_count(const char *name, uint64_t refusal, const uint64_t *count)
 {
-    printf("%s ", name);
     if (refusal)
-        printf("refused %" PRIu64, refusal);
+        printf("%s refused %" PRIu64 "\n", name, refusal);
     else
-        print_words(count);
-    printf("\n");
+        printf("%s %" PRIu64 "\n", name, count[0]);
 }
 
 /* The layer count, and the figure called cuttings, which is 1 where no cell is free. Two layers are lent,
@@ -52,42 +50,40 @@ static void print_count(const char *name, uint64_t refusal, const uint64_t *coun
 static void print_layers(const uint64_t *board, const uint8_t *tiles, size_t size, uint64_t boards)
 {
     uint64_t *boards_a = room(boards, 4), *boards_b = room(boards, 4);
-    uint64_t *counts_a = room(boards, 2), *counts_b = room(boards, 2);
+    uint64_t *counts_a = room(boards, 1), *counts_b = room(boards, 1);
     uint64_t count[2];
     uint64_t refusal = cuttings_count_tilings(
-        board[0], board[1], board + 2, 8, tiles, size, boards_a, 4 * boards, counts_a, 2 * boards,
-        boards_b, 4 * boards, counts_b, 2 * boards, count, 2);
+        board[0], board[1], board + 2, 8, tiles, size, boards_a, 4 * boards, counts_a, boards,
+        boards_b, 4 * boards, counts_b, boards, count, 2);
     print_count("layers", refusal, count);
     refusal = cuttings_count_cuttings(
-        board[0], board[1], board + 2, 8, tiles, size, boards_a, 4 * boards, counts_a, 2 * boards,
-        boards_b, 4 * boards, counts_b, 2 * boards, count, 2);
+        board[0], board[1], board + 2, 8, tiles, size, boards_a, 4 * boards, counts_a, boards,
+        boards_b, 4 * boards, counts_b, boards, count, 2);
     print_count("cuttings", refusal, count);
     free(boards_a), free(counts_a), free(boards_b), free(counts_b);
 }
 
 /* The graph, and one of its tilings. No list has more nodes than a board has cells and one more. */
 static void print_graph(const uint64_t *board, const uint8_t *tiles, size_t size,
-                        uint64_t most_nodes, uint64_t most_edges, const uint64_t *m)
+                        uint64_t most_nodes, uint64_t most_edges, uint64_t number)
 {
-    uint64_t *nodes = room(most_nodes, 4), *counts = room(most_nodes, 2);
+    uint64_t *nodes = room(most_nodes, 4), *counts = room(most_nodes, 1);
     uint64_t *edges = room(most_edges, 2);
-    uint64_t graph[4], none[2] = {0, 0}, list[LONGEST_LIST], length;
+    uint64_t graph[4], m[2] = {number, 0}, list[LONGEST_LIST], length;
     uint64_t refusal = cuttings_generate_graph(
-        board[0], board[1], board + 2, 8, tiles, size, nodes, 4 * most_nodes, counts, 2 * most_nodes,
+        board[0], board[1], board + 2, 8, tiles, size, nodes, 4 * most_nodes, counts, most_nodes,
         edges, 2 * most_edges, graph, 4);
     if (refusal) {
         printf("graph refused %" PRIu64 "\n", refusal);
     } else {
-        printf("graph ");
-        print_words(graph[2] ? counts + 2 * graph[3] : none); /* the full node's, if there is one */
-        printf(" nodes %" PRIu64 " edges %" PRIu64 "\ntiling ", graph[0], graph[1]);
-        print_words(m);
-        refusal = cuttings_tiling(nodes, 4 * most_nodes, counts, 2 * most_nodes, edges, 2 * most_edges,
+        uint64_t count = graph[2] ? counts[graph[3]] : 0; /* the full node's, if there is one */
+        printf("graph %" PRIu64 " nodes %" PRIu64 " edges %" PRIu64 "\n", count, graph[0], graph[1]);
+        refusal = cuttings_tiling(nodes, 4 * most_nodes, counts, most_nodes, edges, 2 * most_edges,
                                   graph, 4, m, 2, list, LONGEST_LIST, &length, 1);
         if (refusal)
-            printf(" refused %" PRIu64, refusal);
+            printf("tiling %" PRIu64 " refused %" PRIu64, number, refusal);
         else
-            printf(":");
+            printf("tiling %" PRIu64 ":", number);
         for (uint64_t i = 0; !refusal && i < length; i++)
             printf(" %" PRIu64, list[i]);
         printf("\n");
@@ -97,14 +93,13 @@ static void print_graph(const uint64_t *board, const uint8_t *tiles, size_t size
 
 int main(int count, char **arguments)
 {
-    uint64_t board[10], tiles_read, rooms[3], m[2];
+    uint64_t board[10], tiles_read, numbers[4];
     uint8_t tiles[TILE_BYTES * MOST_TILES];
     size_t length;
     if (count != 6)
         stop(2, "usage: host PLOT-FILE BOARDS NODES EDGES M");
-    for (int i = 0; i < 3; i++)
-        rooms[i] = number_in(arguments[2 + i]);
-    count_in(arguments[5], m);
+    for (int i = 0; i < 4; i++)
+        numbers[i] = number_in(arguments[2 + i]);
     uint8_t *file = bytes_of(arguments[1], &length);
     uint64_t refusal = cuttings_read_plot(file, length, board, 10, tiles, sizeof tiles, &tiles_read, 1);
     free(file);
@@ -114,7 +109,7 @@ int main(int count, char **arguments)
     }
     printf("board %" PRIu64 " %" PRIu64 " free %u\n", board[0], board[1], free_cells(board));
     printf("tiles %" PRIu64 "\n", tiles_read);
-    print_layers(board, tiles, TILE_BYTES * tiles_read, rooms[0]);
-    print_graph(board, tiles, TILE_BYTES * tiles_read, rooms[1], rooms[2], m);
+    print_layers(board, tiles, TILE_BYTES * tiles_read, numbers[0]);
+    print_graph(board, tiles, TILE_BYTES * tiles_read, numbers[1], numbers[2], numbers[3]);
     return 0;
 }

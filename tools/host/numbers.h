@@ -7,52 +7,45 @@
 
 enum { LONGEST = 257 }; /* nodes of a tiling */
 
-/* The path count of a node. */
-static Wide count_at(const Graph *graph, uint64_t node)
-{
-    return wide(WORDS(graph->counts) + 2 * node);
-}
-
 /* Every node's count is the sum of its parents'; edges lead from lower nodes to higher ones. */
 static int is_graph(const Graph *graph)
 {
-    uint64_t nodes = graph->result[0], *edges = WORDS(graph->edges);
-    Wide *sums = memory(NULL, sizeof *sums * (size_t)nodes);
-    memset(sums, 0, sizeof *sums * (size_t)nodes);
-    int holds = nodes > 0 && count_at(graph, 0) == 1 && (!graph->result[2] || graph->result[3] < nodes);
+    uint64_t nodes = graph->result[0], *counts = WORDS(graph->counts), *edges = WORDS(graph->edges);
+    uint64_t *sums = memory(NULL, 8 * (size_t)nodes);
+    memset(sums, 0, 8 * (size_t)nodes);
+    int holds = nodes > 0 && counts[0] == 1 && (!graph->result[2] || graph->result[3] < nodes);
     for (uint64_t e = 0; holds && e < graph->result[1]; e++) {
         uint64_t parent = edges[2 * e], child = edges[2 * e + 1];
-        holds = parent < child && child < nodes && count_at(graph, parent) <= ~(Wide)0 - sums[child];
+        holds = parent < child && child < nodes && counts[parent] <= UINT64_MAX - sums[child];
         if (holds)
-            sums[child] += count_at(graph, parent);
+            sums[child] += counts[parent];
     }
     for (uint64_t node = 1; holds && node < nodes; node++)
-        holds = count_at(graph, node) == sums[node];
+        holds = counts[node] == sums[node];
     free(sums);
     return holds;
 }
 
-static Wide count_of(const Graph *graph)
+static uint64_t count_of(const Graph *graph)
 {
-    return graph->result[2] ? count_at(graph, graph->result[3]) : 0;
+    return graph->result[2] ? WORDS(graph->counts)[graph->result[3]] : 0;
 }
 
 /* The list of a number below the count, backward from the full node; its length. */
-static size_t walk_back(const Graph *graph, Wide m, uint64_t *list)
+static size_t walk_back(const Graph *graph, uint64_t m, uint64_t *list)
 {
-    const uint64_t *edges = WORDS(graph->edges);
+    const uint64_t *counts = WORDS(graph->counts), *edges = WORDS(graph->edges);
     size_t length = 1;
     list[0] = graph->result[3];
     while (list[length - 1] != 0 && length < LONGEST) {
         for (uint64_t e = 0; e < graph->result[1]; e++) {
             if (edges[2 * e + 1] != list[length - 1])
                 continue;
-            Wide turn = count_at(graph, edges[2 * e]);
-            if (m < turn) {
+            if (m < counts[edges[2 * e]]) {
                 list[length++] = edges[2 * e];
                 break;
             }
-            m -= turn;
+            m -= counts[edges[2 * e]];
         }
     }
     for (size_t i = 0; i < length / 2; i++) {
@@ -64,10 +57,10 @@ static size_t walk_back(const Graph *graph, Wide m, uint64_t *list)
 }
 
 /* Asks for a tiling, with an output of just its length, or of one word less, or of more. */
-static void try_number(const Graph *graph, Wide m)
+static void try_number(const Graph *graph, uint64_t m)
 {
     size_t before = used;
-    uint64_t list[LONGEST], number[2] = {(uint64_t)m, (uint64_t)(m >> 64)}, told;
+    uint64_t list[LONGEST], number[2] = {m, 0}, told;
     int is_below = m < count_of(graph);
     size_t length = is_below ? walk_back(graph, m, list) : 0, short_by = is_below && one_in(4);
     Slice *out = lend_words("out", length - short_by + (short_by || one_in(2) ? 0 : below(9)));
@@ -78,20 +71,10 @@ static void try_number(const Graph *graph, Wide m)
     used = before;
 }
 
-/* The length of the turn of the first edge into the full node, 0 if there is none. */
-static Wide first_turn(const Graph *graph)
-{
-    const uint64_t *edges = WORDS(graph->edges);
-    for (uint64_t e = 0; graph->result[2] && e < graph->result[1]; e++)
-        if (edges[2 * e + 1] == graph->result[3])
-            return count_at(graph, edges[2 * e]);
-    return 0;
-}
-
 /* Tilings through the words that a graph was left in. */
 static void try_numbers(Graph *graph)
 {
-    Wide count = count_of(graph), turn = first_turn(graph), border = (Wide)1 << 64;
+    uint64_t count = count_of(graph);
     keep(graph->nodes);
     keep(graph->counts);
     keep(graph->edges);
@@ -99,14 +82,7 @@ static void try_numbers(Graph *graph)
     try_number(graph, count);
     if (count > 1) {
         try_number(graph, count - 1);
-        try_number(graph, ((Wide)draw() << 64 | draw()) % count);
-        try_number(graph, turn);
-        try_number(graph, turn - 1);
-    }
-    if (count > border || one_in(4)) {
-        try_number(graph, border);
-        try_number(graph, border - 1);
-        try_number(graph, ~(Wide)0);
+        try_number(graph, draw() % count);
     }
     if (one_in(4)) {
         try_tiling_shapes(graph, (uint64_t[2]){0, 0});

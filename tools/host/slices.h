@@ -55,15 +55,6 @@ static int one_in(size_t number)
     return below(number) == 0;
 }
 
-/* ---- path counts and numbers of tilings: two words, low word first */
-
-__extension__ typedef unsigned __int128 Wide;
-
-static Wide wide(const uint64_t *words)
-{
-    return (Wide)words[1] << 64 | words[0];
-}
-
 /* ---- what is found wrong with the calls of a command */
 
 static int is_dirty, is_wrong;

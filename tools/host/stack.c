@@ -25,8 +25,8 @@ enum { KB = 1024, STEP = 16, MOST = 512, ENOUGH = 8 * 1024, BELOW = 16 * 1024 };
 enum { TILE = 33, TILES = 64, BOARDS = 4096, EDGES = 16384, LIST = 257, RECORD = 24, RECORDS = 1000 };
 
 static const uint64_t marks[8];
-static uint64_t boards_a[4 * BOARDS], boards_b[4 * BOARDS], counts_a[2 * BOARDS], counts_b[2 * BOARDS];
-static uint64_t nodes[4 * BOARDS], counts[2 * BOARDS], edges[2 * EDGES], graph[4];
+static uint64_t boards_a[4 * BOARDS], boards_b[4 * BOARDS], counts_a[BOARDS], counts_b[BOARDS];
+static uint64_t nodes[4 * BOARDS], counts[BOARDS], edges[2 * EDGES], graph[4];
 static uint64_t list[4 * LIST], board[10], answer[5];
 static uint8_t tiles[TILE * TILES], orbit[8 * TILE], tiles_read[TILE * TILES];
 static uint8_t archive[RECORD * RECORDS];

@@ -1,5 +1,5 @@
 -- Examples of the definitions, by computation.
-use Rattle.std.specs.Prelude.{◌≡◌, refl, [], ◌∷◌, ◌+◌, ◌*◌, ◌^◌, eqb}
+use Rattle.std.specs.Prelude.{◌≡◌, refl, [], ◌∷◌, eqb}
 use Rattle.std.proofs.Math.Option.{none, some}
 use Rattle.cells.specs.Lists.{holds, padded}
 use Rattle.refusal.specs.Refusal.{refused, given, map_answer, value_or}
@@ -8,17 +8,17 @@ use Rattle.graph.specs.declared.Edges.TheVariants as E
 use Rattle.graph.specs.Graph.{layer_room, node_room, edge_room, plot_boards, plot_nodes, plot_edges, node_part, edge_at, edges_in, edges_from, get_edges, GetsEdges, edges_for, count_from_graph, step_piece, marked_pieces_in}
 
 -- the least of words and count words decides; quotients drop their remainder
-rooms_held : (layer_room 9 6 16 7 ≡ 2) × (layer_room 16 7 16 3 ≡ 1) × (node_room 16 7 ≡ 3) × (edge_room 5 ≡ 2) × (edge_room 40000000 ≡ 16777216)
+rooms_held : (layer_room 9 3 16 3 ≡ 2) × (layer_room 16 3 16 1 ≡ 1) × (node_room 16 3 ≡ 3) × (edge_room 5 ≡ 2) × (edge_room 40000000 ≡ 16777216)
 unfolding layer_room node_room edge_room
 rooms_held = (refl, refl, refl, refl, refl)
 
 -- each of the four parts of a layer's room can be the least, and each of the two of a node's
-least_parts : layer_room 15 18 40 18 ∷ layer_room 40 7 40 18 ∷ layer_room 40 18 15 18 ∷ layer_room 40 18 40 7 ∷ node_room 15 18 ∷ node_room 40 7 ∷ edge_room 6 ∷ [] ≡ 3 ∷ 3 ∷ 3 ∷ 3 ∷ 3 ∷ 3 ∷ 3 ∷ []
+least_parts : layer_room 15 9 40 9 ∷ layer_room 40 3 40 9 ∷ layer_room 40 9 15 9 ∷ layer_room 40 9 40 3 ∷ node_room 15 9 ∷ node_room 40 3 ∷ edge_room 6 ∷ [] ≡ 3 ∷ 3 ∷ 3 ∷ 3 ∷ 3 ∷ 3 ∷ 3 ∷ []
 unfolding layer_room node_room edge_room
 least_parts = refl
 
 -- the limit of each kind of room is 16,777,216
-room_limits : layer_room 67108863 33554432 67108868 33554434 ∷ layer_room 67108868 33554434 67108868 33554434 ∷ node_room 67108868 33554434 ∷ edge_room 33554431 ∷ edge_room 33554434 ∷ [] ≡ 16777215 ∷ 16777216 ∷ 16777216 ∷ 16777215 ∷ 16777216 ∷ []
+room_limits : layer_room 67108863 16777216 67108868 16777217 ∷ layer_room 67108868 16777217 67108868 16777217 ∷ node_room 67108868 16777217 ∷ edge_room 33554431 ∷ edge_room 33554434 ∷ [] ≡ 16777215 ∷ 16777216 ∷ 16777216 ∷ 16777215 ∷ 16777216 ∷ []
 unfolding layer_room node_room edge_room
 room_limits = refl
 
@@ -73,7 +73,7 @@ written = (refl, refl)
 
 -- ---- the graph count: the full node's, 0 with none
 
-graph_counts : (count_from_graph (some 1) (1 ∷ 0 ∷ 2 ∷ 3 ∷ []) ≡ 3 * 2 ^ 64 + 2) × (count_from_graph none (1 ∷ 0 ∷ 2 ∷ 3 ∷ []) ≡ 0)
+graph_counts : (count_from_graph (some 3) (1 ∷ 1 ∷ 1 ∷ 2 ∷ []) ≡ 2) × (count_from_graph none (1 ∷ 1 ∷ 1 ∷ 2 ∷ []) ≡ 0)
 unfolding count_from_graph
 graph_counts = (refl, refl)
 

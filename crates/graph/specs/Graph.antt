@@ -1,7 +1,6 @@
 -- Definitions: how many boards, nodes or edges lent words hold; a graph in lent words, nodes as boards of four words and edges as pairs of words; the result
 -- of a graph, its count, and the cutting that a list of its nodes gives. What stands in quotation marks is 01's, from its sections on the layer count, the
--- graph and the tiling by number; "quotients drop their remainder". How many counts the count words hold is 02's ("room in count words is halved"): it is `count_room`.
--- Assumes nothing.
+-- graph and the tiling by number; "quotients drop their remainder". Assumes nothing.
 use Rattle.std.specs.Prelude.{ℕ, ◌/◌, min, ◌+◌, ◌*◌, cond, Bool, not, ◌&&◌, eqb, ltb, leb, length, get_or, take, drop}
 use Rattle.path_count.specs.PathCounts.{count_room, count_in}
 use mathlib.Core.List.{List, [], ◌∷◌, flat_map, map}

@@ -3,24 +3,27 @@
 use mathlib.Core.Path.{◌≡◌, sym, ap, ◌∙◌, subst}
 use mathlib.Core.List.{List, [], ◌∷◌}
 use mathlib.Core.Option.{Option, none, some}
-use Prim.Native.Nat.{ℕ, ◌+◌, ◌*◌, ◌/◌, ◌^◌}
+use Prim.Native.Nat.{ℕ, ◌+◌, ◌-◌, ◌*◌, ◌/◌, ◌^◌, min}
 use native.Mathlib.Nat.{add-zero}
 use native.Mathlib.Omega.{arith}
 use lib.ListN.{length, get_or}
 use Rattle.cells.specs.Set.{value}
+use Rattle.cells.specs.WordLaws.{Small}
 use Rattle.refusal.specs.declared.Refusal.{Refusal}
-use Rattle.refusal.specs.Refusal.{Answer, refused, given, map_answer, refusal_number}
+use Rattle.refusal.specs.Refusal.{Answer, refused, given, map_answer, refusal_number, value_or}
 use Rattle.refusal.specs.RefusalLaws.{map_given, map_refused}
 use Rattle.tiles.specs.declared.Tiles.{Tiles}
 use Rattle.tile.specs.Path.{Path}
 use Rattle.board.specs.declared.RectangularBoard.{RectangularBoard}
 use Rattle.rectangle.specs.Board.{Board}
 use Rattle.covers.specs.Counts.{at_node}
+use Rattle.path_count.specs.PathCounts.{count_limit}
 use Rattle.graph.specs.declared.GraphResult.{GraphResult}
 use Rattle.cells.specs.Lists.{padded}
 use Rattle.numbered_tilings.specs.declared.Tiling.{Tiling}
 use Rattle.numbered_tilings.specs.declared.Tiling.TheVariants as T
 use Rattle.numbered_tilings.specs.Tilings.{tiling_by_number, tiling_answer, GivesTiling}
+use Rattle.numbered_tilings.specs.TilingLaws.{number_capped}
 use Rattle.single_tiling.specs.declared.SingleTiling.{SingleTiling}
 use Rattle.single_tiling.specs.declared.SingleTiling.TheVariants as S
 use Rattle.single_tiling.specs.SingleTiling.{read_search, number_found, single_answer, GetsSingleTiling}
@@ -67,22 +70,29 @@ value_two (a ∷ []) e = absurd (omega (arith, e))
 value_two (a ∷ b ∷ []) e = ap (λ (k : ℕ). a + 2 ^ 64 * k) (add-zero b)
 value_two (a ∷ b ∷ c ∷ m) e = absurd (omega (arith, e))
 
--- the number that was handed on: that of the two words
+-- the number that was handed on: that of the two words, or the largest count
 pub gives_number : (g : GraphResult) (nodes counts edges m out out' : List ℕ) (t : Tiling) (k : ℕ) → length m ≡ 2
-    → k ≡ get_or m 0 0 + 2 ^ 64 * get_or m 1 0 → GivesTiling g nodes counts edges k out out' t → GivesTiling g nodes counts edges (value m) out out' t
-gives_number g nodes counts edges m out out' t k two e x = subst (λ (n : ℕ). GivesTiling g nodes counts edges n out out' t) (e ∙ sym (value_two m two)) x
+    → k ≡ min (get_or m 0 0 + 2 ^ 64 * get_or m 1 0) (count_limit - 1) → GivesTiling g nodes counts edges k out out' t
+    → GivesTiling g nodes counts edges (min (value m) (count_limit - 1)) out out' t
+gives_number g nodes counts edges m out out' t k two e x =
+    subst (λ (n : ℕ). GivesTiling g nodes counts edges n out out' t) (e ∙ ap (λ (n : ℕ). min n (count_limit - 1)) (sym (value_two m two))) x
 
-module _ (g : GraphResult) (nodes counts edges m out out' answer answer' : List ℕ) (t : Tiling) (gives : GivesTiling g nodes counts edges (value m) out out' t) (r : ℕ) where
+module _ (g : GraphResult) (nodes counts edges m out out' answer answer' : List ℕ) (t : Tiling)
+    (gives : GivesTiling g nodes counts edges (min (value m) (count_limit - 1)) out out' t) (small : Small counts) (r : ℕ) where
   abbrev list : Answer (List ℕ)
   list = tiling_by_number g (length nodes) counts edges (value m) (length out)
 
+  -- a number that is too large for a count is refused as the largest count is
+  same : tiling_by_number g (length nodes) counts edges (min (value m) (count_limit - 1)) (length out) ≡ list
+  same = number_capped g (length nodes) counts edges (value m) (length out) small
+
   told_list : AnswersWords (map_answer (λ ns. length ns ∷ []) list) answer answer' r → AnswersList padded list out answer out' answer' r
-  told_list x = record { answered = x; out_left = gives.words }
+  told_list x = record { answered = x; out_left = gives.words ∙ ap (λ (a : Answer (List ℕ)). padded (value_or [] a) (length out)) same }
 
   pub list_told : (n : ℕ) → t ≡ T.Length n → AnswersWords (given (n ∷ 0 ∷ 0 ∷ 0 ∷ [])) answer answer' r → AnswersList padded list out answer out' answer' r
-  list_told n e x = told_list (tells_one answer answer' r length list n (sym (ap tiling_answer e) ∙ gives.answer) x)
+  list_told n e x = told_list (tells_one answer answer' r length list n (sym (ap tiling_answer e) ∙ gives.answer ∙ ap (map_answer length) same) x)
 
   pub list_refused : (q : Refusal) → t ≡ T.Refused q → AnswersWords (refused (refusal_number q)) answer answer' r → AnswersList padded list out answer out' answer' r
   list_refused q e x =
-      let no = (map_refused length list (refusal_number q)).0 (sym gives.answer ∙ ap tiling_answer e) in
+      let no = (map_refused length list (refusal_number q)).0 (sym (ap (map_answer length) same) ∙ sym gives.answer ∙ ap tiling_answer e) in
       told_list (tells_no answer answer' r (λ ns. length ns ∷ []) list q no x)

@@ -120,16 +120,16 @@ two_by_two = record {
   complete = some 3;
 }
 
-its_graph : generated 2 2 no_marks dominoes 16 8 8 4 ≡ given two_by_two
+its_graph : generated 2 2 no_marks dominoes 16 4 8 4 ≡ given two_by_two
 unfolding generated step list_of number
 its_graph = refl
 
--- its words: four a node, two a count, two an edge, and the result's four
+-- its words: four a node, one a count, two an edge, and the result's four
 abbrev node_words : List ℕ
 node_words = 0 ∷ 0 ∷ 0 ∷ 0 ∷ 3 ∷ 0 ∷ 0 ∷ 0 ∷ 65537 ∷ 0 ∷ 0 ∷ 0 ∷ 196611 ∷ 0 ∷ 0 ∷ 0 ∷ []
 
 abbrev count_words : List ℕ
-count_words = 1 ∷ 0 ∷ 1 ∷ 0 ∷ 1 ∷ 0 ∷ 2 ∷ 0 ∷ []
+count_words = 1 ∷ 1 ∷ 1 ∷ 2 ∷ []
 
 abbrev edge_words : List ℕ
 edge_words = 0 ∷ 1 ∷ 0 ∷ 2 ∷ 1 ∷ 3 ∷ 2 ∷ 3 ∷ []
@@ -137,7 +137,7 @@ edge_words = 0 ∷ 1 ∷ 0 ∷ 2 ∷ 1 ∷ 3 ∷ 2 ∷ 3 ∷ []
 abbrev result : List ℕ
 result = 4 ∷ 4 ∷ 1 ∷ 3 ∷ []
 
-graph_words : (words_for two_by_two.nodes 16 ≡ node_words) × (counts_for two_by_two.counts 8 ≡ count_words) × (edges_for two_by_two.edges 8 ≡ edge_words)
+graph_words : (words_for two_by_two.nodes 16 ≡ node_words) × (counts_for two_by_two.counts 4 ≡ count_words) × (edges_for two_by_two.edges 8 ≡ edge_words)
 unfolding words_for counts_for edges_for
 graph_words = (refl, refl, refl)
 
@@ -146,7 +146,7 @@ unfolding result_words padded
 result_four_words = refl
 
 -- a 1 by 1 board, which no domino covers: one node, and no full node
-one_cell : generated 1 1 no_marks dominoes 4 2 0 4 ≡ given (record { nodes = 0 ∷ []; counts = 1 ∷ []; edges = []; complete = none })
+one_cell : generated 1 1 no_marks dominoes 4 1 0 4 ≡ given (record { nodes = 0 ∷ []; counts = 1 ∷ []; edges = []; complete = none })
 unfolding generated step list_of number
 one_cell = refl
 
@@ -212,18 +212,18 @@ dominoes_joined path m = (edge_joined_iff path).0 (map_at edge_joined (λ q. tru
 pub joined : AllEdgeJoined (paths_in (tiles_in dominoes))
 joined = subst AllEdgeJoined (sym two_paths) dominoes_joined
 
-count_call : AnswersCount (counted 2 2 no_marks dominoes (layer_room 8 4 8 4) 2) (lent 8) (lent 4) (lent 8) (lent 4) (lent 2)
-    (replicate 8 0) (replicate 4 0) (replicate 8 0) (replicate 4 0) (2 ∷ 0 ∷ []) 0
+count_call : AnswersCount (counted 2 2 no_marks dominoes (layer_room 8 2 8 2) 2) (lent 8) (lent 2) (lent 8) (lent 2) (lent 2)
+    (replicate 8 0) (replicate 2 0) (replicate 8 0) (replicate 2 0) (2 ∷ 0 ∷ []) 0
 unfolding layer_room refusal_of map_answer value_or words_below padded
 count_call =
-    subst (λ (a : Answer ℕ). AnswersCount a (lent 8) (lent 4) (lent 8) (lent 4) (lent 2) (replicate 8 0) (replicate 4 0) (replicate 8 0) (replicate 4 0) (2 ∷ 0 ∷ []) 0)
+    subst (λ (a : Answer ℕ). AnswersCount a (lent 8) (lent 2) (lent 8) (lent 2) (lent 2) (replicate 8 0) (replicate 2 0) (replicate 8 0) (replicate 2 0) (2 ∷ 0 ∷ []) 0)
     (sym two_tilings)
     record { answered = record { number = refl; words = refl }; zero_boards_a = refl; zero_counts_a = refl; zero_boards_b = refl; zero_counts_b = refl }
 
-graph_call : AnswersGraph (generated 2 2 no_marks dominoes 16 8 8 4) (lent 16) (lent 8) (lent 8) (lent 4) node_words count_words edge_words result 0
+graph_call : AnswersGraph (generated 2 2 no_marks dominoes 16 4 8 4) (lent 16) (lent 4) (lent 8) (lent 4) node_words count_words edge_words result 0
 unfolding refusal_of map_answer value_or words_for padded counts_for edges_for result_words
 graph_call =
-    subst (λ (a : Answer Graph). AnswersGraph a (lent 16) (lent 8) (lent 8) (lent 4) node_words count_words edge_words result 0) (sym its_graph)
+    subst (λ (a : Answer Graph). AnswersGraph a (lent 16) (lent 4) (lent 8) (lent 4) node_words count_words edge_words result 0) (sym its_graph)
     record { answered = record { number = refl; words = refl }; nodes_left = refl; counts_left = refl; edges_left = refl }
 
 -- a numbered call with an output of five words for a list of three
@@ -246,8 +246,8 @@ two_cuttings : Exactly 2 Cuts
 unfolding value layer_room
 two_cuttings =
     number_of_cuttings 2 2 no_marks dominoes no_marks_small has_free_cell joined
-    (lent 8) (lent 4) (lent 8) (lent 4) (lent 2) (replicate 8 0) (replicate 4 0) (replicate 8 0) (replicate 4 0) (2 ∷ 0 ∷ []) count_call
-    (lent 16) (lent 8) (lent 8) (lent 4) node_words count_words edge_words result graph_call
+    (lent 8) (lent 2) (lent 8) (lent 2) (lent 2) (replicate 8 0) (replicate 2 0) (replicate 8 0) (replicate 2 0) (2 ∷ 0 ∷ []) count_call
+    (lent 16) (lent 4) (lent 8) (lent 4) node_words count_words edge_words result graph_call
 
 each_a_cutting : Cuts (cutting_left node_words (0 ∷ 1 ∷ 3 ∷ 0 ∷ 0 ∷ []) (3 ∷ [])) × Cuts (cutting_left node_words (0 ∷ 2 ∷ 3 ∷ 0 ∷ 0 ∷ []) (3 ∷ []))
 each_a_cutting = (given_by (0 ∷ 0 ∷ []) (0 ∷ 1 ∷ 3 ∷ 0 ∷ 0 ∷ []) call_0, given_by (1 ∷ 0 ∷ []) (0 ∷ 2 ∷ 3 ∷ 0 ∷ 0 ∷ []) call_1)
@@ -255,8 +255,8 @@ each_a_cutting = (given_by (0 ∷ 0 ∷ []) (0 ∷ 1 ∷ 3 ∷ 0 ∷ 0 ∷ []) c
     given_by : (m out' : List ℕ) → Numbered m out' → Cuts (cutting_left node_words out' (3 ∷ []))
     given_by m out' c =
         gives_a_cutting 2 2 no_marks dominoes no_marks_small has_free_cell joined
-        (lent 8) (lent 4) (lent 8) (lent 4) (lent 2) (replicate 8 0) (replicate 4 0) (replicate 8 0) (replicate 4 0) (2 ∷ 0 ∷ []) count_call
-        (lent 16) (lent 8) (lent 8) (lent 4) node_words count_words edge_words result graph_call m (lent 5) (lent 1) out' (3 ∷ []) 0 c
+        (lent 8) (lent 2) (lent 8) (lent 2) (lent 2) (replicate 8 0) (replicate 2 0) (replicate 8 0) (replicate 2 0) (2 ∷ 0 ∷ []) count_call
+        (lent 16) (lent 4) (lent 8) (lent 4) node_words count_words edge_words result graph_call m (lent 5) (lent 1) out' (3 ∷ []) 0 c
 
 -- ---- an orbit
 

@@ -72,35 +72,35 @@ full_small (suc (suc (suc (suc (suc (suc (suc zero))))))) = lit< tt
 full_small (suc (suc (suc (suc (suc (suc (suc (suc i)))))))) = lit< tt
 
 -- low word, high word, and a word behind them
-full_call : Called 2 1 full_marks dominoes (lent 4) (lent 2) (lent 4) (lent 2) (lent 3) (replicate 4 0) (replicate 2 0) (replicate 4 0) (replicate 2 0) (1 ∷ 0 ∷ 0 ∷ []) 0
+full_call : Called 2 1 full_marks dominoes (lent 4) (lent 1) (lent 4) (lent 1) (lent 3) (replicate 4 0) (replicate 1 0) (replicate 4 0) (replicate 1 0) (1 ∷ 0 ∷ 0 ∷ []) 0
 unfolding layer_room refusal_of map_answer value_or words_below padded
 full_call =
-    subst (λ (a : Answer ℕ). AnswersCount a (lent 4) (lent 2) (lent 4) (lent 2) (lent 3) (replicate 4 0) (replicate 2 0) (replicate 4 0) (replicate 2 0) (1 ∷ 0 ∷ 0 ∷ []) 0) (sym full_figure)
+    subst (λ (a : Answer ℕ). AnswersCount a (lent 4) (lent 1) (lent 4) (lent 1) (lent 3) (replicate 4 0) (replicate 1 0) (replicate 4 0) (replicate 1 0) (1 ∷ 0 ∷ 0 ∷ []) 0) (sym full_figure)
     record { answered = record { number = refl; words = refl }; zero_boards_a = refl; zero_counts_a = refl; zero_boards_b = refl; zero_counts_b = refl }
 
 -- layer B has words for no board: the least room counts
-no_room_call : Called 2 1 full_marks dominoes (lent 4) (lent 2) (lent 3) (lent 2) (lent 2) (replicate 4 0) (replicate 2 0) (replicate 3 0) (replicate 2 0) (0 ∷ 0 ∷ []) 8
+no_room_call : Called 2 1 full_marks dominoes (lent 4) (lent 1) (lent 3) (lent 1) (lent 2) (replicate 4 0) (replicate 1 0) (replicate 3 0) (replicate 1 0) (0 ∷ 0 ∷ []) 8
 unfolding layer_room refusal_of map_answer value_or padded
 no_room_call =
-    subst (λ (a : Answer ℕ). AnswersCount a (lent 4) (lent 2) (lent 3) (lent 2) (lent 2) (replicate 4 0) (replicate 2 0) (replicate 3 0) (replicate 2 0) (0 ∷ 0 ∷ []) 8) (sym full_without_room)
+    subst (λ (a : Answer ℕ). AnswersCount a (lent 4) (lent 1) (lent 3) (lent 1) (lent 2) (replicate 4 0) (replicate 1 0) (replicate 3 0) (replicate 1 0) (0 ∷ 0 ∷ []) 8) (sym full_without_room)
     record { answered = record { number = refl; words = refl }; zero_boards_a = refl; zero_counts_a = refl; zero_boards_b = refl; zero_counts_b = refl }
 
-free_call : Called 2 2 no_marks dominoes (lent 8) (lent 4) (lent 8) (lent 4) (lent 2) (replicate 8 0) (replicate 4 0) (replicate 8 0) (replicate 4 0) (2 ∷ 0 ∷ []) 0
+free_call : Called 2 2 no_marks dominoes (lent 8) (lent 2) (lent 8) (lent 2) (lent 2) (replicate 8 0) (replicate 2 0) (replicate 8 0) (replicate 2 0) (2 ∷ 0 ∷ []) 0
 unfolding layer_room refusal_of map_answer value_or words_below padded
 free_call =
-    subst (λ (a : Answer ℕ). AnswersCount a (lent 8) (lent 4) (lent 8) (lent 4) (lent 2) (replicate 8 0) (replicate 4 0) (replicate 8 0) (replicate 4 0) (2 ∷ 0 ∷ []) 0) (sym free_figure)
+    subst (λ (a : Answer ℕ). AnswersCount a (lent 8) (lent 2) (lent 8) (lent 2) (lent 2) (replicate 8 0) (replicate 2 0) (replicate 8 0) (replicate 2 0) (2 ∷ 0 ∷ []) 0) (sym free_figure)
     record { answered = record { number = refl; words = refl }; zero_boards_a = refl; zero_counts_a = refl; zero_boards_b = refl; zero_counts_b = refl }
 
 -- the full board has one cutting,
 one_cutting : Exactly 1 (IsCutting (board_of (board_in 2 1 full_marks)) (paths_in (tiles_in dominoes)))
 unfolding value
 one_cutting =
-    figure_is_number_of_cuttings 2 1 full_marks dominoes (lent 4) (lent 2) (lent 4) (lent 2) (lent 3) (replicate 4 0) (replicate 2 0) (replicate 4 0) (replicate 2 0) (1 ∷ 0 ∷ 0 ∷ [])
+    figure_is_number_of_cuttings 2 1 full_marks dominoes (lent 4) (lent 1) (lent 4) (lent 1) (lent 3) (replicate 4 0) (replicate 1 0) (replicate 4 0) (replicate 1 0) (1 ∷ 0 ∷ 0 ∷ [])
     full_small full_call joined
 
 -- and leaves the product with 2 by 2 as it is
 two_pairs : Exactly 2 (CutsBoth (board_of (board_in 2 2 no_marks)) (paths_in (tiles_in dominoes)) (board_of (board_in 2 1 full_marks)) (paths_in (tiles_in dominoes)))
 unfolding value
 two_pairs =
-    product_of_figures 2 2 no_marks dominoes (lent 8) (lent 4) (lent 8) (lent 4) (lent 2) (replicate 8 0) (replicate 4 0) (replicate 8 0) (replicate 4 0) (2 ∷ 0 ∷ []) no_marks_small free_call joined
-    2 1 full_marks dominoes (lent 4) (lent 2) (lent 4) (lent 2) (lent 3) (replicate 4 0) (replicate 2 0) (replicate 4 0) (replicate 2 0) (1 ∷ 0 ∷ 0 ∷ []) full_small full_call joined
+    product_of_figures 2 2 no_marks dominoes (lent 8) (lent 2) (lent 8) (lent 2) (lent 2) (replicate 8 0) (replicate 2 0) (replicate 8 0) (replicate 2 0) (2 ∷ 0 ∷ []) no_marks_small free_call joined
+    2 1 full_marks dominoes (lent 4) (lent 1) (lent 4) (lent 1) (lent 3) (replicate 4 0) (replicate 1 0) (replicate 4 0) (replicate 1 0) (1 ∷ 0 ∷ 0 ∷ []) full_small full_call joined

@@ -298,7 +298,7 @@ module _ (width height : ℕ) (marks tiles : List ℕ) (small : Small marks) (fr
   number_of_cuttings =
       count_is_number_of_cuttings width height marks tiles small boardsA countsA boardsB countsB answer boardsA' countsA' boardsB' countsB' answer' count_told_lem free joined
 
-  -- and so is the count of the graph's words, the count of its full node.
+  -- and so is the count of the graph's words, the count word of its full node.
   pub both_counts : count_from_graph (complete_node (result_in (take 4 result')).complete) counts' ≡ count_told answer'
   both_counts =
       Cutting.n_from_graph width height marks tiles small free joined boardsA countsA boardsB countsB answer boardsA' countsA' boardsB' countsB' answer' count_told_lem

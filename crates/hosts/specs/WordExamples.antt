@@ -138,7 +138,7 @@ right_bytes = 1 ∷ 3 ∷ replicate 31 0
 
 -- 4 words hold its child, one board a layer is enough to count it, 12 words hold the boards of one tiling and 11 do not
 wide_board : (placed 2 1 (replicate 8 0) right_bytes 4 1 ≡ given (3 ∷ [])) × (counted 2 1 (replicate 8 0) right_bytes 1 2 ≡ given 1)
-    × (generated 2 1 (replicate 8 0) right_bytes 8 4 2 4 ≡ given (record { nodes = 0 ∷ 3 ∷ []; counts = 1 ∷ 1 ∷ []; edges = (0, 1) ∷ []; complete = some 1 }))
+    × (generated 2 1 (replicate 8 0) right_bytes 8 2 2 4 ≡ given (record { nodes = 0 ∷ 3 ∷ []; counts = 1 ∷ 1 ∷ []; edges = (0, 1) ∷ []; complete = some 1 }))
     × (searched 2 1 (replicate 8 0) right_bytes 12 1 ≡ given (two_by_one, right)) × (searched 2 1 (replicate 8 0) right_bytes 11 1 ≡ refused 8)
 unfolding placed counted generated searched step list_of number
 wide_board = (refl, refl, refl, refl, refl)
@@ -161,8 +161,8 @@ unfolding map_answer refusal_of value_or words_below padded
 count_left = record { answered = record { number = refl; words = refl }; zero_boards_a = refl; zero_counts_a = refl; zero_boards_b = refl; zero_counts_b = refl }
 
 -- a graph of three nodes, two counts and one edge: each in its own words, and the words of the result
-graph_left : AnswersGraph (given (record { nodes = 0 ∷ 1 ∷ 3 ∷ []; counts = 1 ∷ (2 ^ 64 + 7) ∷ []; edges = (0, 1) ∷ []; complete = some 1 })) (lent 13) (lent 5) (lent 3) (lent 5)
-    (0 ∷ 0 ∷ 0 ∷ 0 ∷ 1 ∷ 0 ∷ 0 ∷ 0 ∷ 3 ∷ 0 ∷ 0 ∷ 0 ∷ 0 ∷ []) (1 ∷ 0 ∷ 7 ∷ 1 ∷ 0 ∷ []) (0 ∷ 1 ∷ 0 ∷ []) (3 ∷ 1 ∷ 1 ∷ 1 ∷ 0 ∷ []) 0
+graph_left : AnswersGraph (given (record { nodes = 0 ∷ 1 ∷ 3 ∷ []; counts = 1 ∷ 7 ∷ []; edges = (0, 1) ∷ []; complete = some 1 })) (lent 13) (lent 4) (lent 3) (lent 5)
+    (0 ∷ 0 ∷ 0 ∷ 0 ∷ 1 ∷ 0 ∷ 0 ∷ 0 ∷ 3 ∷ 0 ∷ 0 ∷ 0 ∷ 0 ∷ []) (1 ∷ 7 ∷ 0 ∷ 0 ∷ []) (0 ∷ 1 ∷ 0 ∷ []) (3 ∷ 1 ∷ 1 ∷ 1 ∷ 0 ∷ []) 0
 unfolding map_answer refusal_of value_or words_for counts_for edges_for result_words padded
 graph_left = record { answered = record { number = refl; words = refl }; nodes_left = refl; counts_left = refl; edges_left = refl }
 

@@ -1,6 +1,6 @@
 -- Examples: what `count_tilings` and `generate_graph` return and leave in lent words that held 7, for 2 by 2 dominoes and for what is refused. Rests on `Examples`.
 -- Assumes nothing.
-use Rattle.std.specs.Prelude.{◌≡◌, refl, List, [], ◌∷◌, map, ℕ, ◌+◌, ◌^◌, replicate}
+use Rattle.std.specs.Prelude.{◌≡◌, refl, List, [], ◌∷◌, map, ℕ, replicate}
 use Rattle.std.proofs.Common.{sym, ap, ◌∙◌, subst}
 use Rattle.std.proofs.Math.Option.{some}
 use Rattle.cells.specs.Lists.{words_for, padded}
@@ -24,8 +24,8 @@ lent n = replicate n 7
 
 -- ---- `count_tilings`
 
--- the least of 8 ÷ 4, 7 ÷ 2, 9 ÷ 4 and 5 ÷ 2 is room for two boards; all lent words are zero
-counted : CountsTilings (rectangle 2 2) (tiles_of dominoes) (lent 8) (lent 7) (lent 9) (lent 5) (replicate 8 0) (replicate 7 0) (replicate 9 0) (replicate 5 0) (C.Number (record { low = 2; high = 0 }))
+-- the least of 8 ÷ 4, 3, 9 ÷ 4 and 2 is room for two boards; all lent words are zero
+counted : CountsTilings (rectangle 2 2) (tiles_of dominoes) (lent 8) (lent 3) (lent 9) (lent 2) (replicate 8 0) (replicate 3 0) (replicate 9 0) (replicate 2 0) (C.Number (record { word = 2 }))
 unfolding layer_room count_value
 counted = record { answer = sym two_by_two_counted; zero_boards_a = refl; zero_counts_a = refl; zero_boards_b = refl; zero_counts_b = refl }
 
@@ -35,19 +35,19 @@ count_refused = refl
 
 -- ---- `generate_graph`
 
--- 17, 9 and 9 words hold four nodes and four edges
-given_to : generate_graph (rectangle 2 2) (tiles_of dominoes) 17 9 9 ≡ given two_by_two
+-- 17, 5 and 9 words hold four nodes and four edges
+given_to : generate_graph (rectangle 2 2) (tiles_of dominoes) 17 5 9 ≡ given two_by_two
 unfolding generate_graph graph_for bind_answer node_room edge_room
 given_to = ap (λ (a : Answer (Board × List Path)). bind_answer a (λ p. graph_for p.0 p.1 4 4)) two_by_two_plot ∙ two_by_two_graph
 
 -- nodes, counts and edges in words, zeros behind; the numbers of nodes and edges and the full node
-made : GeneratesGraph (rectangle 2 2) (tiles_of dominoes) (lent 17) (lent 9) (lent 9) (0 ∷ 0 ∷ 0 ∷ 0 ∷ 3 ∷ 0 ∷ 0 ∷ 0 ∷ 65537 ∷ 0 ∷ 0 ∷ 0 ∷ 196611 ∷ 0 ∷ 0 ∷ 0 ∷ 0 ∷ []) (1 ∷ 0 ∷ 1 ∷ 0 ∷ 1 ∷ 0 ∷ 2 ∷ 0 ∷ 0 ∷ [])
+made : GeneratesGraph (rectangle 2 2) (tiles_of dominoes) (lent 17) (lent 5) (lent 9) (0 ∷ 0 ∷ 0 ∷ 0 ∷ 3 ∷ 0 ∷ 0 ∷ 0 ∷ 65537 ∷ 0 ∷ 0 ∷ 0 ∷ 196611 ∷ 0 ∷ 0 ∷ 0 ∷ 0 ∷ []) (1 ∷ 1 ∷ 1 ∷ 2 ∷ 0 ∷ [])
     (0 ∷ 1 ∷ 0 ∷ 2 ∷ 1 ∷ 3 ∷ 2 ∷ 3 ∷ 0 ∷ []) (record { verdict = Verdicts.Accepted; graph = record { nodes = 4; edges = 4; complete = N.Node 3 } })
 unfolding refusal_of value_or words_for counts_for edges_for padded
 made =
     subst
     (λ (a : Answer Graph).
-    Makes a 17 9 9 (0 ∷ 0 ∷ 0 ∷ 0 ∷ 3 ∷ 0 ∷ 0 ∷ 0 ∷ 65537 ∷ 0 ∷ 0 ∷ 0 ∷ 196611 ∷ 0 ∷ 0 ∷ 0 ∷ 0 ∷ []) (1 ∷ 0 ∷ 1 ∷ 0 ∷ 1 ∷ 0 ∷ 2 ∷ 0 ∷ 0 ∷ []) (0 ∷ 1 ∷ 0 ∷ 2 ∷ 1 ∷ 3 ∷ 2 ∷ 3 ∷ 0 ∷ [])
+    Makes a 17 5 9 (0 ∷ 0 ∷ 0 ∷ 0 ∷ 3 ∷ 0 ∷ 0 ∷ 0 ∷ 65537 ∷ 0 ∷ 0 ∷ 0 ∷ 196611 ∷ 0 ∷ 0 ∷ 0 ∷ 0 ∷ []) (1 ∷ 1 ∷ 1 ∷ 2 ∷ 0 ∷ []) (0 ∷ 1 ∷ 0 ∷ 2 ∷ 1 ∷ 3 ∷ 2 ∷ 3 ∷ 0 ∷ [])
     (record { verdict = Verdicts.Accepted; graph = record { nodes = 4; edges = 4; complete = N.Node 3 } })) (sym given_to)
     record { verdict = refl; node_number = refl; edge_number = refl; complete = refl; nodes = refl; counts = refl; edges = refl }
 
@@ -58,10 +58,10 @@ made_refused = record { verdict = refl; node_number = refl; edge_number = refl; 
 
 -- a graph of three nodes, two counts and one edge
 abbrev small : Graph
-small = record { nodes = 0 ∷ 1 ∷ 3 ∷ []; counts = 1 ∷ (2 ^ 64 + 7) ∷ []; edges = (0, 1) ∷ []; complete = some 1 }
+small = record { nodes = 0 ∷ 1 ∷ 3 ∷ []; counts = 1 ∷ 7 ∷ []; edges = (0, 1) ∷ []; complete = some 1 }
 
 -- each stands in its own words and is told by its own number
-made_small : Makes (given small) 13 7 3 (0 ∷ 0 ∷ 0 ∷ 0 ∷ 1 ∷ 0 ∷ 0 ∷ 0 ∷ 3 ∷ 0 ∷ 0 ∷ 0 ∷ 0 ∷ []) (1 ∷ 0 ∷ 7 ∷ 1 ∷ 0 ∷ 0 ∷ 0 ∷ []) (0 ∷ 1 ∷ 0 ∷ [])
+made_small : Makes (given small) 13 4 3 (0 ∷ 0 ∷ 0 ∷ 0 ∷ 1 ∷ 0 ∷ 0 ∷ 0 ∷ 3 ∷ 0 ∷ 0 ∷ 0 ∷ 0 ∷ []) (1 ∷ 7 ∷ 0 ∷ 0 ∷ []) (0 ∷ 1 ∷ 0 ∷ [])
     (record { verdict = Verdicts.Accepted; graph = record { nodes = 3; edges = 1; complete = N.Node 1 } })
 unfolding refusal_of value_or words_for counts_for edges_for padded
 made_small = record { verdict = refl; node_number = refl; edge_number = refl; complete = refl; nodes = refl; counts = refl; edges = refl }
@@ -72,7 +72,7 @@ unfolding judge_graph
 rooms_of_small = refl
 
 -- the count of its full node, and of a node that is none
-counts_of_small : (count_of_graph small ≡ 2 ^ 64 + 7) × (path_count_at small.counts 2 ≡ 0)
+counts_of_small : (count_of_graph small ≡ 7) × (path_count_at small.counts 2 ≡ 0)
 unfolding count_of_graph
 counts_of_small = (refl, refl)
 

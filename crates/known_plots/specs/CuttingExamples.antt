@@ -70,10 +70,10 @@ lent n = replicate n 0
 
 -- the path count 2
 abbrev two : PathCount
-two = record { low = 2; high = 0 }
+two = record { word = 2 }
 
 -- with layers of two boards the count is 2
-counted : CountsTilings (rectangle 2 2) (tiles_of dominoes) (lent 8) (lent 4) (lent 8) (lent 4) (lent 8) (lent 4) (lent 8) (lent 4) (C.Number two)
+counted : CountsTilings (rectangle 2 2) (tiles_of dominoes) (lent 8) (lent 2) (lent 8) (lent 2) (lent 8) (lent 2) (lent 8) (lent 2) (C.Number two)
 unfolding layer_room count_room count_value
 counted = record { answer = sym two_by_two_counted; zero_boards_a = refl; zero_counts_a = refl; zero_boards_b = refl; zero_counts_b = refl }
 
@@ -89,15 +89,15 @@ abbrev node_words : List ℕ
 node_words = 0 ∷ 0 ∷ 0 ∷ 0 ∷ 3 ∷ 0 ∷ 0 ∷ 0 ∷ 65537 ∷ 0 ∷ 0 ∷ 0 ∷ 196611 ∷ 0 ∷ 0 ∷ 0 ∷ []
 
 abbrev count_words : List ℕ
-count_words = 1 ∷ 0 ∷ 1 ∷ 0 ∷ 1 ∷ 0 ∷ 2 ∷ 0 ∷ []
+count_words = 1 ∷ 1 ∷ 1 ∷ 2 ∷ []
 
 abbrev edge_words : List ℕ
 edge_words = 0 ∷ 1 ∷ 0 ∷ 2 ∷ 1 ∷ 3 ∷ 2 ∷ 3 ∷ []
 
-generated : GeneratesGraph (rectangle 2 2) (tiles_of dominoes) (lent 16) (lent 8) (lent 8) node_words count_words edge_words made
+generated : GeneratesGraph (rectangle 2 2) (tiles_of dominoes) (lent 16) (lent 4) (lent 8) node_words count_words edge_words made
 unfolding refusal_of value_or words_for counts_for edges_for
 generated =
-    subst (λ (a : Answer Graph). Makes a 16 8 8 node_words count_words edge_words made) (sym two_by_two_given)
+    subst (λ (a : Answer Graph). Makes a 16 4 8 node_words count_words edge_words made) (sym two_by_two_given)
     record { verdict = refl; node_number = refl; edge_number = refl; complete = refl; nodes = refl; counts = refl; edges = refl }
 
 -- ---- the numbered call
@@ -157,16 +157,16 @@ Cuts = IsCutting (board_of (rectangle 2 2)) (paths_in (tiles_of dominoes))
 two_cuttings : Exactly 2 Cuts
 two_cuttings =
     number_of_cuttings (rectangle 2 2) no_marks_lem no_marks_lem (tiles_of dominoes) has_free_cell stored_joined
-    (lent 8) (lent 4) (lent 8) (lent 4) (lent 8) (lent 4) (lent 8) (lent 4) (C.Number two) counted
-    (lent 16) (lent 8) (lent 8) node_words count_words edge_words made generated 2 told refl
+    (lent 8) (lent 2) (lent 8) (lent 2) (lent 8) (lent 2) (lent 8) (lent 2) (C.Number two) counted
+    (lent 16) (lent 4) (lent 8) node_words count_words edge_words made generated 2 told refl
 
 -- each number's call gives one,
 call_gives_cutting : (m : ℕ) → m < 2 → (list : List ℕ) → Long m → Numbered m list → Cuts (marked (take 3 list))
 unfolding value_or
 call_gives_cutting m below list long call =
     gives_a_cutting (rectangle 2 2) no_marks_lem no_marks_lem (tiles_of dominoes) has_free_cell stored_joined
-    (lent 8) (lent 4) (lent 8) (lent 4) (lent 8) (lent 4) (lent 8) (lent 4) (C.Number two) counted
-    (lent 16) (lent 8) (lent 8) node_words count_words edge_words made generated 2 told refl
+    (lent 8) (lent 2) (lent 8) (lent 2) (lent 8) (lent 2) (lent 8) (lent 2) (C.Number two) counted
+    (lent 16) (lent 4) (lent 8) node_words count_words edge_words made generated 2 told refl
     m below (lent 3) list (T.Length 3) long call
 
 lying_cuts : Cuts lying
@@ -181,8 +181,8 @@ unfolding value_or
 lying_not_standing e =
     let z =
     different_cuttings (rectangle 2 2) no_marks_lem no_marks_lem (tiles_of dominoes) has_free_cell stored_joined
-    (lent 8) (lent 4) (lent 8) (lent 4) (lent 8) (lent 4) (lent 8) (lent 4) (C.Number two) counted
-    (lent 16) (lent 8) (lent 8) node_words count_words edge_words made generated 2 told refl
+    (lent 8) (lent 2) (lent 8) (lent 2) (lent 8) (lent 2) (lent 8) (lent 2) (C.Number two) counted
+    (lent 16) (lent 4) (lent 8) node_words count_words edge_words made generated 2 told refl
     0 1 (lit< tt) (lit< tt) (lent 3) (0 ∷ 1 ∷ 3 ∷ []) (T.Length 3) (lent 3) (0 ∷ 2 ∷ 3 ∷ []) (T.Length 3) long_0 long_1 call_0 call_1
     (marked_0 ∙ e ∙ sym marked_1) in
     absurd (omega arith)
@@ -200,8 +200,8 @@ lying_or_standing X cuts = go r.0 r.1 r.2
     r : (m : ℕ) × (m < 2) × GivenBy X m
     r =
         every_cutting_has_its_number (rectangle 2 2) no_marks_lem no_marks_lem (tiles_of dominoes) has_free_cell stored_joined
-        (lent 8) (lent 4) (lent 8) (lent 4) (lent 8) (lent 4) (lent 8) (lent 4) (C.Number two) counted
-        (lent 16) (lent 8) (lent 8) node_words count_words edge_words made generated 2 told refl X cuts
+        (lent 8) (lent 2) (lent 8) (lent 2) (lent 8) (lent 2) (lent 8) (lent 2) (C.Number two) counted
+        (lent 16) (lent 4) (lent 8) node_words count_words edge_words made generated 2 told refl X cuts
 
     go : (m : ℕ) → m < 2 → GivenBy X m → (X ≡ lying) ⊎ (X ≡ standing)
     go zero h k = inl (sym (k (lent 3) (0 ∷ 1 ∷ 3 ∷ []) (T.Length 3) long_0 call_0) ∙ marked_0)
@@ -227,10 +227,10 @@ pub full_board_counted : count_tilings full_board (tiles_of dominoes) 1 ≡ give
 unfolding count_tilings layer_count_for bind_answer
 full_board_counted = ap (λ (a : Answer (Board × List Path)). bind_answer a (λ p. layer_count_for p.0 p.1 1)) full_board_read ∙ full_start
 
-full_board_graph : map_answer count_of_graph (generate_graph full_board (tiles_of dominoes) 4 2 0) ≡ given 0
+full_board_graph : map_answer count_of_graph (generate_graph full_board (tiles_of dominoes) 4 1 0) ≡ given 0
 unfolding generate_graph graph_for bind_answer map_answer count_of_graph
 full_board_graph =
-    ap (λ (a : Answer (Board × List Path)). map_answer count_of_graph (bind_answer a (λ p. graph_for p.0 p.1 (node_room 4 2) (edge_room 0)))) full_board_read
+    ap (λ (a : Answer (Board × List Path)). map_answer count_of_graph (bind_answer a (λ p. graph_for p.0 p.1 (node_room 4 1) (edge_room 0)))) full_board_read
     ∙ ap (map_answer count_of_graph) full_start_graph
 
 full_board_valid : So (valid (board 2 1 1 2))

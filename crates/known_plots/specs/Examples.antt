@@ -44,24 +44,24 @@ two_by_two = record {
   complete = some 3;
 }
 
-pub two_by_two_graph : graph_for (board 2 2 0 0) dominoes (node_room 16 8) (edge_room 8) ≡ given two_by_two
+pub two_by_two_graph : graph_for (board 2 2 0 0) dominoes (node_room 16 4) (edge_room 8) ≡ given two_by_two
 unfolding graph_for node_room edge_room dominoes step
 two_by_two_graph = refl
 
--- layer 1 has two boards; four nodes need 16 node words and 8 count words, four edges 8 words; 8 comes before 10
+-- layer 1 has two boards; four nodes need 16 node words and 4 count words, four edges 8 words; 8 comes before 10
 one_board : layer_count_for (board 2 2 0 0) dominoes 1 ≡ refused 8
 unfolding layer_count_for dominoes step
 one_board = refl
 
-few_node_words : graph_for (board 2 2 0 0) dominoes (node_room 15 8) (edge_room 7) ≡ refused 8
+few_node_words : graph_for (board 2 2 0 0) dominoes (node_room 15 4) (edge_room 7) ≡ refused 8
 unfolding graph_for node_room edge_room dominoes step
 few_node_words = refl
 
-few_count_words : graph_for (board 2 2 0 0) dominoes (node_room 16 7) (edge_room 8) ≡ refused 8
+few_count_words : graph_for (board 2 2 0 0) dominoes (node_room 16 3) (edge_room 8) ≡ refused 8
 unfolding graph_for node_room edge_room dominoes step
 few_count_words = refl
 
-few_edge_words : graph_for (board 2 2 0 0) dominoes (node_room 16 8) (edge_room 7) ≡ refused 10
+few_edge_words : graph_for (board 2 2 0 0) dominoes (node_room 16 4) (edge_room 7) ≡ refused 10
 unfolding graph_for node_room edge_room dominoes step
 few_edge_words = refl
 
@@ -91,12 +91,12 @@ pub full_start : layer_count_for (board 2 1 1 2) dominoes 1 ≡ given 0
 unfolding layer_count_for dominoes step
 full_start = refl
 
-pub full_start_graph : graph_for (board 2 1 1 2) dominoes (node_room 4 2) (edge_room 0) ≡ given record { nodes = 3 ∷ []; counts = 1 ∷ []; edges = []; complete = none }
+pub full_start_graph : graph_for (board 2 1 1 2) dominoes (node_room 4 1) (edge_room 0) ≡ given record { nodes = 3 ∷ []; counts = 1 ∷ []; edges = []; complete = none }
 unfolding graph_for node_room edge_room dominoes step
 full_start_graph = refl
 
 -- a node's marks are of both kinds
-fixed_mark : graph_for (board 3 1 1 0) dominoes (node_room 8 4) (edge_room 2) ≡ given record { nodes = 1 ∷ 7 ∷ []; counts = 1 ∷ 1 ∷ []; edges = (0, 1) ∷ []; complete = some 1 }
+fixed_mark : graph_for (board 3 1 1 0) dominoes (node_room 8 2) (edge_room 2) ≡ given record { nodes = 1 ∷ 7 ∷ []; counts = 1 ∷ 1 ∷ []; edges = (0, 1) ∷ []; complete = some 1 }
 unfolding graph_for node_room edge_room dominoes step
 fixed_mark = refl
 
@@ -107,21 +107,21 @@ no_tiles = refl
 
 -- ---- limits: 8 before 9 in a layer, the earliest layer decides, 10 before 9 over the graph
 
-largest_count : judge_layer 1 ((0, 2 ^ 128 - 1) ∷ []) ≡ given ((0, 2 ^ 128 - 1) ∷ [])
+largest_count : judge_layer 1 ((0, 2 ^ 64 - 1) ∷ []) ≡ given ((0, 2 ^ 64 - 1) ∷ [])
 unfolding judge_layer
 largest_count = refl
 
-count_too_large : judge_layer 1 ((0, 2 ^ 128) ∷ []) ≡ refused 9
+count_too_large : judge_layer 1 ((0, 2 ^ 64) ∷ []) ≡ refused 9
 unfolding judge_layer
 count_too_large = refl
 
-no_room_first : judge_layer 0 ((0, 2 ^ 128) ∷ []) ≡ refused 8
+no_room_first : judge_layer 0 ((0, 2 ^ 64) ∷ []) ≡ refused 8
 unfolding judge_layer
 no_room_first = refl
 
 -- layer 0 has a count too large, layer 1 no room
 unfoldable two_layers : ℕ → List (Entry ℕ)
-two_layers zero = (0, 2 ^ 128) ∷ []
+two_layers zero = (0, 2 ^ 64) ∷ []
 two_layers (suc n) = (1, 1) ∷ (2, 1) ∷ []
 
 earliest_layer : judge_layers two_layers 1 1 ≡ refused 9
@@ -137,11 +137,11 @@ last_layer : judge_layers one_then_two 1 0 ∷ judge_layers one_then_two 1 1 ∷
 unfolding judge_layers one_then_two
 last_layer = refl
 
-edges_before_counts : judge_graph 2 0 (record { nodes = 0 ∷ 1 ∷ []; counts = 1 ∷ 2 ^ 128 ∷ []; edges = (0, 1) ∷ []; complete = none }) ≡ refused 10
+edges_before_counts : judge_graph 2 0 (record { nodes = 0 ∷ 1 ∷ []; counts = 1 ∷ 2 ^ 64 ∷ []; edges = (0, 1) ∷ []; complete = none }) ≡ refused 10
 unfolding judge_graph
 edges_before_counts = refl
 
-graph_count_too_large : judge_graph 2 1 (record { nodes = 0 ∷ 1 ∷ []; counts = 1 ∷ 2 ^ 128 ∷ []; edges = (0, 1) ∷ []; complete = none }) ≡ refused 9
+graph_count_too_large : judge_graph 2 1 (record { nodes = 0 ∷ 1 ∷ []; counts = 1 ∷ 2 ^ 64 ∷ []; edges = (0, 1) ∷ []; complete = none }) ≡ refused 9
 unfolding judge_graph
 graph_count_too_large = refl
 
@@ -186,13 +186,13 @@ unequal_tiles_graph : generate_graph (rectangle 2 2) (tiles_of unequal) 0 0 0 �
 unfolding generate_graph accept_plot bind_answer map_answer
 unequal_tiles_graph = rw (two_by_two_read, unequal_tiles_read)
 
--- ---- rooms: "the least of both layers' words ÷ 4 and of both layers' count words" (01), which are halved (02), and at most 16,777,216
+-- ---- rooms: "the least of both layers' words ÷ 4 and of both layers' count words", and at most 16,777,216
 
-room_of_boards : layer_room 9 6 12 10 ≡ 2
+room_of_boards : layer_room 9 3 12 5 ≡ 2
 unfolding layer_room
 room_of_boards = refl
 
-room_of_counts : layer_room 40 20 40 7 ≡ 3
+room_of_counts : layer_room 40 10 40 3 ≡ 3
 unfolding layer_room
 room_of_counts = refl
 
@@ -218,9 +218,9 @@ pub two_by_two_counted : count_tilings (rectangle 2 2) (tiles_of dominoes) 2 ≡
 unfolding count_tilings layer_count_for bind_answer
 two_by_two_counted = ap (λ (a : Answer (Board × List Path)). bind_answer a (λ p. layer_count_for p.0 p.1 2)) two_by_two_plot ∙ two_by_two_lem
 
-pub two_by_two_given : generate_graph (rectangle 2 2) (tiles_of dominoes) 16 8 8 ≡ given two_by_two
+pub two_by_two_given : generate_graph (rectangle 2 2) (tiles_of dominoes) 16 4 8 ≡ given two_by_two
 unfolding generate_graph graph_for bind_answer
-two_by_two_given = ap (λ (a : Answer (Board × List Path)). bind_answer a (λ p. graph_for p.0 p.1 (node_room 16 8) (edge_room 8))) two_by_two_plot ∙ two_by_two_graph
+two_by_two_given = ap (λ (a : Answer (Board × List Path)). bind_answer a (λ p. graph_for p.0 p.1 (node_room 16 4) (edge_room 8))) two_by_two_plot ∙ two_by_two_graph
 
 -- the set of no cells has words of 64 bits
 pub no_marks_lem : Sound (set 0)
@@ -228,8 +228,8 @@ no_marks_lem = record { s0 = lit< tt; s1 = lit< tt; s2 = lit< tt; s3 = lit< tt }
 
 -- the last node's path count: two child sequences reach the full board
 two_sequences : Exactly 2 (Reaches (rectangle 2 2) no_marks_lem no_marks_lem (tiles_of dominoes) 196611)
-two_sequences = path_count_is_number_of_sequences (rectangle 2 2) no_marks_lem no_marks_lem (tiles_of dominoes) 16 8 8 two_by_two two_by_two_given 3 (lit< tt)
+two_sequences = path_count_is_number_of_sequences (rectangle 2 2) no_marks_lem no_marks_lem (tiles_of dominoes) 16 4 8 two_by_two two_by_two_given 3 (lit< tt)
 
 -- both counts are 2
 both_counts : count_of_graph two_by_two ≡ 2
-both_counts = counts_agree (rectangle 2 2) no_marks_lem no_marks_lem (tiles_of dominoes) 2 2 two_by_two_counted 16 8 8 two_by_two two_by_two_given
+both_counts = counts_agree (rectangle 2 2) no_marks_lem no_marks_lem (tiles_of dominoes) 2 2 two_by_two_counted 16 4 8 two_by_two two_by_two_given

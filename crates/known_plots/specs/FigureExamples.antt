@@ -53,18 +53,18 @@ abbrev lent : ℕ → List ℕ
 lent n = replicate n 7
 
 abbrev one : PathCount
-one = record { low = 1; high = 0 }
+one = record { word = 1 }
 
 abbrev two : PathCount
-two = record { low = 2; high = 0 }
+two = record { word = 2 }
 
--- 4, 2, 5 and 3 words have room for one board; all of them are zero afterwards
-full_called : AnswersCuttings full_board (tiles_of dominoes) (lent 4) (lent 2) (lent 5) (lent 3) (replicate 4 0) (replicate 2 0) (replicate 5 0) (replicate 3 0) (C.Number one)
+-- 4, 1, 5 and 2 words have room for one board; all of them are zero afterwards
+full_called : AnswersCuttings full_board (tiles_of dominoes) (lent 4) (lent 1) (lent 5) (lent 2) (replicate 4 0) (replicate 1 0) (replicate 5 0) (replicate 2 0) (C.Number one)
 unfolding layer_room count_value
 full_called = record { answer = sym figure_of_full; zero_boards_a = refl; zero_counts_a = refl; zero_boards_b = refl; zero_counts_b = refl }
 
 -- 3 words have room for none: the least room counts
-no_room_called : AnswersCuttings full_board (tiles_of dominoes) (lent 4) (lent 2) (lent 3) (lent 2) (replicate 4 0) (replicate 2 0) (replicate 3 0) (replicate 2 0) (C.Refused R.NoRoom)
+no_room_called : AnswersCuttings full_board (tiles_of dominoes) (lent 4) (lent 1) (lent 3) (lent 1) (replicate 4 0) (replicate 1 0) (replicate 3 0) (replicate 1 0) (C.Refused R.NoRoom)
 unfolding layer_room
 no_room_called = record { answer = sym full_without_room; zero_boards_a = refl; zero_counts_a = refl; zero_boards_b = refl; zero_counts_b = refl }
 
@@ -72,7 +72,7 @@ no_room_called = record { answer = sym full_without_room; zero_boards_a = refl; 
 two_by_two_figure : count_cuttings (rectangle 2 2) (tiles_of dominoes) 2 ≡ given 2
 two_by_two_figure = free_is_layer_count (rectangle 2 2) (tiles_of dominoes) has_free_cell 2 ∙ two_by_two_counted
 
-two_by_two_called : AnswersCuttings (rectangle 2 2) (tiles_of dominoes) (lent 8) (lent 4) (lent 8) (lent 4) (replicate 8 0) (replicate 4 0) (replicate 8 0) (replicate 4 0) (C.Number two)
+two_by_two_called : AnswersCuttings (rectangle 2 2) (tiles_of dominoes) (lent 8) (lent 2) (lent 8) (lent 2) (replicate 8 0) (replicate 2 0) (replicate 8 0) (replicate 2 0) (C.Number two)
 unfolding layer_room count_value
 two_by_two_called = record { answer = sym two_by_two_figure; zero_boards_a = refl; zero_counts_a = refl; zero_boards_b = refl; zero_counts_b = refl }
 
@@ -81,8 +81,8 @@ two_by_two_called = record { answer = sym two_by_two_figure; zero_boards_a = ref
 one_cutting : Exactly 1 (IsCutting (board_of full_board) (paths_in (tiles_of dominoes)))
 unfolding count_value
 one_cutting =
-    call_counts_cuttings full_board (tiles_of dominoes) (small_set 1 (lit< tt)) (small_set 2 (lit< tt)) (lent 4) (lent 2) (lent 5) (lent 3) (replicate 4 0) (replicate 2 0) (replicate 5 0)
-    (replicate 3 0) (C.Number one) full_called stored_joined 1 refl
+    call_counts_cuttings full_board (tiles_of dominoes) (small_set 1 (lit< tt)) (small_set 2 (lit< tt)) (lent 4) (lent 1) (lent 5) (lent 2) (replicate 4 0) (replicate 1 0) (replicate 5 0)
+    (replicate 2 0) (C.Number one) full_called stored_joined 1 refl
 
 -- "A plot with no free cell ruins the product with its 0": 2 by 2 dominoes beside the full board have 2 pairs of cuttings
 two_pairs : Exactly 2 (CutsBoth (board_of (rectangle 2 2)) (paths_in (tiles_of dominoes)) (board_of full_board) (paths_in (tiles_of dominoes)))

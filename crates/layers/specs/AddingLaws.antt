@@ -2,7 +2,7 @@
 -- adding each child's paths. Rests on `Inner`, `LayerCounts`, `covers` and `cells`. Assumes nothing.
 use Rattle.std.specs.Prelude.{◌≡◌, Bool, ◌||◌, leb, length, get_or, set}
 use Rattle.std.proofs.Math.Path.{refl, sym, ap}
-use Rattle.std.proofs.Common.{◌∙◌, le_trans, arith, le-leb, leb-true, length-append, length-set}
+use Rattle.std.proofs.Common.{◌∙◌, arith, le-leb, leb-true, length-append, length-set}
 use Rattle.std.proofs.Math.Bool.{true, false, cond}
 use Rattle.std.proofs.lemmas.Bool.{false≢true, lt-leb}
 use mathlib.Core.List.{List, [], ◌∷◌, ◌++◌, map, flat_map, append-nil, append_assoc}
@@ -37,7 +37,7 @@ too_large_set (n ∷ ns) zero m h l = go (leb count_limit n) refl (leb count_lim
   where
     go : (s : Bool) → leb count_limit n ≡ s → (t : Bool) → leb count_limit m ≡ t → (u : Bool) → (t || u) ≡ ((s || u) || t)
     go true e true f u = refl
-    go true e false f u = absurd (false≢true (sym f ∙ le-leb count_limit m (le_trans (leb-true count_limit n e) l)))
+    go true e false f u = let a = leb-true count_limit n e in absurd (false≢true (sym f ∙ le-leb count_limit m (omega arith)))
     go false e true f true = refl
     go false e true f false = refl
     go false e false f true = refl

@@ -77,7 +77,7 @@ module _ (b : RectangularBoard) (fixed : Sound b.fixed) (laid : Sound b.laid) (t
   counts_cuttings boardsA countsA boardsB countsB boardsA' countsA' boardsB' countsB' count counted free joined n is =
       count_cuttings_lem free joined (layer_room (length boardsA) (length countsA) (length boardsB) (length countsB)) n (sym counted.answer ∙ is)
 
--- ---- it is below the limit
+-- ---- it fits 64 bits
 
 member_small : (ns : List ℕ) → too_large ns ≡ false → (n : ℕ) → Mem n ns → n < count_limit
 unfolding too_large

@@ -17,14 +17,14 @@ use Rattle.expansion.specs.Plots.{accept_plot, IsCutting, HasFreeCell, AllEdgeJo
 use Rattle.layers.specs.declared.Count.{Count}
 use Rattle.layers.specs.declared.Count.TheVariants as C
 
--- whether one of some path counts is too large: "2^128 or more" (02)
+-- whether one of some path counts "is 2^64 or more"
 unfoldable pub too_large : List ℕ → Bool
 unfolding any
 too_large ns = any (λ n. leb count_limit n) ns
 
 -- ---- the layer count
 
--- a layer: "8 if its boards pass the room, else 9 if a path count is" too large
+-- a layer: "8 if its boards pass the room, else 9 if a path count is 2^64 or more"
 unfoldable pub judge_layer : ℕ → List (Entry ℕ) → Answer (List (Entry ℕ))
 unfolding too_large
 judge_layer room es = cond (leb (length es) room) (cond (too_large (counts es)) (refused 9) (given es)) (refused 8)

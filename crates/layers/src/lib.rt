@@ -26,7 +26,7 @@ pub enum Count {
 // The number of child sequences that reach the full board, layer by layer. Two layers are lent, each
 // as boards, four words a board, and counts; all their words are zero afterwards. The room is the
 // least number of boards that the four slices hold, at most 16,777,216. Refusals: 4, 6, 5, 7; then,
-// of the earliest layer that has one, 8 if its boards pass the room, else 9 if a path count is 2^128
+// of the earliest layer that has one, 8 if its boards pass the room, else 9 if a path count is 2^64
 // or more. Where the board has a free cell and every tile is edge-joined, a count that is given is
 // the number of cuttings.
 pub fn count_tilings(

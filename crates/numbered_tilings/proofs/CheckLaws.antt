@@ -5,7 +5,6 @@ use mathlib.Core.List.{List, [], ◌∷◌}
 use Prim.Native.Nat.{ℕ, zero, suc, ◌+◌, ◌*◌, ◌≤◌, ◌<◌}
 use native.Mathlib.Decide.{ℕ_discrete}
 use native.Mathlib.Numerals.{add-one}
-use native.Mathlib.Nat.{lt_of_lt_of_le}
 use native.Mathlib.Omega.{arith}
 use borrow.Author.Tests.{lt-ltb, le-ltb, le-leb, lt-leb, eq-eqb, ne_eqb}
 use lib.Dec.{eqb, leb}
@@ -91,7 +90,6 @@ module _ (counts edges : List ℕ) (v : ℕ) where
     sum_passes fits count h k w =
         let more = sum_more (share (count_in counts) v) (edge_at edges) i in
         let grows = sum_grows (share (count_in counts) v) (edge_at edges) (i + 1) count (omega arith) in
-        let passes : count_in counts v < sum + s = lt_of_lt_of_le fits w in
         sym (bad_sum count h ∙ ap not (ne_eqb (count_in counts v) (sum_to count) (λ q. omega arith)))
 
 -- ---- the first node

@@ -10,7 +10,6 @@ use Rattle.refusal.specs.Refusal.{Answer, refused, given, map_answer, value_or}
 use Rattle.refusal.specs.RefusalLaws.{given_inj}
 use Rattle.refusal.specs.declared.Refusal.TheVariants as R
 use Rattle.covers.specs.Counts.{Chain}
-use Rattle.path_count.specs.PathCounts.{counts_for}
 use Rattle.graph.specs.Graph.{edges_in}
 use Rattle.graph.specs.declared.Complete.{Complete}
 use Rattle.graph.specs.declared.Complete.TheVariants as N
@@ -25,7 +24,7 @@ abbrev result : GraphResult
 result = record { nodes = 4; edges = 4; complete = N.Node 3 }
 
 abbrev result_counts : List ℕ
-result_counts = 1 ∷ 0 ∷ 1 ∷ 0 ∷ 1 ∷ 0 ∷ 2 ∷ 0 ∷ []
+result_counts = 1 ∷ 1 ∷ 1 ∷ 2 ∷ []
 
 abbrev result_edges : List ℕ
 result_edges = 0 ∷ 1 ∷ 0 ∷ 2 ∷ 1 ∷ 3 ∷ 2 ∷ 3 ∷ []
@@ -75,49 +74,44 @@ bad_given nodes edges complete node_words count_words edge_words =
 
 bad_graphs : bad_given 0 0 N.Nothing 16 result_counts result_edges  -- "the result has no nodes"
     ∷ bad_given 4 4 (N.Node 3) 15 result_counts result_edges  -- "its nodes […] pass the lent words"
-    ∷ bad_given 2 0 N.Nothing 8 (1 ∷ 0 ∷ 0 ∷ []) []  -- here the count words
+    ∷ bad_given 2 0 N.Nothing 8 (1 ∷ []) []  -- here the count words
     ∷ bad_given 4 5 (N.Node 3) 16 result_counts result_edges  -- "its […] edges pass the lent words"
     ∷ bad_given 4 4 (N.Node 4) 16 result_counts result_edges  -- "its full node is not below the nodes"
-    ∷ bad_given 2 1 (N.Node 1) 8 (1 ∷ 0 ∷ 0 ∷ 0 ∷ []) (1 ∷ 1 ∷ [])  -- "an edge's parent is not below its child"
-    ∷ bad_given 2 1 (N.Node 1) 8 (1 ∷ 0 ∷ 0 ∷ 0 ∷ []) (0 ∷ 2 ∷ [])  -- "a child is not below the nodes"
-    ∷ bad_given 1 0 N.Nothing 4 (1 ∷ 1 ∷ []) []  -- "node 0's count is not 1"
-    ∷ bad_given 4 4 (N.Node 3) 16 (1 ∷ 0 ∷ 1 ∷ 0 ∷ 1 ∷ 0 ∷ 2 ∷ 1 ∷ []) result_edges  -- "another's is not the exact sum of its parents' counts"
+    ∷ bad_given 2 1 (N.Node 1) 8 (1 ∷ 0 ∷ []) (1 ∷ 1 ∷ [])  -- "an edge's parent is not below its child"
+    ∷ bad_given 2 1 (N.Node 1) 8 (1 ∷ 0 ∷ []) (0 ∷ 2 ∷ [])  -- "a child is not below the nodes"
+    ∷ bad_given 1 0 N.Nothing 4 (2 ∷ []) []  -- "node 0's count is not 1"
+    ∷ bad_given 4 4 (N.Node 3) 16 (1 ∷ 1 ∷ 1 ∷ 3 ∷ []) result_edges  -- "another's is not the exact sum of its parents' counts"
     ∷ [] ≡ replicate 9 (refused 11)
 unfolding bad_given
 bad_graphs = refl
 
--- the sum is exact: of nodes that are each joined twice to the next, node k has the count 2^k, and node 128 would have 2^128. With the count 0, to which
--- that sum wraps in two words, it is 11; and so it is with the count 0 for node 64, to which the sum wraps in a word. Without them, the last number gives
--- all nodes
+-- the sum is exact: of nodes that are each joined twice to the next, node k has the count 2^k, and node 64 would have 2^64. With the count 0, to which
+-- that sum wraps in a word, it is 11. Without it, the last number gives all nodes
 unfoldable doubled : ℕ → List ℕ
 unfolding flat_map list_of
 doubled n = flat_map (λ k. k ∷ suc k ∷ k ∷ suc k ∷ []) (list_of (λ k. k) n)
 
-wrapped_sum : tiling_by_number (record { nodes = 129; edges = 256; complete = N.Node 128 }) 516 (counts_for (list_of (λ k. 2 ^ k) 128 ++ 0 ∷ []) 258) (doubled 128) 0 129 ≡ refused 11
-unfolding tiling_by_number doubled counts_for
+wrapped_sum : tiling_by_number (record { nodes = 65; edges = 128; complete = N.Node 64 }) 260 (list_of (λ k. 2 ^ k) 64 ++ 0 ∷ []) (doubled 64) 0 65 ≡ refused 11
+unfolding tiling_by_number doubled
 wrapped_sum = refl
 
-wrapped_word : tiling_by_number (record { nodes = 65; edges = 128; complete = N.Node 64 }) 260 (counts_for (list_of (λ k. 2 ^ k) 64 ++ 0 ∷ []) 130) (doubled 64) 0 65 ≡ refused 11
-unfolding tiling_by_number doubled counts_for
-wrapped_word = refl
-
-largest_sum : tiling_by_number (record { nodes = 128; edges = 254; complete = N.Node 127 }) 512 (counts_for (list_of (λ k. 2 ^ k) 128) 256) (doubled 127) (2 ^ 127 - 1) 128
-    ≡ given (list_of (λ k. k) 128)
-unfolding tiling_by_number doubled counts_for
+largest_sum : tiling_by_number (record { nodes = 64; edges = 126; complete = N.Node 63 }) 256 (list_of (λ k. 2 ^ k) 64) (doubled 63) (2 ^ 63 - 1) 64
+    ≡ given (list_of (λ k. k) 64)
+unfolding tiling_by_number doubled
 largest_sum = refl
 
 -- words behind the edges and the nodes that the result tells are not looked at: here an edge that is none, and a count
-words_left_over : tiling_by_number (record { nodes = 2; edges = 1; complete = N.Node 1 }) 12 (1 ∷ 0 ∷ 1 ∷ 0 ∷ 9 ∷ []) (0 ∷ 1 ∷ 5 ∷ 5 ∷ []) 0 2 ≡ given (0 ∷ 1 ∷ [])
+words_left_over : tiling_by_number (record { nodes = 2; edges = 1; complete = N.Node 1 }) 12 (1 ∷ 1 ∷ 9 ∷ []) (0 ∷ 1 ∷ 5 ∷ 5 ∷ []) 0 2 ≡ given (0 ∷ 1 ∷ [])
 unfolding tiling_by_number
 words_left_over = refl
 
 -- a full node 0: its list is node 0 alone
-full_node_0 : tiling_by_number (record { nodes = 1; edges = 0; complete = N.Node 0 }) 4 (1 ∷ 0 ∷ []) [] 0 1 ≡ given (0 ∷ [])
+full_node_0 : tiling_by_number (record { nodes = 1; edges = 0; complete = N.Node 0 }) 4 (1 ∷ []) [] 0 1 ≡ given (0 ∷ [])
 unfolding tiling_by_number
 full_node_0 = refl
 
 -- two equal edges: two numbers give one list
-double_edge : (tiling_by_number (record { nodes = 2; edges = 2; complete = N.Node 1 }) 8 (1 ∷ 0 ∷ 2 ∷ 0 ∷ []) (doubled 1) 0 2 ≡ given (0 ∷ 1 ∷ []))
-    × (tiling_by_number (record { nodes = 2; edges = 2; complete = N.Node 1 }) 8 (1 ∷ 0 ∷ 2 ∷ 0 ∷ []) (doubled 1) 1 2 ≡ given (0 ∷ 1 ∷ []))
+double_edge : (tiling_by_number (record { nodes = 2; edges = 2; complete = N.Node 1 }) 8 (1 ∷ 2 ∷ []) (doubled 1) 0 2 ≡ given (0 ∷ 1 ∷ []))
+    × (tiling_by_number (record { nodes = 2; edges = 2; complete = N.Node 1 }) 8 (1 ∷ 2 ∷ []) (doubled 1) 1 2 ≡ given (0 ∷ 1 ∷ []))
 unfolding tiling_by_number doubled
 double_edge = (refl, refl)

@@ -7,7 +7,8 @@ use Rattle.std.proofs.Math.Bool.{true, false}
 use Rattle.std.proofs.lemmas.Bool.{false≢true}
 use mathlib.Core.List.{List, [], Memᴰ as Mem}
 use Rattle.std.proofs.Math.Option.{Option, none, some, none-ne-some, some-injective}
-use Prim.Native.Nat.{ℕ, zero, suc, ◌≤◌, ◌<◌}
+use Prim.Native.Nat.{ℕ, zero, suc, ◌-◌, ◌≤◌, ◌<◌, min}
+use Rattle.std.proofs.Math.Decide.{dec_lt}
 use borrow.Author.Tests.{leb-true, leb-false, lt-leb, le-leb, ltb-true, ltb-false, lt-ltb, le-ltb, eqb-true, eqb-false, eq-eqb, ne_eqb, not-false}
 use Rattle.std.proofs.Math.Dec.{ltb, leb}
 use Rattle.std.proofs.Math.ListN.{length}
@@ -196,8 +197,19 @@ module _ (r : GraphResult) (node_words : ℕ) (counts edges : List ℕ) (m room 
 -- a graph count is below the limit
 pub graph_count_fits : (complete : Option ℕ) (counts : List ℕ) → Small counts → count_from_graph complete counts < count_limit
 unfolding count_from_graph at_node
-graph_count_fits none counts small = pow_pos 128
+graph_count_fits none counts small = pow_pos 64
 graph_count_fits (some v) counts small = count_in_small counts small v
+
+-- and so a number that is too large for a count is refused as the largest count is
+pub number_capped : (r : GraphResult) (node_words : ℕ) (counts edges : List ℕ) (m room : ℕ) → Small counts
+    → tiling_by_number r node_words counts edges (min m (count_limit - 1)) room ≡ tiling_by_number r node_words counts edges m room
+number_capped r node_words counts edges m room small = go (dec_lt m count_limit)
+  where
+    go : Dec (m < count_limit) → tiling_by_number r node_words counts edges (min m (count_limit - 1)) room ≡ tiling_by_number r node_words counts edges m room
+    go (yes h) = let e : min m (count_limit - 1) ≡ m = omega arith in ap (λ (k : ℕ). tiling_by_number r node_words counts edges k room) e
+    go (no h) =
+        tiling_none r node_words counts edges (min m (count_limit - 1)) room (omega (arith, graph_count_fits (complete_node r.complete) counts small))
+        ∙ sym (tiling_none r node_words counts edges m room (omega (arith, graph_count_fits (complete_node r.complete) counts small)))
 
 -- the list is read from the output
 pub list_read : (r : GraphResult) (nodes counts edges : List ℕ) (m : ℕ) (out out' : List ℕ) (t : Tiling) → GivesTiling r nodes counts edges m out out' t

@@ -1,8 +1,8 @@
 -- Definitions: what `plus` and `add` answer and leave, which serve the crates above. No contract of a call outside this crate cites them. Assumes nothing.
-use Rattle.std.specs.Prelude.{◌≡◌, ℕ, ◌+◌, ◌*◌, ◌/◌, ◌%◌, ◌^◌, Bool, cond, List, length, nat_le, nat_lt, slice_set}
+use Rattle.std.specs.Prelude.{◌≡◌, ℕ, ◌+◌, Bool, cond, List, nat_le, slice_set}
 use Rattle.std.proofs.Math.Option.{Option, none, some}
 use Rattle.path_count.specs.declared.Sum.{Sum}
-use Rattle.path_count.specs.PathCounts.{count_limit, count_value, count_room, count_in}
+use Rattle.path_count.specs.PathCounts.{count_limit, count_value, count_in}
 use Rattle.path_count.specs.declared.Sum.TheVariants as S
 
 -- what `plus` answers: the sum, or none where it is too large
@@ -11,10 +11,9 @@ unfolding count_value
 sum_answer (S.Is c) = some (count_value c)
 sum_answer S.TooLarge = none
 
--- the words with the two words of n for count i; as they were where it is not lent
+-- the words with n for count i; as they were where it is not lent, since a list has no other element behind its end
 unfoldable pub with_count : List ℕ → ℕ → ℕ → List ℕ
-unfolding count_room
-with_count ws i n = cond (nat_lt i (count_room (length ws))) (slice_set (slice_set ws (2 * i) (n % 2 ^ 64)) (2 * i + 1) (n / 2 ^ 64 % 2 ^ 64)) ws
+with_count ws i n = slice_set ws i n
 
 -- `add`: what k paths more for count i leave in the words, and whether they are refused since the sum would be too large
 pub record AddsCount (cs : List ℕ) (i k : ℕ) (cs' : List ℕ) (r : Bool) : Type 0 where

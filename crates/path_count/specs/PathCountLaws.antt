@@ -1,20 +1,17 @@
 -- Laws of path counts: a count is below the limit; what is stored in words is read back; words that hold the counts of a function or of a list; and
 -- what a sum tells. Laws and proofs of other crates cite these and unfold nothing (but see `PathCounts`). Rests on `PathCounts` and `cells`. Assumes nothing.
-use Rattle.std.specs.Prelude.{◌≡◌, ℕ, zero, suc, ◌+◌, ◌*◌, ◌/◌, ◌%◌, ◌^◌, ◌<◌, ◌≤◌, Bool, true, false, cond, leb, List, [], ◌∷◌, ◌++◌, length, ◌==◌, ◌≢◌, nat_le, nat_lt, slice_index, slice_index_or, slice_set}
-use Rattle.std.proofs.Math.Path.{refl, sym, ap, ap₂}
-use Rattle.std.proofs.Common.{◌∙◌, subst, lit<, ext_get_or}
-use mathlib.Core.List.{flat_map}
+use Rattle.std.specs.Prelude.{◌≡◌, ℕ, ◌+◌, ◌-◌, ◌*◌, ◌/◌, ◌%◌, ◌^◌, ◌<◌, ◌≤◌, min, Bool, true, false, cond, leb, List, [], ◌∷◌, ◌++◌, length, ◌==◌, ◌≢◌, nat_le, nat_lt, slice_index, slice_set}
+use Rattle.std.proofs.Math.Path.{refl}
+use Rattle.std.proofs.Common.{sym, ap, ap₂, ◌∙◌, arith}
 use Rattle.std.proofs.Math.Option.{none, some, none-ne-some, some-injective}
 use Rattle.std.proofs.Math.Decide.{ℕ_discrete, dec_lt}
-use native.Mathlib.Omega.{arith}
-use borrow.Author.Tests.{leb-true, leb-false, eq-eqb, ne_eqb, lt-ltb, le-ltb}
+use borrow.Author.Tests.{leb-true, leb-false, eq-eqb, ne_eqb, le-ltb}
 use Rattle.std.proofs.Math.ListN.{length-set, get_or-eq_default}
-use Rattle.std.proofs.Math.Seq.{get_or-set_same, get_or-set_other}
+use Rattle.std.proofs.Math.Seq.{set_out, get_or-set_same, get_or-set_other}
 use Rattle.cells.specs.WordLaws.{Small}
-use Rattle.cells.specs.Set.{words_below}
-use Rattle.cells.specs.Lists.{list_of, padded}
+use Rattle.cells.specs.Lists.{list_of}
 use Rattle.cells.specs.Parts.{cleared_from}
-use Rattle.cells.specs.ArrayLaws.{get_d_block, length_list_of, get_d_list_of, list_of_ext, list_of_eta, list_of_snoc}
+use Rattle.cells.specs.ArrayLaws.{length_list_of, get_d_list_of, list_of_ext, list_of_eta, list_of_snoc}
 use Rattle.path_count.specs.declared.PathCount.{PathCount}
 use Rattle.path_count.specs.declared.Sum.{Sum}
 use Rattle.path_count.specs.declared.Sum.TheVariants as S
@@ -22,60 +19,27 @@ use Rattle.path_count.specs.PathCounts.{count_limit, count_value, count_room, co
 use Rattle.path_count.specs.Parts.{sum_answer, with_count, AddsCount}
 use Rattle.path_count.specs.Inner.{count_span, count_words}
 
--- ---- the limit
-
--- a number is below the limit exactly if what is above its low word is a word. (`omega` reads no number of 39 digits: w stands for the second 2 ^ 64.)
-below : (n w : ℕ) → n / 2 ^ 64 < w → n < 2 ^ 64 * w
-below n w h = omega arith
-
-above : (n w : ℕ) → w ≤ n / 2 ^ 64 → 2 ^ 64 * w ≤ n
-above n w h = omega arith
-
-high_below : (n w : ℕ) → n < 2 ^ 64 * w → n / 2 ^ 64 < w
-high_below n w h = omega arith
-
-pub limit_below : (n : ℕ) → n / 2 ^ 64 < 2 ^ 64 → n < count_limit
-limit_below n h = below n (2 ^ 64) h
-
-pub limit_above : (n : ℕ) → 2 ^ 64 ≤ n / 2 ^ 64 → count_limit ≤ n
-limit_above n h = above n (2 ^ 64) h
-
-pub limit_high : (n : ℕ) → n < count_limit → n / 2 ^ 64 < 2 ^ 64
-limit_high n h = high_below n (2 ^ 64) h
-
 -- ---- one count
-
--- what is above the low word of two words
-pub high_word : (low high : ℕ) → low < 2 ^ 64 → high ≡ (low + 2 ^ 64 * high) / 2 ^ 64
-high_word low high h = omega arith
-
-pub low_word : (low high : ℕ) → low < 2 ^ 64 → low ≡ (low + 2 ^ 64 * high) % 2 ^ 64
-low_word low high h = omega arith
 
 -- what holds of every count that the code has: its words have 64 bits. A proof shows it of an argument by `search needs`
 abbrev pub CountFits : PathCount → Type 0
-CountFits c = (c.low < 2 ^ 64) × (c.high < 2 ^ 64)
-
-pub words_small : (low high : ℕ) → low < 2 ^ 64 → high < 2 ^ 64 → low + 2 ^ 64 * high < count_limit
-words_small low high l h = limit_below (low + 2 ^ 64 * high) (subst (λ (w : ℕ). w < 2 ^ 64) (high_word low high l) h)
+CountFits c = c.word < 2 ^ 64
 
 pub count_small : (c : PathCount) → CountFits c → count_value c < count_limit
 unfolding count_value
-count_small c h = words_small c.low c.high h.0 h.1
+count_small c h = h
 
 -- the number of a count's two words is the count
 pub count_halves : (n : ℕ) → n % 2 ^ 64 + 2 ^ 64 * (n / 2 ^ 64) ≡ n
 count_halves n = omega arith
 
-pub word_whole : (w : ℕ) → w < 2 ^ 64 → w % 2 ^ 64 ≡ w
-word_whole w h = omega arith
-
-pub count_words_lem : (n : ℕ) → n < count_limit → n % 2 ^ 64 + 2 ^ 64 * (n / 2 ^ 64 % 2 ^ 64) ≡ n
-count_words_lem n h = ap (λ (w : ℕ). n % 2 ^ 64 + 2 ^ 64 * w) (word_whole (n / 2 ^ 64) (limit_high n h)) ∙ count_halves n
+-- a number that is a count's is kept whole
+pub count_whole : (n : ℕ) → n < count_limit → min n (count_limit - 1) ≡ n
+count_whole n h = omega arith
 
 -- a word is the count of itself, as `of_words` makes it
-pub word_count : (n x : ℕ) → x ≡ n + 2 ^ 64 * 0 → x ≡ n
-word_count n x e = omega arith
+pub word_count : (n : ℕ) → n < 2 ^ 64 → (x : ℕ) → x ≡ min (n + 2 ^ 64 * 0) (count_limit - 1) → x ≡ n
+word_count n h x e = omega arith
 
 -- ---- a sum
 
@@ -101,86 +65,34 @@ module _ (r : Sum) (n : ℕ) (e : sum_answer r ≡ cond (nat_le count_limit n) n
 -- the words that so many counts take hold as many
 pub room_span : (n : ℕ) → count_room (count_span n) ≡ n
 unfolding count_room count_span
-room_span n = omega arith
-
--- a count whose words are both lent is their number
-pub count_in_lent : (ws : List ℕ) (i : ℕ) → i < count_room (length ws) → count_in ws i ≡ slice_index ws (2 * i) + 2 ^ 64 * slice_index ws (2 * i + 1)
-unfolding count_in
-count_in_lent ws i h = rw (lt-ltb i (count_room (length ws)) h)
-
-pub count_in_past : (ws : List ℕ) (i : ℕ) → count_room (length ws) ≤ i → count_in ws i ≡ 0
-unfolding count_in
-count_in_past ws i h = rw (le-ltb i (count_room (length ws)) h)
+room_span n = refl
 
 pub count_in_small : (ws : List ℕ) → Small ws → (i : ℕ) → count_in ws i < count_limit
-count_in_small ws small i = go (dec_lt i (count_room (length ws)))
-  where
-    go : Dec (i < count_room (length ws)) → count_in ws i < count_limit
-    go (yes h) = subst (λ (n : ℕ). n < count_limit) (sym (count_in_lent ws i h)) (words_small _ _ (small (2 * i)) (small (2 * i + 1)))
-    go (no h) = subst (λ (n : ℕ). n < count_limit) (sym (count_in_past ws i (omega arith))) (lit< tt)
+unfolding count_in
+count_in_small ws small i = small i
+
+pub count_in_past : (ws : List ℕ) (i : ℕ) → count_room (length ws) ≤ i → count_in ws i ≡ 0
+unfolding count_in count_room
+count_in_past ws i h = get_or-eq_default ws 0 h
 
 module _ (ws : List ℕ) (i n : ℕ) where
-  -- the words with both words of the count stored
-  abbrev stored : List ℕ
-  stored = slice_set (slice_set ws (2 * i) (n % 2 ^ 64)) (2 * i + 1) (n / 2 ^ 64 % 2 ^ 64)
-
-  length_stored : length stored ≡ length ws
-  length_stored = length-set (slice_set ws (2 * i) (n % 2 ^ 64)) (2 * i + 1) (n / 2 ^ 64 % 2 ^ 64) ∙ length-set ws (2 * i) (n % 2 ^ 64)
-
-  pub with_count_lent : i < count_room (length ws) → with_count ws i n ≡ stored
+  pub length_with_count : length (with_count ws i n) ≡ length ws
   unfolding with_count
-  with_count_lent h = rw (lt-ltb i (count_room (length ws)) h)
+  length_with_count = length-set ws i n
 
   pub with_count_past : count_room (length ws) ≤ i → with_count ws i n ≡ ws
-  unfolding with_count
-  with_count_past h = rw (le-ltb i (count_room (length ws)) h)
-
-  pub length_with_count : length (with_count ws i n) ≡ length ws
-  length_with_count = go (dec_lt i (count_room (length ws)))
-    where
-      go : Dec (i < count_room (length ws)) → length (with_count ws i n) ≡ length ws
-      go (yes h) = ap length (with_count_lent h) ∙ length_stored
-      go (no h) = ap length (with_count_past (omega arith))
-
-  -- the two words of the count,
-  stored_low : i < count_room (length ws) → slice_index stored (2 * i) ≡ n % 2 ^ 64
-  unfolding count_room
-  stored_low h =
-      get_or-set_other (slice_set ws (2 * i) (n % 2 ^ 64)) (2 * i + 1) (2 * i) (n / 2 ^ 64 % 2 ^ 64) 0 (λ q. omega arith)
-      ∙ get_or-set_same ws (2 * i) (n % 2 ^ 64) 0 (omega arith)
-
-  stored_high : i < count_room (length ws) → slice_index stored (2 * i + 1) ≡ n / 2 ^ 64 % 2 ^ 64
-  unfolding count_room
-  stored_high h =
-      get_or-set_same (slice_set ws (2 * i) (n % 2 ^ 64)) (2 * i + 1) (n / 2 ^ 64 % 2 ^ 64) 0 (omega (arith, length-set ws (2 * i) (n % 2 ^ 64)))
-
-  -- and the other words
-  stored_other : (k : ℕ) → (k / 2 ≢ i) → slice_index stored k ≡ slice_index ws k
-  stored_other k ne =
-      get_or-set_other (slice_set ws (2 * i) (n % 2 ^ 64)) (2 * i + 1) k (n / 2 ^ 64 % 2 ^ 64) 0 (λ q. ne (omega arith))
-      ∙ get_or-set_other ws (2 * i) k (n % 2 ^ 64) 0 (λ q. ne (omega arith))
+  unfolding with_count count_room
+  with_count_past h = set_out ws i n h
 
   -- what is stored is read back
   pub count_in_same : i < count_room (length ws) → n < count_limit → count_in (with_count ws i n) i ≡ n
-  count_in_same h s =
-      let r : count_room (length stored) ≡ count_room (length ws) = ap count_room length_stored in
-      ap (λ (l : List ℕ). count_in l i) (with_count_lent h)
-      ∙ count_in_lent stored i (omega (arith, r))
-      ∙ ap₂ (λ (x y : ℕ). x + 2 ^ 64 * y) (stored_low h) (stored_high h)
-      ∙ count_words_lem n s
+  unfolding count_in with_count count_room
+  count_in_same h s = get_or-set_same ws i n 0 h
 
   -- and the other counts are as they were
   pub count_in_other : (j : ℕ) → (j ≢ i) → count_in (with_count ws i n) j ≡ count_in ws j
-  unfolding count_in
-  count_in_other j ne = go (dec_lt i (count_room (length ws)))
-    where
-      go : Dec (i < count_room (length ws)) → count_in (with_count ws i n) j ≡ count_in ws j
-      go (yes h) =
-          ap (λ (l : List ℕ). count_in l j) (with_count_lent h)
-          ∙ ap (λ (m : ℕ). cond (nat_lt j (count_room m)) (slice_index stored (2 * j) + 2 ^ 64 * slice_index stored (2 * j + 1)) 0) length_stored
-          ∙ ap₂ (λ (x y : ℕ). cond (nat_lt j (count_room (length ws))) (x + 2 ^ 64 * y) 0) (stored_other (2 * j) (λ q. ne (omega arith)))
-          (stored_other (2 * j + 1) (λ q. ne (omega arith)))
-      go (no h) = ap (λ (l : List ℕ). count_in l j) (with_count_past (omega arith))
+  unfolding count_in with_count
+  count_in_other j ne = get_or-set_other ws i j n 0 ne
 
   pub count_in_with_count : i < count_room (length ws) → n < count_limit → (j : ℕ) → count_in (with_count ws i n) j ≡ cond (j == i) n (count_in ws j)
   count_in_with_count h s j = go (ℕ_discrete j i)
@@ -215,168 +127,70 @@ counts_set ws n i k h r s =
     go j l (no q) =
         get_or-set_other (list_of (count_in ws) n) i j k 0 q ∙ get_d_list_of (count_in ws) n j 0 l ∙ sym (count_in_other ws i k j q)
 
+-- ---- words that hold the counts of a function
+
+pub length_count_words : (f : ℕ → ℕ) (words : ℕ) → length (count_words f words) ≡ words
+unfolding count_words
+length_count_words f words = length_list_of f words
+
+pub count_words_ext : (f g : ℕ → ℕ) (words : ℕ) → ((i : ℕ) → i < count_room words → f i ≡ g i) → count_words f words ≡ count_words g words
+unfolding count_words count_room
+count_words_ext f g words h = list_of_ext f g words h
+
+-- what is stored is read back
+pub count_in_count_words : (f : ℕ → ℕ) (words i : ℕ) → i < count_room words → f i < count_limit → count_in (count_words f words) i ≡ f i
+unfolding count_in count_words count_room
+count_in_count_words f words i h s = get_d_list_of f words i 0 h
+
+-- another count is stored
+pub with_count_count_words : (f : ℕ → ℕ) (words i n : ℕ) → with_count (count_words f words) i n ≡ count_words (λ j. cond (j == i) n (f j)) words
+unfolding with_count count_words
+with_count_count_words f words i n =
+    list_of_eta 0 (slice_set (list_of f words) i n) (λ j. cond (j == i) n (f j)) words (length-set (list_of f words) i n ∙ length_list_of f words)
+    (λ j l. go j l (ℕ_discrete j i))
+  where
+    go : (j : ℕ) → j < words → Dec (j ≡ i) → slice_index (slice_set (list_of f words) i n) j ≡ cond (j == i) n (f j)
+    go j l (yes q) =
+        rw (eq-eqb j i q)
+        (ap (λ (x : ℕ). slice_index (slice_set (list_of f words) i n) x) q ∙ get_or-set_same (list_of f words) i n 0 (omega (arith, length_list_of f words)))
+    go j l (no q) = rw (ne_eqb j i q) (get_or-set_other (list_of f words) i j n 0 q ∙ get_d_list_of f words j 0 l)
+
+-- all words cleared
+pub cleared_count_words : (ws : List ℕ) → cleared_from 0 ws ≡ count_words (λ i. 0) (length ws)
+unfolding cleared_from count_words
+cleared_count_words ws = list_of_ext (λ i. cond (nat_lt i 0) (slice_index ws i) 0) (λ i. 0) (length ws) (λ i h. rw (le-ltb i 0 (omega arith)))
+
 -- ---- words that hold a list of counts
 
-two_words : (n : ℕ) → length (words_below 2 n) ≡ 2
-unfolding words_below
-two_words n = refl
-
-no_count : (j : ℕ) → slice_index (words_below 2 0) j ≡ 0
-unfolding words_below
-no_count zero = refl
-no_count (suc zero) = refl
-no_count (suc (suc j)) = refl
-
 pub length_counts_for : (ns : List ℕ) (words : ℕ) → length (counts_for ns words) ≡ words
-unfolding counts_for padded
-length_counts_for ns words = length_list_of (λ k. slice_index (flat_map (words_below 2) ns) k) words
+unfolding counts_for count_words
+length_counts_for ns words = length_count_words (λ i. slice_index ns i) words
 
--- word k is a word of count k / 2
-pub counts_for_word : (ns : List ℕ) (words k : ℕ) → k < words → slice_index (counts_for ns words) k ≡ slice_index (words_below 2 (slice_index ns (k / 2))) (k % 2)
-unfolding counts_for padded
-counts_for_word ns words k h =
-    let e : 2 * (k / 2) + k % 2 ≡ k = omega arith in
-    get_d_list_of (λ i. slice_index (flat_map (words_below 2) ns) i) words k 0 h
-    ∙ ap (λ (i : ℕ). slice_index (flat_map (words_below 2) ns) i) (sym e)
-    ∙ get_d_block 2 (words_below 2) two_words 0 no_count ns (k / 2) (k % 2) (omega arith)
+pub count_words_counts_for : (f : ℕ → ℕ) (ns : List ℕ) (words : ℕ) → ((i : ℕ) → i < count_room words → f i ≡ slice_index ns i) → count_words f words ≡ counts_for ns words
+unfolding counts_for count_words
+count_words_counts_for f ns words h = count_words_ext f (λ i. slice_index ns i) words h
 
--- words that have these words are they
-counts_for_is : (ws ns : List ℕ) (words : ℕ) → length ws ≡ words → ((k : ℕ) → k < words → slice_index ws k ≡ slice_index (words_below 2 (slice_index ns (k / 2))) (k % 2)) → ws ≡ counts_for ns words
-counts_for_is ws ns words e h =
-    ext_get_or 0 ws (counts_for ns words) (e ∙ sym (length_counts_for ns words)) (λ k l. h k (omega arith) ∙ sym (counts_for_word ns words k (omega arith)))
-
--- the same counts
-pub counts_for_ext : (ms ns : List ℕ) (words : ℕ) → ((i : ℕ) → slice_index ms i ≡ slice_index ns i) → counts_for ms words ≡ counts_for ns words
-counts_for_ext ms ns words h =
-    counts_for_is (counts_for ms words) ns words (length_counts_for ms words)
-    (λ k l. counts_for_word ms words k l ∙ ap (λ (n : ℕ). slice_index (words_below 2 n) (k % 2)) (h (k / 2)))
-
--- all words cleared hold no count
 pub cleared_counts_for : (ws : List ℕ) → cleared_from 0 ws ≡ counts_for [] (length ws)
-unfolding cleared_from
-cleared_counts_for ws =
-    counts_for_is (list_of (λ i. cond (nat_lt i 0) (slice_index ws i) 0) (length ws)) [] (length ws) (length_list_of (λ i. cond (nat_lt i 0) (slice_index ws i) 0) (length ws))
-    (λ k l. get_d_list_of (λ i. cond (nat_lt i 0) (slice_index ws i) 0) (length ws) k 0 l ∙ rw (le-ltb k 0 (omega arith)) (sym (no_count (k % 2))))
-
--- the two words of count i
-module _ (ns : List ℕ) (words i : ℕ) (h : i < count_room words) where
-  counts_for_low : slice_index_or (counts_for ns words) (2 * i) 0 ≡ slice_index ns i % 2 ^ 64
-  unfolding words_below count_room
-  counts_for_low =
-      let e : 2 * i / 2 ≡ i = omega arith in
-      let z : 2 * i % 2 ≡ 0 = omega arith in
-      counts_for_word ns words (2 * i) (omega arith) ∙ rw (e, z)
-
-  counts_for_high : slice_index_or (counts_for ns words) (2 * i + 1) 0 ≡ slice_index ns i / 2 ^ 64 % 2 ^ 64
-  unfolding words_below count_room
-  counts_for_high =
-      let e : (2 * i + 1) / 2 ≡ i = omega arith in
-      let o : (2 * i + 1) % 2 ≡ 1 = omega arith in
-      counts_for_word ns words (2 * i + 1) (omega arith) ∙ rw (e, o)
-
-  -- what is stored is read back
-  pub counts_for_read : slice_index_or ns i 0 < count_limit → count_in (counts_for ns words) i ≡ slice_index ns i
-  counts_for_read s =
-      count_in_lent (counts_for ns words) i (omega (arith, ap count_room (length_counts_for ns words)))
-      ∙ ap₂ (λ (x y : ℕ). x + 2 ^ 64 * y) counts_for_low counts_for_high
-      ∙ count_words_lem (slice_index ns i) s
+cleared_counts_for ws = cleared_count_words ws ∙ count_words_counts_for (λ i. 0) [] (length ws) (λ i h. refl)
 
 -- the list is read back, count by count and whole
 module _ (ns : List ℕ) (words : ℕ) (lent : length ns ≤ count_room words) (small : (i : ℕ) → slice_index ns i < count_limit) where
   pub count_in_counts_for : (i : ℕ) → count_in (counts_for ns words) i ≡ slice_index ns i
   count_in_counts_for i = go (dec_lt i (count_room words))
     where
+      long : count_room (length (counts_for ns words)) ≡ count_room words
+      long = ap count_room (length_counts_for ns words)
+
+      inside : i < count_room words → count_in (counts_for ns words) i ≡ slice_index ns i
+      inside h = ap (λ (ws : List ℕ). count_in ws i) (sym (count_words_counts_for (λ i. slice_index ns i) ns words (λ i l. refl)))
+          ∙ count_in_count_words (λ i. slice_index ns i) words i h (small i)
+
       go : Dec (i < count_room words) → count_in (counts_for ns words) i ≡ slice_index ns i
-      go (yes h) = counts_for_read ns words i h (small i)
-      go (no h) =
-          count_in_past (counts_for ns words) i (omega (arith, ap count_room (length_counts_for ns words))) ∙ sym (get_or-eq_default ns 0 {n = i} (omega arith))
+      go (yes h) = inside h
+      go (no h) = count_in_past (counts_for ns words) i (omega (arith, long)) ∙ sym (get_or-eq_default ns 0 {n = i} (omega arith))
 
   pub list_of_counts_for : list_of (count_in (counts_for ns words)) (length ns) ≡ ns
   list_of_counts_for = sym (list_of_eta 0 ns (count_in (counts_for ns words)) (length ns) refl (λ i h. sym (count_in_counts_for i)))
-
--- ---- words that hold the counts of a function
-
-pub length_count_words : (f : ℕ → ℕ) (words : ℕ) → length (count_words f words) ≡ words
-unfolding count_words
-length_count_words f words = length_counts_for (list_of f (count_room words)) words
-
-pub count_words_ext : (f g : ℕ → ℕ) (words : ℕ) → ((i : ℕ) → i < count_room words → f i ≡ g i) → count_words f words ≡ count_words g words
-unfolding count_words
-count_words_ext f g words h = ap (λ (ns : List ℕ). counts_for ns words) (list_of_ext f g (count_room words) h)
-
--- what is stored is read back
-pub count_in_count_words : (f : ℕ → ℕ) (words i : ℕ) → i < count_room words → f i < count_limit → count_in (count_words f words) i ≡ f i
-unfolding count_words
-count_in_count_words f words i h s =
-    let e : slice_index_or (list_of f (count_room words)) i 0 ≡ f i = get_d_list_of f (count_room words) i 0 h in
-    counts_for_read (list_of f (count_room words)) words i h (subst (λ (n : ℕ). n < count_limit) (sym e) s) ∙ e
-
--- a list of counts that they hold
-pub count_words_counts_for : (f : ℕ → ℕ) (ns : List ℕ) (words : ℕ) → length ns ≤ count_room words → ((i : ℕ) → i < count_room words → f i ≡ slice_index ns i)
-    → count_words f words ≡ counts_for ns words
-unfolding count_words
-count_words_counts_for f ns words lent h = counts_for_ext (list_of f (count_room words)) ns words (λ i. go i (dec_lt i (count_room words)))
-  where
-    go : (i : ℕ) → Dec (i < count_room words) → slice_index (list_of f (count_room words)) i ≡ slice_index ns i
-    go i (yes l) = get_d_list_of f (count_room words) i 0 l ∙ h i l
-    go i (no l) =
-        get_or-eq_default (list_of f (count_room words)) 0 {n = i} (omega (arith, length_list_of f (count_room words)))
-        ∙ sym (get_or-eq_default ns 0 {n = i} (omega arith))
-
--- all words cleared
-pub cleared_count_words : (ws : List ℕ) → cleared_from 0 ws ≡ count_words (λ i. 0) (length ws)
-cleared_count_words ws = cleared_counts_for ws ∙ sym (count_words_counts_for (λ i. 0) [] (length ws) (omega arith) (λ i h. refl))
-
--- another count is stored
-module _ (f : ℕ → ℕ) (words i n : ℕ) where
-  abbrev with : ℕ → ℕ
-  with j = cond (j == i) n (f j)
-
-  long : count_room (length (count_words f words)) ≡ count_room words
-  long = ap count_room (length_count_words f words)
-
-  -- word k of the words with the count stored
-  with_word : i < count_room words → (k : ℕ) → k < words
-      → slice_index (stored (count_words f words) i n) k ≡ slice_index (words_below 2 (slice_index (list_of with (count_room words)) (k / 2))) (k % 2)
-  unfolding count_words words_below
-  with_word h k l = go (ℕ_discrete (k / 2) i) (ℕ_discrete (k % 2) 0) (dec_lt (k / 2) (count_room words))
-    where
-      there : k / 2 ≡ i → slice_index (list_of with (count_room words)) (k / 2) ≡ n
-      there q = get_d_list_of with (count_room words) (k / 2) 0 (omega arith) ∙ rw (eq-eqb (k / 2) i q)
-
-      go : Dec (k / 2 ≡ i) → Dec (k % 2 ≡ 0) → Dec (k / 2 < count_room words)
-          → slice_index (stored (count_words f words) i n) k ≡ slice_index (words_below 2 (slice_index (list_of with (count_room words)) (k / 2))) (k % 2)
-      go (yes q) (yes z) d =
-          let e : k ≡ 2 * i = omega arith in
-          rw (there q, z) (ap (λ (j : ℕ). slice_index (stored (count_words f words) i n) j) e ∙ stored_low (count_words f words) i n (omega (arith, long)))
-      go (yes q) (no z) d =
-          let e : k ≡ 2 * i + 1 = omega arith in
-          let o : k % 2 ≡ 1 = omega arith in
-          rw (there q, o) (ap (λ (j : ℕ). slice_index (stored (count_words f words) i n) j) e ∙ stored_high (count_words f words) i n (omega (arith, long)))
-      go (no q) z (yes d) =
-          stored_other (count_words f words) i n k q
-          ∙ counts_for_word (list_of f (count_room words)) words k l
-          ∙ ap (λ (m : ℕ). slice_index (words_below 2 m) (k % 2))
-          (get_d_list_of f (count_room words) (k / 2) 0 d ∙ sym (get_d_list_of with (count_room words) (k / 2) 0 d ∙ rw (ne_eqb (k / 2) i q)))
-      go (no q) z (no d) =
-          stored_other (count_words f words) i n k q
-          ∙ counts_for_word (list_of f (count_room words)) words k l
-          ∙ ap (λ (m : ℕ). slice_index (words_below 2 m) (k % 2))
-          (get_or-eq_default (list_of f (count_room words)) 0 {n = k / 2} (omega (arith, length_list_of f (count_room words)))
-          ∙ sym (get_or-eq_default (list_of with (count_room words)) 0 {n = k / 2} (omega (arith, length_list_of with (count_room words)))))
-
-  pub with_count_count_words : with_count (count_words f words) i n ≡ count_words with words
-  unfolding count_words
-  with_count_count_words = go (dec_lt i (count_room words))
-    where
-      go : Dec (i < count_room words) → with_count (count_words f words) i n ≡ count_words with words
-      go (yes h) =
-          with_count_lent (count_words f words) i n (omega (arith, long))
-          ∙ counts_for_is (stored (count_words f words) i n) (list_of with (count_room words)) words
-          (length_stored (count_words f words) i n ∙ length_count_words f words) (with_word h)
-      go (no h) =
-          with_count_past (count_words f words) i n (omega (arith, long))
-          ∙ count_words_ext f with words (λ j l. sym (rw (ne_eqb j i (λ q. omega arith))))
 
 -- ---- some paths more
 

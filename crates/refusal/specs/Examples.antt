@@ -5,7 +5,7 @@ use Rattle.refusal.specs.declared.Verdict.TheVariants as Verdicts
 use Rattle.refusal.specs.Refusal.{Answer, refused, given, map_answer, bind_answer, refusal_of, value_or, refusal_number, verdict_number}
 
 -- 1, the mark is cut or missing; 2, unknown mark; 3, a record in the wrong place; 4, board size or marks; 5, a path over 32 or a code over 7; 6, over 64 tiles;
--- 7, different numbers of cells; 8, no room; 9, a path count of 2^128 or more (02); 10, no room for edges; 11, a graph that is none; 12, no full node or m not below its count; of 02:
+-- 7, different numbers of cells; 8, no room; 9, a path count of 2^64 or more; 10, no room for edges; 11, a graph that is none; 12, no full node or m not below its count; of 02:
 -- 13, a mark that is not TY or a record that is cut short; 14, no record of the id or at the place; 15, a cell that is outside the board or marked already
 numbers : map refusal_number (R.Cut ∷ R.UnknownMark ∷ R.Misplaced ∷ R.BadBoard ∷ R.BadTile ∷ R.TooManyTiles ∷ R.UnequalTiles ∷ R.NoRoom ∷ R.CountTooLarge ∷ R.NoRoomForEdges ∷ R.BadGraph ∷ R.NoSuchTiling ∷ R.BrokenRecord ∷ R.NoSuchRecord ∷ R.BadHole ∷ [])
     ≡ 1 ∷ 2 ∷ 3 ∷ 4 ∷ 5 ∷ 6 ∷ 7 ∷ 8 ∷ 9 ∷ 10 ∷ 11 ∷ 12 ∷ 13 ∷ 14 ∷ 15 ∷ []

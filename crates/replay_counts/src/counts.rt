@@ -3,7 +3,7 @@
 // differ` if the calls of crate graph do not give the edges as they are stored.
 //
 // A room is the least that the lent slices hold: one of them, by turns, holds just the room, the others
-// one board more, and all have words left over.
+// one board more, and some have words left over.
 ghost use Rattle.std.specs.Prelude.{◌≤◌};
 
 use crate::graphs;
@@ -32,21 +32,21 @@ fn lend_layers(line: &[u8], is_figure: bool) {
     let room = least(text::room_in(field(line, 6), 512), 4096);
     let turn = room % 4;
     let words_a = 4 * lent(room, turn, 0) + 3;
-    let count_words_a = 2 * lent(room, turn, 1) + 1;
+    let room_a = lent(room, turn, 1);
     let words_b = 4 * lent(room, turn, 2) + 3;
-    let count_words_b = 2 * lent(room, turn, 3) + 1;
+    let room_b = lent(room, turn, 3);
     let mut boards_a = [u64::MAX; 16391];
-    let mut counts_a = [u64::MAX; 8195];
+    let mut counts_a = [u64::MAX; 4097];
     let mut boards_b = [u64::MAX; 16391];
-    let mut counts_b = [u64::MAX; 8195];
+    let mut counts_b = [u64::MAX; 4097];
     count(
         is_figure,
         text::board_in(line),
         text::tiles_in(field(line, 5)),
         &mut boards_a[..words_a],
-        &mut counts_a[..count_words_a],
+        &mut counts_a[..room_a],
         &mut boards_b[..words_b],
-        &mut counts_b[..count_words_b],
+        &mut counts_b[..room_b],
     );
 }
 
@@ -105,10 +105,10 @@ pub fn graph(line: &[u8]) {
     let edge_room = least(text::room_in(field(line, 7), 4096), 16384);
     let turn = room % 2;
     let node_words = 4 * lent(room, turn, 0) + 3;
-    let count_words = 2 * lent(room, turn, 1) + 1;
+    let count_words = lent(room, turn, 1);
     let edge_words = 2 * edge_room + 1;
     let mut nodes = [u64::MAX; 16391];
-    let mut counts = [u64::MAX; 8195];
+    let mut counts = [u64::MAX; 4097];
     let mut edges = [u64::MAX; 32769];
     generate(
         text::board_in(line),
@@ -136,7 +136,7 @@ fn generate(
     let n = least(graph.nodes, 16384);
     let e = least(graph.edges, 16384);
     tell_dirt(nodes, 4 * n);
-    tell_dirt(counts, 2 * n);
+    tell_dirt(counts, n);
     tell_dirt(edges, 2 * e);
     if !has_edges(graph, edges) {
         write::bytes(b" edges differ");

@@ -21,7 +21,7 @@ pub fn tilings(line: &[u8]) {
     let board = text::board_in(line);
     let tiles = text::tiles_in(field(line, 5));
     let mut nodes = [u64::MAX; 4096];
-    let mut counts = [u64::MAX; 2048];
+    let mut counts = [u64::MAX; 1024];
     let mut edges = [u64::MAX; 8192];
     let made = tiler::generate_graph(board, tiles, &mut nodes, &mut counts, &mut edges);
     let verdict = made.verdict;
@@ -229,15 +229,15 @@ fn show_list(nodes: &[u64], shown: &[u64]) {
 
 // tiling NODES EDGES FULL NODEWORDS COUNTS EDGEWORDS M OUT: the tiling with the number M of the result
 // NODES EDGES FULL, whose FULL may be `none`, and of these words: so many node words, all ones, 4,096
-// at most; the count words, at most 2,048; the edge words, at most 2,048. M is one word or two, the low
-// word first. The output has so many words, 1,024 at most.
+// at most; the count words, at most 1,024; the edge words, at most 2,048. The output has so many words,
+// 1,024 at most.
 pub fn tiling(line: &[u8]) {
-    let mut counts = [u64::MAX; 2048];
+    let mut counts = [u64::MAX; 1024];
     let mut edges = [u64::MAX; 2048];
     let mut out = [u64::MAX; 1024];
     let nodes = [u64::MAX; 4096];
     let node_words = least(text::room_in(field(line, 4), 0), 4096);
-    let count_words = least(text::words_in(field(line, 5), &mut counts), 2048);
+    let count_words = least(text::words_in(field(line, 5), &mut counts), 1024);
     let edge_words = least(text::words_in(field(line, 6), &mut edges), 2048);
     let room = least(text::room_in(field(line, 8), 0), 1024);
     ask_one(
@@ -245,7 +245,7 @@ pub fn tiling(line: &[u8]) {
         &nodes[..node_words],
         &counts[..count_words],
         &edges[..edge_words],
-        number_in(field(line, 7)),
+        text::decimal_in(field(line, 7)),
         &mut out[..room],
     );
 }
@@ -266,22 +266,16 @@ fn complete_in(text: &[u8]) -> Complete {
     Complete::Node(text::decimal_in(text) as usize)
 }
 
-// The number of one word or of two, the low word first.
-fn number_in(text: &[u8]) -> PathCount {
-    let mut words = [0u64; 2];
-    text::words_in(text, &mut words);
-    PathCount::of_words(words[0], words[1])
-}
-
 fn ask_one(
     graph: GraphResult,
     nodes: &[u64],
     counts: &[u64],
     edges: &[u64],
-    m: PathCount,
+    m: u64,
     out: &mut [u64],
 ) {
-    let answer = numbered_tilings::tiling_by_number(graph, nodes, counts, edges, m, out);
+    let number = PathCount::of_words(m, 0);
+    let answer = numbered_tilings::tiling_by_number(graph, nodes, counts, edges, number, out);
     match answer {
         Tiling::Length(n) => show_nodes(n, out),
         Tiling::Refused(refusal) => write::refused(refusal),

@@ -1,6 +1,4 @@
 // The parts of an answer that several programs write, to standard output.
-ghost use Rattle.std.specs.Prelude.{◌≤◌, length};
-
 use cells::{Cells, list};
 use libc::STDOUT_FILENO;
 use path_count::PathCount;
@@ -14,28 +12,9 @@ pub fn number(n: usize) {
     io::print_decimal(STDOUT_FILENO, n as u64);
 }
 
-// A number of tilings: no count has more than 39 digits.
+// A number of tilings.
 pub fn count(n: PathCount) {
-    let mut text = [0u8; 39];
-    let start = put_digits(&mut text, n);
-    bytes(&text[start..]);
-}
-
-// Puts the decimal digits of a number at the end of a text; gives where they begin.
-fn put_digits(text: &mut [u8], n: PathCount) -> usize
-    ensures { result ≤ length text.old }
-{
-    let mut left = n;
-    let mut at = text.len();
-    while 0 < at {
-        at -= 1;
-        text[at] = (48 + left.last_digit()) as u8;
-        left = left.tenth();
-        if left.equal(PathCount::of_words(0, 0)) {
-            return at;
-        }
-    }
-    at
+    io::print_decimal(STDOUT_FILENO, n.low());
 }
 
 pub fn refused(refusal: Refusal) {

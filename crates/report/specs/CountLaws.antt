@@ -1,6 +1,6 @@
--- Laws of the answers of a count: which refusals a layer count, the figure and a graph have; and whether a number is below a count.
+-- Laws of the answers of a count: which refusals a layer count, the figure and a graph have; and that a count is its low word.
 -- Assumes nothing.
-use Rattle.std.specs.Prelude.{◌≡◌, ◌↔◌, true, false, List, ℕ, zero, suc, ◌+◌, ◌*◌, ◌^◌, ◌≤◌, ◌<◌, ltb, leb, eqb, length}
+use Rattle.std.specs.Prelude.{◌≡◌, ◌↔◌, true, false, List, ℕ, zero, suc, ◌+◌, ◌-◌, ◌*◌, ◌%◌, ◌^◌, ◌≤◌, ◌<◌, min, ltb, leb, eqb, length}
 use Rattle.std.proofs.Common.{arith, ltb-true, ltb-false}
 use Rattle.refusal.specs.Refusal.{refused}
 use Rattle.refusal.specs.RefusalLaws.{map_refused, Refuses, refuses_one, refuses_none, refuses_cond, refuses_bind, refuses_map}
@@ -9,6 +9,7 @@ use Rattle.rectangle.specs.Board.{marks}
 use Rattle.children.specs.Children.{children_at, free_count_at}
 use Rattle.covers.specs.Counts.{Entry, counts, layer}
 use Rattle.graph.specs.Graph.{plot_boards, plot_nodes, plot_edges}
+use Rattle.path_count.specs.PathCounts.{count_limit}
 use Rattle.path_count.specs.PathCountLaws.{word_count}
 use Rattle.layers.specs.LayerCounts.{too_large, judge_layer, judge_layers, layer_count_for}
 use Rattle.cuttings.specs.Cuttings.{cuttings_of}
@@ -66,20 +67,15 @@ graph_refusals plot =
     (refuses_one Graphs 8 (omega arith, omega arith)))
     (refuses_one Graphs 7 (omega arith, omega arith))
 
--- ---- numbers below a count
+-- ---- the words of a count
 
--- whether the count of a word is below a count, which is told
-module _ (m r count : ℕ) (e : r ≡ m + 2 ^ 64 * 0) where
+pub low_is : (n : ℕ) → n < count_limit → (low : ℕ) → low ≡ n % 2 ^ 64 → low ≡ n
+low_is n h low e = omega arith
+
+-- whether the count of a small number is below a count, which is told
+module _ (m r count : ℕ) (small : m ≤ 16) (e : r ≡ min (m + 2 ^ 64 * 0) (count_limit - 1)) where
   pub not_below : ltb r count ≡ false → count ≤ m
-  not_below t = omega (arith, word_count m r e, ltb-false r count t)
+  not_below t = omega (arith, word_count m (omega arith) r e, ltb-false r count t)
 
   pub is_below : ltb r count ≡ true → m < count
-  is_below t = omega (arith, word_count m r e, ltb-true r count t)
-
--- whether a count is below 10, which is told
-module _ (n ten : ℕ) (e : ten ≡ 10 + 2 ^ 64 * 0) where
-  pub below_ten : ltb n ten ≡ true → n < 10
-  below_ten t = omega (arith, word_count 10 ten e, ltb-true n ten t)
-
-  pub not_below_ten : ltb n ten ≡ false → 10 ≤ n
-  not_below_ten t = omega (arith, word_count 10 ten e, ltb-false n ten t)
+  is_below t = omega (arith, word_count m (omega arith) r e, ltb-true r count t)

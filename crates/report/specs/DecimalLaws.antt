@@ -1,7 +1,7 @@
 -- Laws of decimal digits: how the digits of a number come one by one, and that they are what a reader means by them: each is a digit, the first is not
 -- 0, read back they give the number, and a number below 10 ^ k has at most k, for k from 1 on. Rests on `Report`. Assumes nothing.
 use Rattle.std.specs.Prelude.{◌≡◌, refl, List, [], ◌∷◌, ◌++◌, ℕ, zero, suc, ◌+◌, ◌-◌, ◌*◌, ◌/◌, ◌%◌, ◌^◌, ◌≤◌, ◌<◌, length, get_or}
-use Rattle.std.proofs.Common.{sym, ap, ap₂, ◌∙◌, pow-suc, arith, lt-ltb, le-ltb, length-append}
+use Rattle.std.proofs.Common.{sym, ap, ◌∙◌, pow-suc, arith, lt-ltb, le-ltb, length-append}
 use Rattle.std.proofs.Math.Decide.{dec_lt}
 use Rattle.report.specs.Report.{digits, decimal}
 
@@ -38,13 +38,6 @@ decimal_more zero h = absurd (omega arith)
 decimal_more (suc m) h =
     digits_more m (suc m) h
     ∙ ap (λ (d : List ℕ). d ++ (48 + suc m % 10) ∷ []) (digits_enough m (suc m / 10) (suc m / 10) (omega arith) (omega arith))
-
--- the same by the last digit, and by the tenth and the last digit, where these are told
-pub last_small : (n d : ℕ) → n < 10 → d ≡ n % 10 → (48 + d) ∷ [] ≡ decimal n
-last_small n d h e = let is : d ≡ n = omega arith in ap (λ (k : ℕ). (48 + k) ∷ []) is ∙ sym (decimal_small n h)
-
-pub last_more : (n t d : ℕ) → 10 ≤ n → t ≡ n / 10 → d ≡ n % 10 → decimal t ++ (48 + d) ∷ [] ≡ decimal n
-last_more n t d h e f = ap₂ (λ (a b : ℕ). decimal a ++ (48 + b) ∷ []) e f ∙ sym (decimal_more n h)
 
 -- what holds of one digit, and of one digit more where it holds of the others, holds of the digits of every number
 decimal_by : (P : ℕ → List ℕ → Type 0)

@@ -25,10 +25,10 @@ use Rattle.report.specs.CountLaws.{layers_refusals, cuttings_refusals, graph_ref
 use Rattle.report.specs.BuiltLaws.{list_short}
 use Rattle.report.specs.PlotLaws.{AcceptedPlot, layers_fit, cuttings_fit, of_graph, nodes_few, edges_few}
 
--- no text has more bytes: the board's line has at most 21, the tiles' 9, the layers' 47, the figure's 49, the graph's 68, and each of 16 tiling lines 1,296
+-- no text has more bytes: the board's line has at most 21, the tiles' 9, the layers' 28, the figure's 30, the graph's 49, and each of 16 tiling lines 1,296
 -- ("tiling ", two digits, ":", 257 times a blank and four digits, and the line feed)
 abbrev pub longest_text : ℕ
-longest_text = 20930
+longest_text = 20873
 
 -- ---- numbers and fields
 
@@ -65,24 +65,24 @@ tiles_length plot ok =
     let few = ok.few in
     omega (arith, length-append (field "tiles " (length plot.tiles)) feed, field_length "tiles " 1 (length plot.tiles) (omega arith))
 
--- a count below the limit has at most 39 digits
-count_length : (words : String) (n : ℕ) → n < count_limit → length (field words n ++ feed) ≤ length (ascii words) + 40
+-- a count below the limit has at most 20 digits
+count_length : (words : String) (n : ℕ) → n < count_limit → length (field words n ++ feed) ≤ length (ascii words) + 21
 unfolding feed ascii
-count_length words n h = omega (arith, length-append (field words n) feed, field_length words 38 n (lt_of_lt_of_le h (lit≤ tt)))
+count_length words n h = omega (arith, length-append (field words n) feed, field_length words 19 n (lt_of_lt_of_le h (lit≤ tt)))
 
-pub layers_length : (plot : Plot) → AcceptedPlot plot → length (layers_line (plot_layers plot)) ≤ 47
+pub layers_length : (plot : Plot) → AcceptedPlot plot → length (layers_line (plot_layers plot)) ≤ 28
 unfolding layers_line field ascii
 layers_length plot ok = go (plot_layers plot) refl
   where
-    go : (a : Answer ℕ) → plot_layers plot ≡ a → length (layers_line a) ≤ 47
+    go : (a : Answer ℕ) → plot_layers plot ≡ a → length (layers_line a) ≤ 28
     go (refused n) e = let few = (layers_refusals plot n e).1 in omega (arith, refusal_length "layers refused " n (omega arith))
     go (given n) e = omega (arith, count_length "layers " n (layers_fit plot ok n e))
 
-pub cuttings_length : (plot : Plot) → AcceptedPlot plot → length (cuttings_line (plot_cuttings plot)) ≤ 49
+pub cuttings_length : (plot : Plot) → AcceptedPlot plot → length (cuttings_line (plot_cuttings plot)) ≤ 30
 unfolding cuttings_line field ascii
 cuttings_length plot ok = go (plot_cuttings plot) refl
   where
-    go : (a : Answer ℕ) → plot_cuttings plot ≡ a → length (cuttings_line a) ≤ 49
+    go : (a : Answer ℕ) → plot_cuttings plot ≡ a → length (cuttings_line a) ≤ 30
     go (refused n) e = let few = (cuttings_refusals plot n e).1 in omega (arith, refusal_length "cuttings refused " n (omega arith))
     go (given n) e = omega (arith, count_length "cuttings " n (cuttings_fit plot ok n e))
 
@@ -92,7 +92,7 @@ flat_map_length f k [] h = omega arith
 flat_map_length f k (x ∷ xs) h = omega (arith, length-append (f x) (flat_map f xs), h x (here refl), flat_map_length f k xs (λ y m. h y (there m)))
 
 module _ (plot : Plot) (ok : AcceptedPlot plot) (g : Graph) (e : plot_graph plot ≡ given g) where
-  pub graph_length : length (graph_line g) ≤ 68
+  pub graph_length : length (graph_line g) ≤ 49
   unfolding graph_line feed ascii
   graph_length =
       let nodes = nodes_few plot ok g e in
@@ -100,7 +100,7 @@ module _ (plot : Plot) (ok : AcceptedPlot plot) (g : Graph) (e : plot_graph plot
       simp length-append
       (omega (
         arith,
-        field_length "graph " 38 (count_of_graph g) (lt_of_lt_of_le (of_graph plot ok g e (λ b f l ts x y z made. graph_count_small b f l ts x y z g made)) (lit≤ tt)),
+        field_length "graph " 19 (count_of_graph g) (lt_of_lt_of_le (of_graph plot ok g e (λ b f l ts x y z made. graph_count_small b f l ts x y z g made)) (lit≤ tt)),
         field_length " nodes " 3 (length g.nodes) (omega arith),
         field_length " edges " 3 (length g.edges) (omega arith),
       ))
@@ -132,21 +132,21 @@ module _ (plot : Plot) (ok : AcceptedPlot plot) (g : Graph) (e : plot_graph plot
             (λ m i. let r = (mem_list_of (λ m. m) (listed g) m).0 i in tiling_length m (subst (λ (k : ℕ). k < listed g) (sym r.2) r.1)),
       )
 
-  lines_length : length (graph_lines (given g)) ≤ 20804
+  lines_length : length (graph_lines (given g)) ≤ 20785
   unfolding graph_lines
   lines_length = omega (arith, length-append (graph_line g) (flat_map (tiling_line g) (list_of (λ m. m) (listed g))), graph_length, tilings_length)
 
-pub graphs_length : (plot : Plot) → AcceptedPlot plot → length (graph_lines (plot_graph plot)) ≤ 20804
+pub graphs_length : (plot : Plot) → AcceptedPlot plot → length (graph_lines (plot_graph plot)) ≤ 20785
 unfolding graph_lines ascii
 graphs_length plot ok = go (plot_graph plot) refl
   where
-    go : (a : Answer Graph) → plot_graph plot ≡ a → length (graph_lines a) ≤ 20804
+    go : (a : Answer Graph) → plot_graph plot ≡ a → length (graph_lines a) ≤ 20785
     go (refused n) e = let few = (graph_refusals plot n e).1 in omega (arith, refusal_length "graph refused " n (omega arith))
     go (given g) e = lines_length plot ok g e
 
 -- ---- the text of a plot
 
-five_parts : (a b c d e : List ℕ) → length a ≤ 21 → length b ≤ 9 → length c ≤ 47 → length d ≤ 49 → length e ≤ 20804 → length (a ++ b ++ c ++ d ++ e) ≤ longest_text
+five_parts : (a b c d e : List ℕ) → length a ≤ 21 → length b ≤ 9 → length c ≤ 28 → length d ≤ 30 → length e ≤ 20785 → length (a ++ b ++ c ++ d ++ e) ≤ longest_text
 five_parts a b c d e p q r s t = simp length-append (omega arith)
 
 pub plot_length : (plot : Plot) → AcceptedPlot plot → length (plot_lines plot) ≤ longest_text

@@ -32,7 +32,7 @@ use Rattle.report.specs.Inner.{HoldsPlot}
 -- ---- the rooms that the code lends
 
 -- the arrays of counts of `put_layers` and of `put_graph` have as many words as 512 and 1,024 counts take
-pub counts_lent : (1024 ≡ count_span plot_boards) × (2048 ≡ count_span plot_nodes)
+pub counts_lent : (512 ≡ count_span plot_boards) × (1024 ≡ count_span plot_nodes)
 unfolding count_span
 counts_lent = (refl, refl)
 

@@ -1,5 +1,5 @@
 -- Laws of the counts of a plot: there are structs of the code that hold the plot of an accepted file, so that what tiler knows of calls holds of the plot's
--- counts too (`of_graph`). Its layer count and its figure are below the limit; its graph has at most 1,024 nodes and 4,096 edges; both counts and the figure are the number
+-- counts too (`of_graph`). Its layer count and its figure fit 64 bits; its graph has at most 1,024 nodes and 4,096 edges; both counts and the figure are the number
 -- of cuttings. Rests on `HoldsLaws`, `CountLaws`, the crate cuttings' `Theorems` and tiler's `GivenLaws`, `NumberLaws` and `Theorems`. Assumes nothing.
 use Rattle.std.specs.Prelude.{◌≡◌, true, List, ℕ, ◌*◌, ◌^◌, ◌≤◌, ◌<◌, length}
 use Rattle.std.proofs.Common.{sym, ap, ◌∙◌, subst, lit<}

@@ -3,7 +3,7 @@
 -- free cell. The text is `report` of `Report`; its examples are in `Examples`. Each is said here in words and proved in `CountLaws`, `BuiltLaws`, `FitLaws`,
 -- `PlotLaws`, `FullLaws` or tiler's `NumberLaws`. What stands in quotation marks is 01's, or where it is said so 02's. Assumes nothing.
 use Rattle.std.specs.Prelude.{◌≡◌, refl, ◌↔◌, true, false, ℕ, ◌≤◌, ◌<◌, length, take}
-use Rattle.std.proofs.Common.{sym, ap₂, ◌∙◌, subst, ⊎_elim, lt_of_lt_of_le, arith, lit≤}
+use Rattle.std.proofs.Common.{sym, ap₂, ◌∙◌, subst, ⊎_elim, arith}
 use Rattle.std.proofs.Math.Path.{ap}
 use mathlib.Core.List.{List, [], ◌∷◌, ◌++◌, flat_map, Memᴰ as Mem}
 use Rattle.std.proofs.Math.Option.{some}
@@ -14,7 +14,6 @@ use Rattle.tiles.specs.Paths.{equal_counts}
 use Rattle.rectangle.specs.Board.{Board, is_full}
 use Rattle.choice.specs.Choice.{count_of}
 use Rattle.covers.specs.Counts.{Exactly, Numbering, Chain}
-use Rattle.path_count.specs.PathCounts.{count_limit}
 use Rattle.graph.specs.GraphLaws.{take_padded}
 use Rattle.tiler.specs.Graphs.{Graph, count_of_graph, node_list_of}
 use Rattle.tiler.specs.Inner.{marked_pieces_of}
@@ -23,8 +22,7 @@ use Rattle.tiler.specs.NumberLaws.{list_chain, list_below}
 use Rattle.plot_file.specs.PlotFile.{Plot, plot_in}
 use Rattle.plot_file.specs.Records.{BoardRecord, Hole, TileRecord, file_of, holed, tiles_held, Holds}
 use Rattle.plot_file.specs.Theorems.{accepted_iff, refusal_listed, accepted_plot, accepted_fixed, four_thousand_settle}
-use Rattle.report.specs.Report.{plot_layers, plot_cuttings, plot_graph, listed, decimal, board_line, tiles_line, plot_lines, lines_for, report, WritesReport}
-use Rattle.report.specs.DecimalLaws.{value_of, decimal_value, Digits, decimal_digits, decimal_length}
+use Rattle.report.specs.Report.{plot_layers, plot_cuttings, plot_graph, listed, board_line, tiles_line, plot_lines, lines_for, report, WritesReport}
 use Rattle.report.specs.FitLaws.{longest_text, refused_length, plot_length}
 use Rattle.report.specs.CountLaws as Count
 use Rattle.report.specs.BuiltLaws.{list_short}
@@ -60,14 +58,6 @@ accepted file plot is =
     let r = accepted_plot file plot is in record { board = r.0; laid = r.1; fixed = accepted_fixed file plot is; few = r.2; storable = r.3 }
 
 -- ---- 2. The text
-
--- What stands in the text for a number, of whatever size, are digits that read back as the number, the highest first;
-pub decimal_reads_back : (n : ℕ) → Digits (decimal n) × (value_of (decimal n) ≡ n)
-decimal_reads_back n = (decimal_digits n, decimal_value n)
-
--- for a count, which is below 2^128, at most 39 of them.
-pub count_digits : (n : ℕ) → n < count_limit → length (decimal n) ≤ 39
-count_digits n h = decimal_length 38 n (lt_of_lt_of_le h (lit≤ tt))
 
 -- No text is longer than `longest_text` bytes.
 pub report_fits : (file : List ℕ) → length (report file) ≤ longest_text

@@ -78,9 +78,9 @@ fn put_counts(out: &mut [u8], at: usize, board: RectangularBoard, tiles: Tiles) 
     ensures within { result ≤ length out.old }
 {
     let mut boards_a = [0u64; 2048];
-    let mut counts_a = [0u64; 1024];
+    let mut counts_a = [0u64; 512];
     let mut boards_b = [0u64; 2048];
-    let mut counts_b = [0u64; 1024];
+    let mut counts_b = [0u64; 512];
     let count = layers::count_tilings(
         board,
         tiles,
@@ -102,7 +102,7 @@ fn put_graph(out: &mut [u8], at: usize, board: RectangularBoard, tiles: Tiles) -
     ensures within { result ≤ length out.old }
 {
     let mut nodes = [0u64; 4096];
-    let mut counts = [0u64; 2048];
+    let mut counts = [0u64; 1024];
     let mut edges = [0u64; 8192];
     let made = tiler::generate_graph(board, tiles, &mut nodes, &mut counts, &mut edges);
     let verdict = made.verdict;

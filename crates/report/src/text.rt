@@ -33,25 +33,15 @@ pub fn put_bytes(out: &mut [u8], at: usize, bytes: &[u8]) -> usize
     next
 }
 
-fn put_decimal(out: &mut [u8], at: usize, n: PathCount) -> usize
+fn put_decimal(out: &mut [u8], at: usize, n: u64) -> usize
     requires { at ≤ length out.old }
-    ensures { Puts out.old at (decimal (count_value n)) out.new result }
+    ensures { Puts out.old at (decimal n) out.new result }
 {
-    let digit = (48 + n.last_digit()) as u8;
-    if n.less(PathCount::of_words(10, 0)) {
-        return put_byte(out, at, digit);
+    if n < 10 {
+        return put_byte(out, at, (48 + n) as u8);
     }
-    let next = put_decimal(out, at, n.tenth());
-    put_byte(out, next, digit)
-}
-
-// Some words, and a path count behind them.
-pub fn put_paths(out: &mut [u8], at: usize, words: &[u8], count: PathCount) -> usize
-    requires { at ≤ length out.old }
-    ensures { Puts out.old at (words.now ++ decimal (count_value count)) out.new result }
-{
-    let next = put_bytes(out, at, words);
-    put_decimal(out, next, count)
+    let next = put_decimal(out, at, n / 10);
+    put_byte(out, next, (48 + n % 10) as u8)
 }
 
 // Some words, and a number behind them.
@@ -59,7 +49,16 @@ pub fn put_field(out: &mut [u8], at: usize, words: &[u8], n: u64) -> usize
     requires { at ≤ length out.old }
     ensures { Puts out.old at (words.now ++ decimal n) out.new result }
 {
-    put_paths(out, at, words, PathCount::of_words(n, 0))
+    let next = put_bytes(out, at, words);
+    put_decimal(out, next, n)
+}
+
+// Some words, and a path count behind them.
+pub fn put_paths(out: &mut [u8], at: usize, words: &[u8], count: PathCount) -> usize
+    requires { at ≤ length out.old }
+    ensures { Puts out.old at (words.now ++ decimal (count_value count)) out.new result }
+{
+    put_field(out, at, words, count.low())
 }
 
 // Some words and a number as the end of a line.

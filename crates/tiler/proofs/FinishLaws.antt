@@ -52,7 +52,6 @@ use Rattle.board.specs.BoardLaws.{read_board_given}
 use Rattle.refusal.specs.RefusalLaws.{refused_given, given_inj}
 use Rattle.path_count.specs.PathCounts.{count_room, counts_for}
 use Rattle.path_count.specs.PathCountLaws.{cleared_counts_for}
-use Rattle.tiler.specs.AnswerLaws.{as_many_lem}
 use Rattle.expansion.specs.ExpansionLaws.{marked_from}
 
 -- ---- the search for the full board's node
@@ -319,14 +318,7 @@ module _ (b : RectangularBoard) (ts : Tiles) (accepted : Accepted b ts) (fixed :
             })
           where
             are : (cs ≡ counts_for (counts (entriesOf S start)) wc) × (too_large (counts (entriesOf S start)) ≡ false)
-            are =
-                pass_counts S laws (step_of (paths_in ts)) equal start ok wc cs t all
-                (omega (
-                  arith,
-                  as_many_lem (entriesOf S start),
-                  (sized room edges_room ns es growth n e holds size).0,
-                  (node_room_lem room wn wc (le_of_eq atRoom)).1,
-                )) f
+            are = pass_counts S laws (step_of (paths_in ts)) equal start ok wc cs t all f
 
             wide_nodes : 4 * room ≤ length ns
             wide_nodes = omega (arith, (node_room_lem room wn wc (le_of_eq atRoom)).0)

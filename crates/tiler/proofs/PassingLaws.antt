@@ -6,11 +6,9 @@ use mathlib.Core.List.{List, Memᴰ as Mem}
 use Prim.Native.Nat.{ℕ, zero, suc, ◌+◌, ◌*◌, ◌≤◌, ◌<◌}
 use native.Mathlib.Numerals.{add-one}
 use native.Mathlib.Decide.{dec_lt}
-use native.Mathlib.Nat.{le_trans, lt_of_lt_of_le}
 use native.Mathlib.Omega.{arith}
 use borrow.Author.Tests.{leb-true, leb-false, le-leb, lt-leb, eqb-true, eq-eqb}
 use lib.Dec.{eqb, leb, lit<}
-use lib.Pow.{pow_pos}
 use lib.ListN.{length, get_or, get_or-eq_default}
 use Rattle.cells.specs.Lists.{any, list_of}
 use Rattle.cells.specs.Parts.{cleared_from}
@@ -157,7 +155,7 @@ all_fit ns small = go (any (λ n. leb count_limit n) ns) refl
     go true q =
         let m = any_some (λ n. leb count_limit n) ns q in
         let p = mem_place ns m.0 0 m.1 in
-        absurd (false≢true (sym (lt-leb count_limit m.0 (subst (λ (n : ℕ). n < count_limit) p.2 (small p.0))) ∙ m.2))
+        absurd (false≢true (sym (lt-leb count_limit m.0 (omega (arith, small p.0, p.2))) ∙ m.2))
 
 -- ---- the counts are the path counts
 
@@ -178,9 +176,9 @@ module _ {P : Type 0} (S : Setting ℕ P) (L : Laws S) (a : ℕ) (E : EqualSteps
 
   module _ (words : ℕ) (cs : List ℕ) (r : Bool) (p : PassesEdges words edges cs r) where
     -- the words hold the path counts, and none is too large
-    pub pass_counts : length (counts (entriesOf S s)) ≤ count_room words → r ≡ true → (cs ≡ counts_for (counts (entriesOf S s)) words) × (too_large (counts (entriesOf S s)) ≡ false)
-    pass_counts lent e = (
-      p.done e ∙ count_words_counts_for (pass_to first_count edges (length edges)) (counts (entriesOf S s)) words lent (λ v h. pass_all v),
+    pub pass_counts : r ≡ true → (cs ≡ counts_for (counts (entriesOf S s)) words) × (too_large (counts (entriesOf S s)) ≡ false)
+    pass_counts e = (
+      p.done e ∙ count_words_counts_for (pass_to first_count edges (length edges)) (counts (entriesOf S s)) words (λ v h. pass_all v),
       all_fit (counts (entriesOf S s)) (λ v. subst (λ (n : ℕ). n < count_limit) (pass_all v) (p.fits e v)),
     )
 
@@ -189,10 +187,10 @@ module _ {P : Type 0} (S : Setting ℕ P) (L : Laws S) (a : ℕ) (E : EqualSteps
     unfolding too_large
     pass_too_large e =
         let w = p.large e in
-        let large : count_limit ≤ pathCountOf S s w.1 =
-        le_trans (subst (λ (n : ℕ). count_limit ≤ n) (pass_to_passed w.0 w.1 w.2) w.3) (passed_le S L a E s ok w.0 w.1) in
+        let same = pass_to_passed w.0 w.1 w.2 in
         any_true (λ n. leb count_limit n) (counts (entriesOf S s)) (pathCountOf S s w.1)
-        (inside w.1 (lt_of_lt_of_le (pow_pos 128) large)) (le-leb count_limit (pathCountOf S s w.1) large)
+        (inside w.1 (omega (arith, same, w.3, passed_le S L a E s ok w.0 w.1)))
+        (le-leb count_limit (pathCountOf S s w.1) (omega (arith, same, w.3, passed_le S L a E s ok w.0 w.1)))
       where
         inside : (v : ℕ) → 0 < pathCountOf S s v → Mem (pathCountOf S s v) (counts (entriesOf S s))
         inside v h = go (dec_lt v (length (counts (entriesOf S s))))

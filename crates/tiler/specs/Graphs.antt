@@ -62,8 +62,8 @@ unfoldable pub node_list_of : Graph → ℕ → List ℕ
 unfolding node_list_to at_node
 node_list_of g m = node_list g.edges (path_count_at g.counts) g.complete m
 
--- "8, nodes exceed node words ÷ 4 or the count words; 10, edges exceed half the edge words; 9, a path count is" too large ("2^128 or more" in 02, where the
--- count words are halved). "The last three are judged over the whole graph in that order"
+-- "8, nodes exceed node words ÷ 4 or the count words; 10, edges exceed half the edge words; 9, a path count is 2^64 or more. The last three are judged
+-- over the whole graph in that order"
 unfoldable pub judge_graph : ℕ → ℕ → Graph → Answer Graph
 unfolding too_large
 judge_graph nodes edges g =

@@ -101,7 +101,7 @@ module _ (b : RectangularBoard) (fixed : Sound b.fixed) (laid : Sound b.laid) (t
         (subst (λ (ch : ℕ → List ℕ). Exactly (pathCountOf (setting_of b ts) (start_of b) v) (ChildSequence ch (start_of b) (get_or (nodesOf (setting_of b ts) (start_of b)) v (start_of b)))) (same_children (board_of b) (paths_in ts))
         (_, graph_tilings (setting_of b ts) laws (start_of b) ok (step_of (paths_in ts)) steps v (subst (λ (ns : List ℕ). v < length ns) nodes_is h)))
 
-    -- Each path count is below the limit, 2^128.
+    -- Each path count is below the limit, 2^64.
     pub path_counts_fit : (v : ℕ) → path_count_at g.counts v < count_limit
     path_counts_fit = (graph_room b fixed laid ts node_words count_words edge_words g made).counts_fit
 

@@ -165,7 +165,7 @@ pub fn graph_in(b: RectangularBoard, tiles: TileCollection, nodes: usize, edges:
 }
 
 /// `NODES EDGES SEQUENCES OVER LAYER,...`: how large the graph and each layer are, for the choice of
-/// rooms; OVER is the first layer with a path count of 2^128 or more, or `none`. `unequal` for unequal
+/// rooms; OVER is the first layer with a path count of 2^64 or more, or `none`. `unequal` for unequal
 /// tiles, `large` if there are more nodes than the most.
 pub fn weigh(b: RectangularBoard, tiles: TileCollection, most: usize) -> String {
     if walk::are_unequal(&tiles) {

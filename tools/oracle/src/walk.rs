@@ -18,12 +18,8 @@ pub fn are_unequal(tiles: &TileCollection) -> bool {
     tiles.iter().map(size).collect::<BTreeSet<usize>>().len() > 1
 }
 
-/// A path count of two to this power or more is refused by 9. In document 01 it is 64; document 02's
-/// request 5 makes it 128.
-const COUNT_BITS: u32 = 128;
-
 fn too_great(count: &BigUint) -> bool {
-    *count >= BigUint::one() << COUNT_BITS
+    *count >= BigUint::one() << 64
 }
 
 /// The layer count with room for so many boards a layer, or the refusal. A count is the Rust's.

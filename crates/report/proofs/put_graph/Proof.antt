@@ -23,7 +23,7 @@ returns c =
     let call = told.before.before.before.before.before.before in
     let start = call.before.before.before.before.before in (
       λ p h.
-          let g = made_given p _ _ h (replicate 4096 0) (replicate 2048 0) (replicate 8192 0) refl counts_lent.1 refl call.generate-graph.ensures.0 (fixed start) (laid start) told.enum_told.given.1 in
+          let g = made_given p _ _ h (replicate 4096 0) (replicate 1024 0) (replicate 8192 0) refl counts_lent.1 refl call.generate-graph.ensures.0 (fixed start) (laid start) told.enum_told.given.1 in
           puts_as (ap graph_lines (sym g.1)) (put.put-given.ensures.0 g.0 g.2),
       put.put-given.ensures.1,
     )
@@ -36,7 +36,7 @@ returns-2 c =
     let call = told.before.before.before.before.before.before in
     let start = call.before.before.before.before.before in (
       λ p h.
-          puts_as (ap graph_lines (sym (made_refused p _ _ h (replicate 4096 0) (replicate 2048 0) (replicate 8192 0) refl counts_lent.1 refl call.generate-graph.ensures.0 _ told.verdict.given.1)))
+          puts_as (ap graph_lines (sym (made_refused p _ _ h (replicate 4096 0) (replicate 1024 0) (replicate 8192 0) refl counts_lent.1 refl call.generate-graph.ensures.0 _ told.verdict.given.1)))
           put.put-no-graph.ensures,
       puts_within start.requires put.put-no-graph.ensures,
     )

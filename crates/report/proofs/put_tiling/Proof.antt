@@ -39,7 +39,7 @@ returns c =
     let number = call.before.before in
     let start = number.before.before.before.before.before in
     let gives = gives_same start.args.graph start.args.nodes.now start.args.counts.now start.args.edges.now _ start.args.m _ _ call.tiling-by-number.result
-    (word_count start.args.m _ number.of_words.ensures) call.tiling-by-number.ensures.0 in (
+    (word_count start.args.m (search rules) _ number.of_words.ensures) call.tiling-by-number.ensures.0 in (
       λ g built below.
           puts_as (ap (λ (l : List ℕ). field "tiling " start.args.m ++ ascii ":" ++ flat_map (field " ") l ++ feed)
           (told_list start.args.graph start.args.nodes.now start.args.counts.now start.args.edges.now start.args.m _ _ call.tiling-by-number.result gives built below refl _ told.tiling.given.1)) put.put-list.ensures,
@@ -52,7 +52,7 @@ returns-2 c =
     let number = call.before.before in
     let start = number.before.before.before.before.before in
     let gives = gives_same start.args.graph start.args.nodes.now start.args.counts.now start.args.edges.now _ start.args.m _ _ call.tiling-by-number.result
-    (word_count start.args.m _ number.of_words.ensures) call.tiling-by-number.ensures.0 in
+    (word_count start.args.m (search rules) _ number.of_words.ensures) call.tiling-by-number.ensures.0 in
     (λ g built below. absurd (told_given start.args.graph start.args.nodes.now start.args.counts.now start.args.edges.now start.args.m _ _ call.tiling-by-number.result gives built below refl _ c.enum_told.given.1), start.requires)
 
 pub put_tiling_spec : {M : Type 1} → statement M

@@ -41,7 +41,7 @@ returns c =
     let less = c.before in
     let at = less.before.before.before in
     let inv = at.loop.invariant in
-    let past = not_below _ _ _ less.before.of_words.ensures (sym less.less.ensures ∙ not-true _ c.if1.true) in
+    let past = not_below _ _ _ inv.0 less.before.of_words.ensures (sym less.less.ensures ∙ not-true _ c.if1.true) in
     (λ g built counted. puts_listed g _ (omega (arith, counted, inv.0, inv.1, past)) (inv.4 g built counted), inv.2)
 
 put-tiling-requires : tie.Need-put-tiling-requires invariant-loop decreases-loop
@@ -54,7 +54,7 @@ loop-again c =
     let less = branch.before in
     let at = less.before.before.before in
     let inv = at.loop.invariant in
-    let below = is_below _ _ _ less.before.of_words.ensures (sym less.less.ensures ∙ not-false _ branch.if1.false) in (
+    let below = is_below _ _ _ inv.0 less.before.of_words.ensures (sym less.less.ensures ∙ not-false _ branch.if1.false) in (
       omega (arith, less.before.before.loop-test.true),
       omega (arith, below),
       omega (arith, call.put-tiling.ensures.1, inv.3),

@@ -1,4 +1,5 @@
 -- `layers::counting::count_accepted` meets its contract: no room, a full start, or layer 0 in the first words and the layers from it on. Assumes nothing.
+use lib.Dec.{lit<}
 use Prim.Native.Nat.{◌^◌, ◌<◌}
 use native.Mathlib.Omega.{arith}
 use Rattle.cells.specs.Set.{number}
@@ -27,7 +28,7 @@ returns-2 c =
     let f = c.before.before in
     let s = f.before.before.before.before.before.before.before in
     start_full _ _ s.requires.0 (small_fixed s) (small_laid s) _ f.free-cells.ensures _ _ f.before.before.layer-room.ensures f.before.if1.false
-    _ (word_count 0 _ c.of_words.ensures) c.before.if2.true
+    _ (word_count 0 (lit< tt) _ c.of_words.ensures) c.before.if2.true
 
 start-requires : tie.Need-start-requires
 start-requires c κs =

@@ -1,5 +1,6 @@
 -- `layers::counting::start` meets its contract: the marks are stored as the first board, and its count is 1.
 -- Assumes nothing.
+use lib.Dec.{lit<}
 use Rattle.path_count.specs.PathCountLaws.{word_count}
 use Rattle.layers.proofs.StartLaws.{first_entries}
 use borrow.Author.Rules.{rules}
@@ -13,7 +14,7 @@ returns c =
     let p = one.before.before.before.before in
     let m = p.before in
     let s = m.before.before.before.before in
-    first_entries s.args.board _ s.args.counts.now _ _ _ _ m.marks.ensures (word_count 1 _ one.of_words.ensures) p.put.ensures k.put2.ensures
+    first_entries s.args.board _ s.args.counts.now _ _ _ _ m.marks.ensures (word_count 1 (lit< tt) _ one.of_words.ensures) p.put.ensures k.put2.ensures
     s.requires.0 s.requires.1
 
 pub start_spec : {M : Type 1} → statement M

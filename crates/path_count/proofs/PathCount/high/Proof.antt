@@ -1,6 +1,6 @@
--- `path_count::PathCount::high` meets its contract: the high word is the rest.
+-- `path_count::PathCount::high` meets its contract: a count is one word.
 -- Assumes nothing.
-use Rattle.path_count.specs.PathCountLaws.{high_word}
+use Rattle.path_count.proofs.Sums.{high_word}
 use Rattle.path_count.specs.PathCounts.{count_value}
 use Rattle.std.proofs.Common.{rules}
 use Rattle.path_count.proofs.PathCount.high.Statement.{statement}
@@ -8,7 +8,7 @@ use Rattle.path_count.proofs.PathCount.high.Tie as tie
 
 returns : tie.Need-returns
 unfolding count_value
-returns c = high_word _ _ (search rules)
+returns c = high_word _ (search rules)
 
 pub high_spec : {M : Type 1} → statement M
 high_spec = tie.close (tie.spec returns)

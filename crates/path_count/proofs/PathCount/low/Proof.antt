@@ -1,6 +1,6 @@
--- `path_count::PathCount::low` meets its contract: the low word is what 2 ^ 64 leaves over.
+-- `path_count::PathCount::low` meets its contract: a count is one word.
 -- Assumes nothing.
-use Rattle.path_count.specs.PathCountLaws.{low_word}
+use Rattle.path_count.proofs.Sums.{low_word}
 use Rattle.path_count.specs.PathCounts.{count_value}
 use Rattle.std.proofs.Common.{rules}
 use Rattle.path_count.proofs.PathCount.low.Statement.{statement}
@@ -8,7 +8,7 @@ use Rattle.path_count.proofs.PathCount.low.Tie as tie
 
 returns : tie.Need-returns
 unfolding count_value
-returns c = low_word _ _ (search rules)
+returns c = low_word _ (search rules)
 
 pub low_spec : {M : Type 1} → statement M
 low_spec = tie.close (tie.spec returns)

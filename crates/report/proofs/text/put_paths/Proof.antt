@@ -1,14 +1,20 @@
--- `report::text::put_paths` meets its contract: the words, then the digits. Assumes nothing.
-use Rattle.report.specs.TextLaws.{puts_inside, puts_append}
+-- `report::text::put_paths` meets its contract: a count is its low word. Assumes nothing.
+use mathlib.Core.Path.{ap}
+use mathlib.Core.List.{◌++◌}
+use Prim.Native.Nat.{ℕ}
+use Rattle.path_count.specs.PathCountLaws.{count_small}
+use Rattle.report.specs.Report.{decimal}
+use Rattle.report.specs.TextLaws.{puts_as}
+use Rattle.report.specs.CountLaws.{low_is}
 use borrow.Author.Rules.{rules}
 use Rattle.report.proofs.text.put_paths.Statement.{statement}
 use Rattle.report.proofs.text.put_paths.Tie as tie
 
-put-decimal-requires : tie.Need-put-decimal-requires
-put-decimal-requires c κs = let first = c.before.before.before in puts_inside first.before.before.before.before.requires first.put-bytes.ensures
-
 returns : tie.Need-returns
-returns c = let first = c.before.before.before.before.before.before in puts_append first.before.before.before.before.requires first.put-bytes.ensures c.before.before.put-decimal.ensures
+returns c =
+    let put = c.before.before in
+    let start = put.before.before.before.before.before in
+    puts_as (ap (λ (n : ℕ). start.args.words.now ++ decimal n) (low_is _ (count_small start.args.count (search rules)) _ put.before.low.ensures)) put.put-field.ensures
 
 pub put_paths_spec : {M : Type 1} → statement M
-put_paths_spec = tie.close (tie.spec (λ c κs. search rules) put-decimal-requires (λ c. search rules) returns)
+put_paths_spec = tie.close (tie.spec (λ c κs. search rules) (λ c κs. search rules) (λ c. search rules) returns)
