@@ -7,7 +7,7 @@ ghost use Rattle.archive.specs.Inner.{candidate_of};
 use crate::{FoundRecord, Record};
 
 // The record that counts so far.
-#[derive(Drop)]
+#[derive(Clone, Copy, Drop)]
 pub enum Candidate {
     Nothing,
     Is(Record),

@@ -5,6 +5,7 @@
 //
 // What each call answers is a definition of specs/Archive.antt; what that means is on the page
 // specs/Theorems.antt.
+#![tactic(auto)]
 ghost use Rattle.std.specs.Prelude.{◌≡◌, length};
 ghost use Rattle.refusal.specs.Refusal.{verdict_number};
 ghost use Rattle.archive.specs.Archive.{count_records, record_at, current_record, write_record, record_count_answer, record_answer, LeavesOutcome};
@@ -18,7 +19,7 @@ mod output;
 use candidate::Candidate;
 
 // A record of an archive file; its count is two words, low and high.
-#[derive(Drop)]
+#[derive(Clone, Copy, Drop)]
 pub struct Record {
     pub id: u16,
     pub year: u16,
@@ -28,7 +29,7 @@ pub struct Record {
 }
 
 // How many records a file holds, or the place of its earliest broken record (13).
-#[derive(Drop)]
+#[derive(Clone, Copy, Drop)]
 pub enum RecordCount {
     Number(usize),
     Broken(usize),
@@ -36,7 +37,7 @@ pub enum RecordCount {
 
 // A record of a file, or the place of its earliest broken record (13), or that there is no such
 // record (14).
-#[derive(Drop)]
+#[derive(Clone, Copy, Drop)]
 pub enum FoundRecord {
     Is(Record),
     Broken(usize),

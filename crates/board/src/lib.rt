@@ -5,6 +5,7 @@
 // one or fix one test the board and hand on its refusal; `of_marks`, `with_marks`, `marks` and
 // `mark_tile_at_position` put sets together, which any numbers have. What each call answers is a
 // definition of specs/Board.antt. The struct is put together in `of_marks` alone.
+#![tactic(auto)]
 ghost use Rattle.std.specs.Prelude.{◌≡◌, true, [], ◌∷◌};
 ghost use Rattle.cells.specs.Set.{union_of, value, number};
 ghost use Rattle.refusal.specs.Refusal.{map_answer, refusal_of, refusal_number, verdict_number};
@@ -19,7 +20,7 @@ use refusal::{Refusal, Verdict};
 mod shape;
 
 // A board by its size and its two kinds of marks.
-#[derive(Drop)]
+#[derive(Clone, Copy, Drop)]
 pub struct RectangularBoard {
     pub width: usize,
     pub height: usize,
@@ -28,19 +29,19 @@ pub struct RectangularBoard {
 }
 
 // A board, or a refusal and the 0 by 0 board.
-#[derive(Drop)]
+#[derive(Clone, Copy, Drop)]
 pub struct MadeBoard {
     pub verdict: Verdict,
     pub board: RectangularBoard,
 }
 
-#[derive(Drop)]
+#[derive(Clone, Copy, Drop)]
 pub enum FreeCells {
     Number(usize),
     Refused(Refusal),
 }
 
-#[derive(Drop)]
+#[derive(Clone, Copy, Drop)]
 pub enum AllMarked {
     Is(bool),
     Refused(Refusal),

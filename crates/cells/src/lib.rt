@@ -3,6 +3,7 @@
 // A set is four words: cell (row, column) is bit 16 * row + column, counted from the lowest bit of
 // the first word. Each contract reads the words as one number and gives the answer by a definition
 // of specs/Set.antt. Nothing is asked of the caller: a number past 255 is no cell and is in no set.
+#![tactic(auto)]
 ghost use Rattle.std.specs.Prelude.{◌≡◌, [], ◌∷◌, ◌^◌, ◌<◌, eqb};
 ghost use Rattle.cells.specs.Set.{has_cell, with_cell, union_of, value, number};
 ghost use Rattle.cells.specs.Parts.{shares_cell};
@@ -10,7 +11,7 @@ ghost use Rattle.cells.specs.Parts.{shares_cell};
 pub mod list;
 
 // The four words, the lowest first.
-#[derive(Drop)]
+#[derive(Clone, Copy, Drop)]
 pub struct Cells {
     pub w0: u64,
     pub w1: u64,

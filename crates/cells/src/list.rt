@@ -9,7 +9,7 @@ ghost use Rattle.cells.specs.Parts.{find_set, found_answer, with_set, cleared_fr
 use crate::Cells;
 
 // The place of a set.
-#[derive(Drop)]
+#[derive(Clone, Copy, Drop)]
 pub enum Found {
     At(usize),
     Nothing,

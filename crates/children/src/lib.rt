@@ -1,6 +1,7 @@
 // The children of a board, from the Rust's board.rs. Nothing is asked of a caller: board and tiles are
 // tested and refused. What the call answers and leaves in the lent words is a definition of
 // specs/Children.antt.
+#![tactic(auto)]
 ghost use Rattle.std.specs.Prelude.{◌≡◌};
 ghost use Rattle.refusal.specs.Refusal.{refusal_of, verdict_number};
 ghost use Rattle.board.specs.Board.{board_of};
@@ -16,7 +17,7 @@ use tiles::Tiles;
 mod placing;
 
 // The number of children that were written.
-#[derive(Drop)]
+#[derive(Clone, Copy, Drop)]
 pub enum Children {
     Number(usize),
     Refused(Refusal),

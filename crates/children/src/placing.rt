@@ -21,7 +21,7 @@ use fit::Fit;
 use tiles::{Contains, Tiles};
 
 // How many children are stored; full where there was one more than the words hold.
-#[derive(Drop)]
+#[derive(Clone, Copy, Drop)]
 pub enum Stored {
     Number(usize),
     Full,

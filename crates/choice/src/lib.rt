@@ -1,5 +1,6 @@
 // Neighbour counts and the chosen cell. Nothing is asked of a caller: any numbers and any marks have an
 // answer, which is a definition of specs/Parts.antt.
+#![tactic(auto)]
 ghost use Rattle.std.specs.Prelude.{◌≡◌};
 ghost use Rattle.cells.specs.Set.{number};
 ghost use Rattle.choice.specs.Parts.{chosen_for};
@@ -12,7 +13,7 @@ mod counts;
 mod scan;
 
 // The chosen cell and its neighbour count; full where no cell is free.
-#[derive(Drop)]
+#[derive(Clone, Copy, Drop)]
 pub enum ChosenCell {
     Cell(usize, u8),
     Full,

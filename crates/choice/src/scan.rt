@@ -10,7 +10,7 @@ use crate::ChosenCell;
 use cells::Cells;
 
 // How far a scan is: the best of the cells so far, and the bit number of the place it has come to.
-#[derive(Drop)]
+#[derive(Clone, Copy, Drop)]
 struct Scan {
     best: ChosenCell,
     cell: usize,

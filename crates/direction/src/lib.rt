@@ -1,26 +1,27 @@
 // Directions by their codes: 0 to 7 are Up, Down, Left, Right, UpLeft, UpRight, DownRight,
 // DownLeft, as the Rust's enum has them. Every other code is refused.
+#![tactic(auto)]
 ghost use Rattle.std.specs.Prelude.{◌≡◌};
 ghost use Rattle.direction.specs.Direction.{step, opposite, rotate, reflect, on_code, offset_answer, code_answer};
 
 use refusal::Refusal;
 
 // The line about which a tile is reflected: Vertical swaps left and right, Horizontal up and down.
-#[derive(Drop)]
+#[derive(Clone, Copy, Drop)]
 pub enum Axis {
     Vertical,
     Horizontal,
 }
 
 // The row step and the column step of a code, rows growing downward.
-#[derive(Drop)]
+#[derive(Clone, Copy, Drop)]
 pub enum Offset {
     By(i64, i64),
     Refused(Refusal),
 }
 
 // The code of another direction.
-#[derive(Drop)]
+#[derive(Clone, Copy, Drop)]
 pub enum Code {
     Is(u8),
     Refused(Refusal),

@@ -5,6 +5,7 @@
 // What each call answers is a definition of specs/Parts.antt. What is refused of a board and tiles,
 // and what a cutting is, is defined in specs/Plots.antt; specs/Boards.antt is the setting by which the
 // laws of the crate `covers` speak of boards.
+#![tactic(auto)]
 ghost use Rattle.std.specs.Prelude.{◌≡◌, cond, ◌≤◌, eqb};
 ghost use Rattle.cells.specs.Set.{number};
 ghost use Rattle.refusal.specs.Refusal.{given, map_answer};
@@ -22,7 +23,7 @@ use tiles::Tiles;
 
 // The number of cells that each piece covers, 1 with no tiles; or a refusal of the board or the
 // tiles.
-#[derive(Drop)]
+#[derive(Clone, Copy, Drop)]
 pub enum Judged {
     Size(usize),
     Refused(Refusal),

@@ -1,5 +1,6 @@
 // The fit: where a path lies with one of its points on a cell. Nothing is asked of a caller: any marks,
 // numbers and codes have an answer, which is a definition of specs/Parts.antt.
+#![tactic(auto)]
 ghost use Rattle.std.specs.Prelude.{◌≡◌};
 ghost use Rattle.cells.specs.Set.{number};
 ghost use Rattle.fit.specs.Parts.{fit_in, fit_pieces};
@@ -9,7 +10,7 @@ use cells::Cells;
 mod walk;
 
 // The set of cells that a tile covers, in four words, or nothing where it does not fit.
-#[derive(Drop)]
+#[derive(Clone, Copy, Drop)]
 pub enum Fit {
     Piece(u64, u64, u64, u64),
     Nothing,

@@ -2,6 +2,7 @@
 // order of their numbers; beside each stands a path count; edges are pairs of words, (parent, child),
 // in stored order. The Rust has Vec<RectangularBoard> and HashMap<usize, HashSet<usize>>. A node or an
 // edge whose words are not all lent reads as none, so that nothing is asked of a caller.
+#![tactic(auto)]
 ghost use Rattle.std.specs.Prelude.{◌≡◌, ◌/◌, min, length, set};
 ghost use Rattle.path_count.specs.PathCounts.{count_value};
 ghost use Rattle.graph.specs.Graph.{node_part, edges_in, edges_from, GetsEdges, complete_node, count_from_graph};
@@ -14,14 +15,14 @@ use refusal::Refusal;
 pub mod rooms;
 
 // How many edges were written.
-#[derive(Drop)]
+#[derive(Clone, Copy, Drop)]
 pub enum Edges {
     Number(usize),
     Refused(Refusal),
 }
 
 // The full board's node, or none.
-#[derive(Drop)]
+#[derive(Clone, Copy, Drop)]
 pub enum Complete {
     Node(usize),
     Nothing,
@@ -29,7 +30,7 @@ pub enum Complete {
 
 // What comes back of a graph whose nodes, counts and edges are in lent words: how many nodes and
 // edges there are, and the full board's node.
-#[derive(Drop)]
+#[derive(Clone, Copy, Drop)]
 pub struct GraphResult {
     pub nodes: usize,
     pub edges: usize,

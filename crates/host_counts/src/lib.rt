@@ -1,6 +1,7 @@
 // Calls over a host's words that count: the layer count, the figure called cuttings, and the graph. Each
 // tests the shapes of its slices and then hands on what the call of the lower crate answers; after a
 // refusal every lent word is zero. Nothing is asked of a caller.
+#![tactic(auto)]
 ghost use Rattle.std.specs.Prelude.{length};
 ghost use Rattle.graph.specs.Graph.{layer_room};
 ghost use Rattle.host_counts.specs.Calls.{counted, cuttings_counted, AnswersCount, generated, AnswersGraph};

@@ -2,6 +2,7 @@
 // it hands in, and tiles that are written into the bytes that it lends, zeros behind them. A byte that
 // is not lent reads as 0, and as many bytes are written as are lent, so that nothing is asked of a
 // caller.
+#![tactic(auto)]
 ghost use Rattle.std.specs.Prelude.{◌≡◌, ◌+◌, ◌*◌, ◌/◌, ◌%◌, length, get_or};
 ghost use Rattle.cells.specs.Lists.{list_of};
 ghost use Rattle.host_tiles.specs.TileBytes.{tile_in, tiles_in, stored_byte, struct_bytes};

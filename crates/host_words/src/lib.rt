@@ -2,6 +2,7 @@
 // answers and boards that are written into the words that it lends, zeros behind them. A word that is
 // not lent reads as 0, and as many words are written as are lent, so that nothing is asked of a
 // caller.
+#![tactic(auto)]
 ghost use Rattle.std.specs.Prelude.{◌≡◌, [], ◌∷◌, length, get_or};
 ghost use Rattle.refusal.specs.Refusal.{refused, given, refusal_number, verdict_number};
 ghost use Rattle.board.specs.Board.{board_of};

@@ -17,7 +17,7 @@ use tiles::Tiles;
 
 // A start and tiles that have been tested, the number of cells that each piece covers, and the room of
 // a layer.
-#[derive(Drop)]
+#[derive(Clone, Copy, Drop)]
 pub struct Setup {
     pub board: RectangularBoard,
     pub tiles: Tiles,
@@ -27,7 +27,7 @@ pub struct Setup {
 
 // How many boards a layer has that has grown, and how many free cells each of them has; or the
 // refusal of a layer.
-#[derive(Drop)]
+#[derive(Clone, Copy, Drop)]
 enum Grown {
     Boards(usize, usize),
     Refused(Refusal),

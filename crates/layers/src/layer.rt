@@ -20,7 +20,7 @@ use tiles::Tiles;
 
 // How many boards a layer has, and whether a path count is too large; no room where there was one
 // board more than the room.
-#[derive(Drop)]
+#[derive(Clone, Copy, Drop)]
 pub enum Layer {
     Boards(usize, bool),
     NoRoom,

@@ -4,6 +4,7 @@
 //
 // What the call answers and leaves in the lent words (`answer`), and what the count has to do with
 // cuttings (`cuttings`), are definitions of specs/LayerCounts.antt.
+#![tactic(auto)]
 ghost use Rattle.layers.specs.LayerCounts.{CountsTilings, CountsCuttings};
 
 use board::RectangularBoard;
@@ -17,7 +18,7 @@ mod from_layer;
 mod layer;
 
 // The path count of the full board, or a refusal.
-#[derive(Drop)]
+#[derive(Clone, Copy, Drop)]
 pub enum Count {
     Number(PathCount),
     Refused(Refusal),

@@ -1,6 +1,7 @@
 // The tiling by number: the node list with a number, of any graph words and any result, by the walk by
 // turns backward from the full board's node. The Rust's render_all_tilings walks the same lists. Nothing
 // is asked of a caller: words that are no graph's are refused.
+#![tactic(auto)]
 ghost use Rattle.std.specs.Prelude.{◌≡◌, length};
 ghost use Rattle.refusal.specs.Refusal.{map_answer};
 ghost use Rattle.covers.specs.Counts.{at_node};
@@ -17,7 +18,7 @@ mod check;
 mod walk;
 
 // How many nodes the list of a tiling has, or a refusal.
-#[derive(Drop)]
+#[derive(Clone, Copy, Drop)]
 pub enum Tiling {
     Length(usize),
     Refused(Refusal),

@@ -11,7 +11,7 @@ use crate::check;
 use path_count::PathCount;
 
 // A parent, and what is left of a number when the turns before the parent's are subtracted.
-#[derive(Drop)]
+#[derive(Clone, Copy, Drop)]
 pub struct Turn {
     pub parent: usize,
     pub left: PathCount,

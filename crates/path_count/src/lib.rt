@@ -2,18 +2,19 @@
 // writing of a count is here: other crates know the number that a count is (`count_value`) and the number
 // that stands in the words (`count_in`), never the words themselves. Nothing is asked of a caller: a count
 // that is not lent reads as 0 and is not stored.
+#![tactic(auto)]
 ghost use Rattle.std.specs.Prelude.{◌≡◌, ◌+◌, ◌-◌, ◌*◌, ◌/◌, ◌%◌, ◌^◌, min, if◌then◌else◌, ◌==◌, nat_le, nat_lt};
 ghost use Rattle.std.proofs.Math.Option.{none, some};
 ghost use Rattle.path_count.specs.PathCounts.{count_limit, count_value, count_room, count_in};
 ghost use Rattle.path_count.specs.Parts.{sum_answer, with_count, AddsCount};
 
 // A path count: a number below the limit, 2^64.
-#[derive(Drop)]
+#[derive(Clone, Copy, Drop)]
 pub struct PathCount {
     pub word: u64,
 }
 
-#[derive(Drop)]
+#[derive(Clone, Copy, Drop)]
 pub enum Sum {
     Is(PathCount),
     TooLarge,

@@ -3,6 +3,7 @@
 // The text is `report` of the file's bytes (crate report, specs/Report.antt), put together by
 // `report::write_report`; here it is only read and written. 4,096 bytes settle any file, however long
 // it is, and 65,536 bytes hold every text (report/specs/Theorems.antt).
+#![tactic(auto)]
 use libc::{STDIN_FILENO, STDOUT_FILENO};
 
 fn main() {

@@ -12,7 +12,7 @@ use refusal::{Refusal, Verdict};
 use tile::Tile;
 
 // A tile's body: the tile and the place behind it, or a refusal.
-#[derive(Drop)]
+#[derive(Clone, Copy, Drop)]
 pub struct Body {
     pub verdict: Verdict,
     pub tile: Tile,

@@ -6,6 +6,7 @@
 // back by value. Over the core stands the plot reader (reader.rt), a struct that holds the slice and a
 // position in it. `read_plot` makes one and goes through the file with it: it reads the record at the
 // position, and moves the position to where the next one begins.
+#![tactic(auto)]
 ghost use Rattle.refusal.specs.Refusal.{refused, given, refusal_number};
 ghost use Rattle.plot_file.specs.PlotFile.{plot_in, ReadsPlot};
 ghost use Rattle.plot_file.specs.Inner.{plot_of, Kept};
@@ -23,7 +24,7 @@ mod reader;
 mod records;
 
 // A board and tiles, or a refusal with the 0 by 0 board and no tiles.
-#[derive(Drop)]
+#[derive(Clone, Copy, Drop)]
 pub struct MadePlot {
     pub verdict: Verdict,
     pub board: RectangularBoard,

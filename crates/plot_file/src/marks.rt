@@ -7,7 +7,7 @@ ghost use Rattle.plot_file.specs.Inner.{mark_answer, marked_answer};
 use refusal::Refusal;
 
 // The marks of the records.
-#[derive(Drop)]
+#[derive(Clone, Copy, Drop)]
 pub enum Mark {
     RB,
     LB,
@@ -19,7 +19,7 @@ pub enum Mark {
 }
 
 // A mark, whose record goes on two bytes behind its own place, or a refusal.
-#[derive(Drop)]
+#[derive(Clone, Copy, Drop)]
 pub enum Marked {
     Is(Mark),
     Refused(Refusal),

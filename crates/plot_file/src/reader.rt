@@ -9,7 +9,7 @@ use crate::records;
 use crate::records::{Plot, Step};
 
 // A file, and how far it has been read.
-#[derive(Drop)]
+#[derive(Clone, Copy, Drop)]
 pub struct PlotReader<'a> {
     pub file: &'a [u8],
     pub at: usize,

@@ -22,14 +22,14 @@ use tile::Tile;
 use tiles::Tiles;
 
 // What has been read.
-#[derive(Drop)]
+#[derive(Clone, Copy, Drop)]
 pub struct Plot {
     pub board: RectangularBoard,
     pub tiles: Tiles,
 }
 
 // Where the next record begins, or that the file ends here, or a refusal.
-#[derive(Drop)]
+#[derive(Clone, Copy, Drop)]
 pub enum Next {
     At(usize),
     End,
@@ -37,7 +37,7 @@ pub enum Next {
 }
 
 // What a record leaves: where to go on, and the plot with what it adds.
-#[derive(Drop)]
+#[derive(Clone, Copy, Drop)]
 pub struct Step {
     pub next: Next,
     pub plot: Plot,

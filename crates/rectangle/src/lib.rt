@@ -1,5 +1,6 @@
 // The rectangle of a board: sizes, cells, and steps from a place. Nothing is asked of a caller; what
 // each call answers is a definition of specs/: Board.antt for sizes and cells, Parts.antt for steps.
+#![tactic(auto)]
 ghost use Rattle.std.specs.Prelude.{◌≡◌};
 ghost use Rattle.direction.specs.Direction.{at};
 ghost use Rattle.rectangle.specs.Board.{position_of, inside, size_ok};
@@ -8,7 +9,7 @@ ghost use Rattle.rectangle.specs.Parts.{place_answer, place_if, place_after};
 use direction::Offset;
 
 // A place of the board by its row and column, or none.
-#[derive(Drop)]
+#[derive(Clone, Copy, Drop)]
 pub enum Place {
     At(usize, usize),
     Nowhere,

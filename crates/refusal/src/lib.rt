@@ -1,12 +1,13 @@
 // The refusals of all crates, by cause. `number` gives the number that document 01, or the request
 // that brought the refusal, gives each.
+#![tactic(auto)]
 ghost use Rattle.std.specs.Prelude.{◌≡◌};
 ghost use Rattle.refusal.specs.Refusal.{refusal_number};
 
 // A plot file: Cut, UnknownMark, Misplaced. Input: BadBoard, BadTile, TooManyTiles, UnequalTiles.
 // Lent words: NoRoom, NoRoomForEdges. A path count past its limit: CountTooLarge. The tiling by
 // number: BadGraph, NoSuchTiling. An archive file: BrokenRecord, NoSuchRecord. A hole: BadHole.
-#[derive(Drop)]
+#[derive(Clone, Copy, Drop)]
 pub enum Refusal {
     Cut,
     UnknownMark,
@@ -26,7 +27,7 @@ pub enum Refusal {
 }
 
 // What a test of some input answers.
-#[derive(Drop)]
+#[derive(Clone, Copy, Drop)]
 pub enum Verdict {
     Accepted,
     Refused(Refusal),

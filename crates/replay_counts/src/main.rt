@@ -5,6 +5,7 @@
 //
 // The form of a line is said in crate replay_text. Another command is a function of counts.rt or
 // tilings.rt and a line of `answer`.
+#![tactic(auto)]
 use replay_text::text::{field, same};
 use replay_text::{lines, write};
 

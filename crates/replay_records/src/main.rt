@@ -4,6 +4,7 @@
 //
 // The form of a line is said in crate replay_text. Another command is a function of commands.rt and a
 // line of `answer` or of `commands::answer`.
+#![tactic(auto)]
 use replay_text::text::{field, same};
 use replay_text::{lines, write};
 

@@ -7,7 +7,7 @@ use libc::STDIN_FILENO;
 
 // A line: its bytes are those between the two places; so many of the lent bytes hold what has been
 // read. `is_there` is false before the first line and behind the last.
-#[derive(Drop)]
+#[derive(Clone, Copy, Drop)]
 pub struct Line {
     pub from: usize,
     pub end: usize,

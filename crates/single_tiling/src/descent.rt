@@ -17,14 +17,14 @@ use choice::ChosenCell;
 use fit::Fit;
 
 // The number of boards in the lent words, or nothing where no full board is reached.
-#[derive(Drop)]
+#[derive(Clone, Copy, Drop)]
 pub enum Found {
     Boards(usize),
     Nothing,
 }
 
 // The cell on which pieces are put; nowhere where the board is pruned or full.
-#[derive(Drop)]
+#[derive(Clone, Copy, Drop)]
 enum Place {
     Cell(usize),
     Nowhere,

@@ -5,6 +5,7 @@
 //
 // What the call answers and leaves in the lent words is a definition of specs/SingleTiling.antt. What
 // follows from the contract is on specs/Theorems.antt.
+#![tactic(auto)]
 ghost use Rattle.std.specs.Prelude.{◌≡◌, ◌/◌, length};
 ghost use Rattle.refusal.specs.Refusal.{map_answer};
 ghost use Rattle.tiles.specs.Paths.{contains_single, paths_in};
@@ -24,7 +25,7 @@ mod sums;
 
 // The number of boards from the start to a full one, nothing where no child sequence of one piece or
 // more reaches one, or a refusal.
-#[derive(Drop)]
+#[derive(Clone, Copy, Drop)]
 pub enum SingleTiling {
     Boards(usize),
     Nothing,

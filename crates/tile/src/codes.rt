@@ -23,7 +23,7 @@ pub fn all_ok(path: &[u8]) -> bool
 }
 
 // How a tile is moved.
-#[derive(Drop)]
+#[derive(Clone, Copy, Drop)]
 pub enum Motion {
     Rotate,
     Reflect(Axis),

@@ -4,6 +4,7 @@
 // The struct holds any numbers; a call that is handed one tests it and refuses, by 5 (a path over 32
 // or a code over 7), so that nothing is asked of a caller. What each call answers is a definition of
 // specs/Path.antt.
+#![tactic(auto)]
 ghost use Rattle.std.specs.Prelude.{◌≡◌, []};
 ghost use Rattle.refusal.specs.Refusal.{refusal_number, map_answer, refusal_of, verdict_number};
 ghost use Rattle.tile.specs.Path.{is_path, cell_count, rotated, reflected, read_tile, read_path, tile_of, MakesTile, cell_count_answer, l_tile, t_tile};
@@ -16,20 +17,20 @@ mod codes;
 mod points;
 
 // A tile's path: the first len of the codes.
-#[derive(Drop)]
+#[derive(Clone, Copy, Drop)]
 pub struct Tile {
     pub len: usize,
     pub codes: [u8; 32],
 }
 
 // A tile, or a refusal and the empty path. (An enum cannot hold an array.)
-#[derive(Drop)]
+#[derive(Clone, Copy, Drop)]
 pub struct MadeTile {
     pub verdict: Verdict,
     pub tile: Tile,
 }
 
-#[derive(Drop)]
+#[derive(Clone, Copy, Drop)]
 pub enum CellCount {
     Is(usize),
     Refused(Refusal),

@@ -8,7 +8,7 @@ ghost use Rattle.tile.specs.Path.{codes_ok, cell_count};
 ghost use Rattle.tile.specs.Inner.{key_step, keys_in};
 
 // The first n keys are those of the points seen so far, each once.
-#[derive(Drop)]
+#[derive(Clone, Copy, Drop)]
 pub struct Keys {
     pub n: usize,
     pub keys: [usize; 33],

@@ -30,7 +30,7 @@ use tiles::Tiles;
 
 // How many nodes and edges a graph has, the edges past their room counting as one; no room where there
 // was one node more than the room.
-#[derive(Drop)]
+#[derive(Clone, Copy, Drop)]
 pub enum Growth {
     Size(usize, usize),
     NoRoom,

@@ -7,6 +7,7 @@
 // specs/Cuttings.antt, for the figure. What follows from the graph's contract and from that of the layer
 // count is on specs/Theorems.antt and specs/CuttingTheorems.antt, what the figure means on the crate
 // `cuttings`' specs/Theorems.antt.
+#![tactic(auto)]
 ghost use Rattle.cuttings.specs.Cuttings.{AnswersCuttings, IsNumberOfCuttings};
 ghost use Rattle.tiler.specs.Graphs.{GeneratesGraph, NumbersCuttings};
 
@@ -20,7 +21,7 @@ use tiles::Tiles;
 mod building;
 
 // A graph, or a refusal and a graph of no nodes.
-#[derive(Drop)]
+#[derive(Clone, Copy, Drop)]
 pub struct MadeGraph {
     pub verdict: Verdict,
     pub graph: GraphResult,

@@ -4,6 +4,7 @@
 // The struct holds any numbers; a call that is handed one tests it and refuses, 6 (over 64 tiles)
 // before 5 (a path over 32 or a code over 7), so that nothing is asked of a caller. Only `with_tile`
 // and `get` take a tile as it stands. What each call answers is a definition of specs/Paths.antt.
+#![tactic(auto)]
 ghost use Rattle.std.specs.Prelude.{◌≡◌, []};
 ghost use Rattle.refusal.specs.Refusal.{map_answer, refusal_of, verdict_number};
 ghost use Rattle.tile.specs.Path.{read_tile, cell_count_answer};
@@ -16,7 +17,7 @@ use tile::{CellCount, Tile};
 mod collection;
 
 // The paths of count tiles: tile i has the first lens[i] of the 32 codes from 32 * i on.
-#[derive(Drop)]
+#[derive(Clone, Copy, Drop)]
 pub struct Tiles {
     pub count: usize,
     pub lens: [usize; 64],
@@ -24,13 +25,13 @@ pub struct Tiles {
 }
 
 // Tiles, or a refusal and no tiles. (An enum cannot hold an array.)
-#[derive(Drop)]
+#[derive(Clone, Copy, Drop)]
 pub struct MadeTiles {
     pub verdict: Verdict,
     pub tiles: Tiles,
 }
 
-#[derive(Drop)]
+#[derive(Clone, Copy, Drop)]
 pub enum Contains {
     Is(bool),
     Refused(Refusal),
