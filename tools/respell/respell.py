@@ -9,6 +9,7 @@ each name: old, a tab, new. Two names that would fall together part by `_lem` at
   .rt     `ghost use` items and clauses; elsewhere (comments) only names with an inner capital
   .edit   the lines `old:` and `new:`
   .md     code spans
+A name that a file imports from a library of the kit stays in that file.
 Functions of src/, exported names, strings, inputs and outputs keep their names.
 """
 
@@ -20,11 +21,22 @@ HERE = os.path.dirname(os.path.abspath(__file__))
 WORD = re.compile(r"(?<![\w'’-])[a-z][\w'′’₀-₉-]*")
 GHOST = re.compile(r"ghost use\b[^;]*;|(?<=\{) [^{}\n]*(?:\{[^{}\n]*\}[^{}\n]*)*(?=\})|^\s*(?:requires|ensures)\b.*$", re.M)
 STEP = re.compile(r"(?:\bc|\.before)\.$")
+USE = re.compile(r"\buse ([\w.+◌-]+)\.\{([^}]*)\}")
 
 
 def rows(path):
     with open(path, encoding="utf-8") as f:
         return dict(line.rstrip("\n").split("\t") for line in f if line.strip())
+
+
+def without_imports(text, names, crates):
+    """The names less those that the text imports from a library that isn't of this repository."""
+    kept = set()
+    for module, items in USE.findall(text):
+        part = module.split(".")
+        if part[0] != "Rattle" or part[1] not in crates:
+            kept |= {word for item in items.split(",") for word in item.split(" as ")[:1] for word in [word.strip()]}
+    return {old: new for old, new in names.items() if old not in kept}
 
 
 def turned(text, names, keep_steps=False, only_capitals=False):
@@ -73,13 +85,15 @@ def files(tree):
 
 def main(argv):
     tree = argv[0] if argv else os.path.dirname(os.path.dirname(HERE))
-    names, changed = rows(os.path.join(HERE, "names.tsv")), 0
+    every, changed = rows(os.path.join(HERE, "names.tsv")), 0
+    crates = set(os.listdir(os.path.join(tree, "crates")))
     for path in files(tree):
         kind = os.path.splitext(path)[1]
         if kind not in (".antt", ".rt", ".edit", ".md"):
             continue
         with open(path, encoding="utf-8", newline="") as f:
             old = f.read()
+        names = without_imports(old, every, crates)
         if kind == ".antt":
             new = turned(old, names, keep_steps=path.endswith("Proof.antt"))
         else:

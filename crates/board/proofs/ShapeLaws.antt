@@ -1,7 +1,7 @@
 -- What the tests and loops of `shape` come to: the marks of a shape, the test of a board and the count of its free cells.
 -- Rests on the laws of boards. Assumes nothing.
 use mathlib.Core.Path.{◌≡◌, refl, sym, ap, ◌∙◌}
-use mathlib.Core.Bool.{Bool, true, false, cond, or_true, or-false}
+use mathlib.Core.Bool.{Bool, true, false, cond, or-true, or-false}
 use Prim.Native.Nat.{ℕ, ◌+◌, ◌*◌, ◌/◌, ◌%◌, ◌^◌, ◌≤◌, ◌<◌}
 use native.Mathlib.Nat.{zero-mul, add-zero}
 use native.Mathlib.Numerals.{add-one}
@@ -76,7 +76,7 @@ module _ (b : Board) (cell : ℕ) where
 
   pub mark_none : has_cell b.fixed cell ≡ false → has_cell b.laid cell ≡ false → true ≡ mark_ok b cell
   unfolding mark_ok is_marked
-  mark_none e f = rw (e, f) (sym (or_true (inside b.width b.height (position_of cell))))
+  mark_none e f = rw (e, f) (sym (or-true (inside b.width b.height (position_of cell))))
 
 -- ---- the whole test
 

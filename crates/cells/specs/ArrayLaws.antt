@@ -3,7 +3,7 @@
 use Rattle.std.specs.Prelude.{◌≡◌, Bool, true, false, ◌&&◌, ◌||◌, length, get_or, set, replicate}
 use Rattle.std.proofs.Math.Path.{refl, ap, ap₂}
 use Rattle.std.proofs.Common.{sym, ◌∙◌, subst, add-zero, zero-add, mul-zero, mul-suc, add-one, length-append, length-set, ext_get_or, get_or-set_same, get_or-set_other}
-use Rattle.std.proofs.Math.Bool.{So, and-false, or_true}
+use Rattle.std.proofs.Math.Bool.{So, and-false, or-true}
 use Rattle.std.proofs.lemmas.Bool.{false≢true}
 use mathlib.Core.List.{List, [], ◌∷◌, ◌++◌, flat_map}
 use Prim.Native.Nat.{ℕ, zero, suc, ◌+◌, ◌-◌, ◌*◌, ◌≤◌, ◌<◌}
@@ -147,7 +147,7 @@ module _ {A : Type 0} (p : A → Bool) (f : ℕ → A) where
   any_from i (suc n) zero h e = rw (sym (ap (λ (j : ℕ). p (f j)) (add-zero i)) ∙ e)
   any_from i (suc n) (suc k) h e =
       let q : suc i + k ≡ i + suc k = omega arith in
-      ap (λ (b : Bool). p (f i) || b) (any_from (suc i) n k (omega arith) (ap (λ (j : ℕ). p (f j)) q ∙ e)) ∙ or_true (p (f i))
+      ap (λ (b : Bool). p (f i) || b) (any_from (suc i) n k (omega arith) (ap (λ (j : ℕ). p (f j)) q ∙ e)) ∙ or-true (p (f i))
 
   none_from : (i n : ℕ) → ((k : ℕ) → k < n → p (f (i + k)) ≡ false) → any p (list_from f i n) ≡ false
   unfolding any list_from

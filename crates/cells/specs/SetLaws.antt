@@ -2,7 +2,7 @@
 -- sets share a cell; how many cells a set has. Rests on `BitLaws`. Assumes nothing.
 use Rattle.std.specs.Prelude.{◌≡◌, refl, ◌≢◌, ◌↔◌, Bool, true, false, cond, ◌||◌, eqb, ltb}
 use Rattle.std.proofs.Common.{sym, ap, ◌∙◌, subst, one-mul, zero-mul, add-zero, lt-ltb, le-ltb, eq-eqb, ne_eqb, eqb-true, pow_pos}
-use Rattle.std.proofs.Math.Bool.{So, or_true, or-false}
+use Rattle.std.proofs.Math.Bool.{So, or-true, or-false}
 use Prim.Native.Nat.{ℕ, zero, suc, ◌+◌, ◌-◌, ◌*◌, ◌/◌, ◌^◌, ◌≤◌, ◌<◌, zero-le, min, max}
 use Rattle.std.proofs.Math.Decide.{ℕ_discrete, dec_lt}
 use native.Mathlib.Omega.{arith}
@@ -128,7 +128,7 @@ has_cell_with_cell n c d h = go (ℕ_discrete d c)
     go : Dec (d ≡ c) → eqb (bit (with_cell n c) d) 1 ≡ (eqb (bit n d) 1 || eqb c d)
     go (yes e) =
         eq-eqb (bit (with_cell n c) d) 1 (ap (bit (with_cell n c)) e ∙ bit_with_cell_same n c h)
-        ∙ sym (ap (λ t. eqb (bit n d) 1 || t) (eq-eqb c d (sym e)) ∙ or_true (eqb (bit n d) 1))
+        ∙ sym (ap (λ t. eqb (bit n d) 1 || t) (eq-eqb c d (sym e)) ∙ or-true (eqb (bit n d) 1))
     go (no e) =
         ap (λ (x : ℕ). eqb x 1) (bit_with_cell_other n c d e)
         ∙ sym (ap (λ t. eqb (bit n d) 1 || t) (ne_eqb c d (λ q. e (sym q))) ∙ or-false (eqb (bit n d) 1))

@@ -10,7 +10,7 @@ use mathlib.Core.List.Memᴰ.{cast}
 use mathlib.Core.List.Memᴰ.{map as mem-map}
 use mathlib.Core.List.Memᴰ.{not-nil}
 use mathlib.Core.List.Memᴰ.{of_map}
-use mathlib.Core.List.{List, [], ◌∷◌, ◌++◌, map, map-append, map_map, map-id, Memᴰ as Mem}
+use mathlib.Core.List.{List, [], ◌∷◌, ◌++◌, map, map-append, map-map, map-id, Memᴰ as Mem}
 use native.Mathlib.Omega.{arith}
 use Rattle.cells.specs.FirstsLaws.{Once, same_false, mem_cases, add_firsts_append, mem_firsts, once_firsts, Tells}
 use Rattle.cells.specs.Lists.{holds, addNew, firsts}
@@ -46,7 +46,7 @@ module _ {B : Type 0} (same : B → B → Bool) where
   pub boards_gather : (es : List (Entry B)) → boards (gather same es) ≡ firsts same (boards es)
   unfolding gather
   boards_gather es =
-      map_map (λ (e : Entry B). e.0) _ (firsts same (boards es)) ∙ map-id (firsts same (boards es))
+      map-map (λ (e : Entry B). e.0) _ (firsts same (boards es)) ∙ map-id (firsts same (boards es))
 
   pub boards_add_paths : (c : B) (k : ℕ) (es : List (Entry B)) → boards (addPaths c k es) ≡ addNew same (boards es) c
   unfolding addPaths addNew
@@ -147,7 +147,7 @@ module _ {B : Type 0} (same : B → B → Bool) where
             sym (map-id es)
             ∙ map_ext (λ (e : Entry B). e) (λ (e : Entry B). (e.0, weight same e.0 es)) es
             (λ e m. ap (λ (n : ℕ). (e.0, n)) (sym (weight_entry es e o m)))
-            ∙ sym (map_map (λ (s : B). (s, weight same s es)) (λ (e : Entry B). e.0) es)
+            ∙ sym (map-map (λ (s : B). (s, weight same s es)) (λ (e : Entry B). e.0) es)
 
     weight_snoc : (t : B) (es : List (Entry B)) (c : B) (k : ℕ) → weight same t (es ++ (c, k) ∷ []) ≡ weight same t es + cond (same c t) k 0
     unfolding weight
