@@ -1,0 +1,18 @@
+-- `archive::bytes::word_from` meets its contract: so many bytes are read as are done.
+-- Assumes nothing.
+use mathlib.Core.Path.{◌≡◌, subst}
+use Prim.Native.Nat.{ℕ, ◌+◌, ◌-◌, ◌*◌, ◌^◌, ◌≤◌, ◌<◌}
+use native.Mathlib.Omega.{arith}
+use Rattle.archive.specs.Archive.{number_at}
+use Rattle.archive.proofs.InputLaws.{number_more, number_room, word_room, none_read}
+use borrow.Author.Rules.{rules}
+use Rattle.archive.proofs.bytes.word_from.Goals as goal
+
+pub loop-i-init : goal.loop-i-init
+loop-i-init c = none_read c.args.file.now c.args.at
+
+pub loop-i-preserved : goal.loop-i-preserved
+loop-i-preserved c = let s = c.loop-i in (number_more c.args.file.now c.args.at s.i s.word s.invariant.0, number_room s.i s.word _ s.invariant.1 (c.type_inv.file.given (c.args.at + s.i)).fits, omega arith)
+
+pub returns : goal.returns
+returns c = let s = c.loop-i in subst (λ (k : ℕ). s.word ≡ number_at c.args.file.now c.args.at k) (omega (arith, s.invariant.2)) s.invariant.0

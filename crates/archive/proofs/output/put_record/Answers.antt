@@ -1,0 +1,27 @@
+-- `archive::output::put_record` meets its contract: the bytes are written in order.
+-- Assumes nothing.
+use Prim.Native.Nat.{◌-◌}
+use native.Mathlib.Omega.{arith}
+use lib.ListN.{length, get_or}
+use Rattle.cells.specs.ArrayLaws.{Filled, filled_step, padded_start, padded_end}
+use Rattle.archive.specs.Archive.{record_bytes}
+use borrow.Author.Rules.{rules}
+use Rattle.archive.proofs.output.put_record.Goals as goal
+
+pub loop-i-init : goal.loop-i-init
+loop-i-init c = padded_start _ _
+
+pub bounds-out-i : goal.bounds-out-i
+bounds-out-i c = omega (arith, c.loop-i.invariant.long)
+
+pub loop-i-smaller : goal.loop-i-smaller
+loop-i-smaller c = omega (arith, c.loop-i.invariant.long)
+
+pub loop-i-preserved : goal.loop-i-preserved
+loop-i-preserved c = filled_step 0 _ _ _ _ _ _ c.loop-i.invariant (omega (arith, c.loop-i.invariant.long)) c.record_byte.ensures
+
+pub shape_of-out : goal.shape_of-out
+shape_of-out c = c.loop-i.invariant.long
+
+pub returns : goal.returns
+returns c = let inv = c.loop-i.invariant in padded_end (record_bytes _) c.args.out.now _ _ inv (omega (arith, inv.long))

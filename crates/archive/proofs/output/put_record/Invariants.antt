@@ -1,0 +1,13 @@
+use Prim.Native.Nat.{◌-◌}
+use native.Mathlib.Omega.{arith}
+use lib.ListN.{length, get_or}
+use Rattle.cells.specs.ArrayLaws.{Filled, filled_step, padded_start, padded_end}
+use Rattle.archive.specs.Archive.{record_bytes}
+use borrow.Author.Rules.{rules}
+use Rattle.archive.proofs.output.put_record.Given as goal
+
+abbrev pub invariant-loop-i : goal.invariant-loop-i
+invariant-loop-i l = Filled 0 (λ k. get_or (record_bytes l.record) k 0) (λ k. get_or l.initial.out k 0) (length l.initial.out) l.i l.out
+
+abbrev pub decreases-loop-i : goal.decreases-loop-i
+decreases-loop-i l = length l.initial.out - l.i

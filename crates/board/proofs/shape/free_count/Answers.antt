@@ -1,0 +1,20 @@
+-- `board::shape::free_count` meets its contract: the free cells are counted in order.
+-- Assumes nothing.
+use mathlib.Core.Path.{◌≡◌}
+use Prim.Native.Nat.{◌-◌, ◌≤◌}
+use borrow.Author.Rules.{rules}
+use native.Mathlib.Omega.{arith}
+use Rattle.cells.specs.Set.{size_below}
+use Rattle.rectangle.specs.Board.{free_set}
+use Rattle.board.specs.Board.{board_of}
+use Rattle.board.proofs.ShapeLaws.{counted_none, counted_more, counted_all}
+use Rattle.board.proofs.shape.free_count.Goals as goal
+
+pub loop-cell-init : goal.loop-cell-init
+loop-cell-init c = (search rules, search rules, counted_none _)
+
+pub loop-cell-preserved : goal.loop-cell-preserved
+loop-cell-preserved c = (omega arith, omega (arith, c.free_mark-n.ensures.1), counted_more _ _ _ _ c.loop-cell-test.true c.loop-cell.invariant.2 c.free_mark-n.ensures.0)
+
+pub returns : goal.returns
+returns c = counted_all _ _ _ c.loop-cell.invariant.2 c.loop-cell.invariant.0 c.loop-cell-test.false

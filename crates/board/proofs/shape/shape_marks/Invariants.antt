@@ -1,0 +1,15 @@
+use mathlib.Core.Path.{◌≡◌, ◌∙◌}
+use Prim.Native.Nat.{◌-◌, ◌≤◌}
+use borrow.Author.Rules.{rules}
+use native.Mathlib.Omega.{arith}
+use Rattle.cells.specs.Set.{from_bits, number}
+use Rattle.cells.specs.ListLaws.{value_none}
+use Rattle.board.specs.Board.{shape_mark}
+use Rattle.board.proofs.ShapeLaws.{bits, filled_none, filled_more, filled_all}
+use Rattle.board.proofs.shape.shape_marks.Given as goal
+
+abbrev pub invariant-loop-cell : goal.invariant-loop-cell
+invariant-loop-cell l = (l.cell ≤ 256) × (number l.set ≡ from_bits l.cell (bits (shape_mark l.width l.height l.rows l.low l.high)))
+
+abbrev pub decreases-loop-cell : goal.decreases-loop-cell
+decreases-loop-cell l = 256 - l.cell

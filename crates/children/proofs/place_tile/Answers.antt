@@ -1,0 +1,31 @@
+-- `children::place_tile` meets its contract: board and tiles are judged, the children are stored, and the words behind them are cleared, or all of them.
+-- Assumes nothing.
+-- neither board nor tiles are refused
+use mathlib.Core.Path.{◌≡◌, sym, ap, ◌∙◌}
+use native.Mathlib.Omega.{arith}
+use borrow.Author.Rules.{rules}
+use Rattle.refusal.specs.Refusal.{refusal_of, verdict_number}
+use Rattle.board.specs.Board.{board_of}
+use Rattle.children.specs.Children.{children_of}
+use Rattle.children.proofs.AnswerLaws.{children_accepted, few, places_number, places_full, places_refused}
+use Rattle.children.proofs.place_tile.Goals as goal
+use Rattle.children.proofs.place_tile.Goals.{In-Accepted}
+
+accepted : (c : In-Accepted) → 0 ≡ refusal_of (children_of (board_of c.args.board) c.args.tiles)
+accepted c = sym (ap verdict_number c.in-Accepted.is) ∙ c.judged-verdict.ensures
+
+pub add_children-stored-requires : goal.add_children-stored-requires
+add_children-stored-requires c = children_accepted _ _ (accepted c.before)
+
+pub returns-in-Number : goal.returns-in-Number
+returns-in-Number c =
+        places_number _ _ _ _ (accepted c.before.before.before.before.before.before.before.before.before.before.before) _ c.add_children-stored.auto.0 _ c.add_children-stored.ensures _ c.in-Number.is
+    (λ i. (c.type_inv.out.given i).fits) c.clear_from.ensures
+
+pub returns-in-Full : goal.returns-in-Full
+returns-in-Full c =
+        places_full _ _ _ _ (accepted c.before.before.before.before.before.before.before.before.before.before) _ c.add_children-stored.auto.0 _ c.add_children-stored.ensures c.in-Full.is c.clear_from-in-Full.ensures
+
+pub returns-in-Refused : goal.returns-in-Refused
+returns-in-Refused c =
+        places_refused _ _ _ _ c.in-Refused.refusal (sym (ap verdict_number c.in-Refused.is) ∙ c.judged-verdict.ensures) c.clear_from-in-Refused.ensures

@@ -1,0 +1,32 @@
+-- `children::placing::add_tiles` meets its contract: the tiles are put down in order.
+-- Assumes nothing.
+use mathlib.Core.Path.{◌≡◌, refl, sym, subst}
+use mathlib.Core.Bool.{So}
+use mathlib.Core.List.{[]}
+use Prim.Native.Nat.{◌-◌, ◌≤◌}
+use lib.Dec.{eqb}
+use lib.ListN.{length}
+use borrow.Author.Rules.{rules}
+use native.Mathlib.Omega.{arith}
+use Rattle.cells.specs.Lists.{addFirsts}
+use Rattle.tiles.specs.ReadLaws.{sound_tile}
+use Rattle.tile.specs.Path.{Path, is_path}
+use Rattle.board.specs.Board.{board_of}
+use Rattle.children.specs.Inner.{Keeps}
+use Rattle.children.proofs.PlacingLaws.{keeps_none, tile_children, tiles_none, tiles_more, tiles_all, part_path, part_sound}
+use Rattle.children.proofs.placing.add_tiles.Goals as goal
+
+pub loop-i-init : goal.loop-i-init
+loop-i-init c = (search rules, refl, tiles_none _ _ _ _ _ _ (keeps_none _))
+
+pub add_fits-state-requires : goal.add_fits-state-requires
+add_fits-state-requires c = (c.requires.0, c.requires.1, subst (λ (p : Path). So (is_path p)) (sym (part_path c.args.tiles.lens c.args.tiles.codes c.loop-i.i)) (part_sound _ c.requires.2 _ c.loop-i-test.true))
+
+pub loop-i-preserved : goal.loop-i-preserved
+loop-i-preserved c = (omega arith, search rules, tiles_more _ _ _ _ _ _ _ _ (part_path c.args.tiles.lens c.args.tiles.codes c.loop-i.i) (c.add_fits-state.ensures _ c.loop-i.invariant.2))
+
+pub shape_of-out : goal.shape_of-out
+shape_of-out c = c.loop-i.invariant.1
+
+pub returns : goal.returns
+returns c = tiles_all _ _ _ _ _ _ _ _ c.loop-i.invariant.0 c.loop-i-test.false c.loop-i.invariant.2

@@ -1,0 +1,37 @@
+-- `choice::counts::laid_beside` meets its contract: the place one step on, tested for a laid mark.
+-- Assumes nothing.
+-- the place that was told is that of the position one step on
+use mathlib.Core.Path.{◌≡◌, sym, ◌∙◌}
+use mathlib.Core.Bool.{true, false}
+use borrow.Author.Rules.{rules}
+use native.Mathlib.Omega.{arith}
+use Rattle.direction.specs.Direction.{shift, step}
+use Rattle.rectangle.specs.Board.{inside, position_of}
+use Rattle.rectangle.specs.Parts.{place_answer, place_if}
+use Rattle.rectangle.specs.PlaceLaws.{place_placed}
+use Rattle.choice.proofs.ChoiceLaws.{beside_step, beside_nowhere, beside_place}
+use Rattle.choice.specs.Choice.{one}
+use Rattle.choice.proofs.counts.laid_beside.Goals as goal
+use Rattle.choice.proofs.counts.laid_beside.Goals.{After-move_in_direction-place}
+
+stepped : (c : After-move_in_direction-place) → place_answer c.move_in_direction-place.result ≡ place_if (inside c.args.width c.args.height) (shift (position_of c.args.cell) (step c.args.code))
+stepped c = beside_step _ _ c.args.cell _ c.move_in_direction-place.result c.move_in_direction-place.ensures c.requires.2 c.requires.3
+
+pub returns-in_default : goal.returns-in_default
+returns-in_default c = (beside_nowhere _ _ _ _ _ _ (stepped c.before.before) c.in_default.is, search rules)
+
+pub returns-then-has_cell : goal.returns-then-has_cell
+unfolding one
+returns-then-has_cell c = (
+  beside_place _ _ _ _ _ _ (stepped c.before.before.before.before.before) _ _ c.in-At.is true
+      (sym c.has_cell.ensures ∙ c.if-has_cell.true),
+  search rules,
+)
+
+pub returns : goal.returns
+unfolding one
+returns c = (
+  beside_place _ _ _ _ _ _ (stepped c.before.before.before.before.before) _ _ c.in-At.is false
+      (sym c.has_cell.ensures ∙ c.if-has_cell.false),
+  search rules,
+)

@@ -1,0 +1,32 @@
+-- `fit::walk::free_step` meets its contract: the place one step on, tested for a mark.
+-- Assumes nothing.
+-- the place that was told is that of the position one step on
+use mathlib.Core.Path.{◌≡◌, sym, ◌∙◌}
+use lib.IntN.{pos}
+use borrow.Author.Rules.{rules}
+use native.Mathlib.Omega.{arith}
+use Rattle.direction.specs.Direction.{at, shift, step}
+use Rattle.rectangle.specs.Board.{inside}
+use Rattle.rectangle.specs.Parts.{place_answer, place_if}
+use Rattle.rectangle.specs.PlaceLaws.{place_placed}
+use Rattle.fit.proofs.WalkLaws.{walk_step, free_nowhere, free_marked, free_open}
+use Rattle.fit.proofs.walk.free_step.Goals as goal
+use Rattle.fit.proofs.walk.free_step.Goals.{After-move_in_direction-place}
+
+stepped : (c : After-move_in_direction-place) → place_answer c.move_in_direction-place.result ≡ place_if (inside c.args.width c.args.height) (shift (at (pos c.args.row) (pos c.args.col)) (step c.args.code))
+stepped c =
+    let p = c.requires in
+    walk_step _ _ c.args.row c.args.col _ c.move_in_direction-place.result c.move_in_direction-place.ensures p.0 p.1 p.2 p.3 p.4
+
+pub returns-in_default : goal.returns-in_default
+returns-in_default c = free_nowhere _ _ _ _ _ (stepped c.before.before) c.in_default.is
+
+pub returns-then-has_cell : goal.returns-then-has_cell
+returns-then-has_cell c =
+    free_marked _ _ _ _ _ (stepped c.before.before.before.before.before) _ _ c.in-At.is
+    (sym c.has_cell.ensures ∙ c.if-has_cell.true)
+
+pub returns : goal.returns
+returns c =
+    free_open _ _ _ _ _ (stepped c.before.before.before.before.before) _ _ c.in-At.is
+    (sym c.has_cell.ensures ∙ c.if-has_cell.false)

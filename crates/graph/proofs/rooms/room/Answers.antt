@@ -1,0 +1,9 @@
+-- `graph::rooms::room` meets its contract: by definition.
+-- Assumes nothing.
+use borrow.Author.Rules.{rules}
+use Rattle.graph.specs.Graph.{room_of}
+use Rattle.graph.proofs.rooms.room.Goals as goal
+
+pub returns : goal.returns
+unfolding room_of
+returns c = c.least.ensures

@@ -1,0 +1,27 @@
+-- `graph::write_edges` meets its contract: each child is stored behind those before it.
+-- Assumes nothing.
+use mathlib.Core.Path.{◌∙◌}
+use mathlib.Core.Logic.{⊎_elim}
+use Prim.Native.Nat.{◌-◌, ◌≤◌}
+use Rattle.graph.proofs.GraphLoops.{WrittenTo, written_none, written_hit, written_miss, written_all}
+use borrow.Author.Rules.{rules}
+use native.Mathlib.Omega.{arith}
+use Rattle.graph.proofs.write_edges.Goals as goal
+
+pub loop-i-init : goal.loop-i-init
+loop-i-init c = (search rules, written_none _ _ _)
+
+pub loop-i-preserved : goal.loop-i-preserved
+loop-i-preserved c =
+    let before = c.loop-i.invariant.1 in (
+      omega arith,
+      ⊎_elim (λ w. written_hit _ _ _ _ _ _ before _ _ w.0.taken w.6 (w.5 ∙ w.2.ensures))
+          (λ w. written_miss _ _ _ _ _ _ before _ _ w.0.left w.2 w.1) c.if-parent-node.branch,
+    )
+
+pub shape_of-out : goal.shape_of-out
+shape_of-out c = c.loop-i.invariant.1.long
+
+pub returns : goal.returns
+returns c =
+    written_all _ _ _ _ _ _ c.loop-i.invariant.1 _ _ c.lent_edges-end.ensures c.loop-i.invariant.0 c.loop-i-test.false

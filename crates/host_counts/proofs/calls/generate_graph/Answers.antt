@@ -1,0 +1,13 @@
+-- `host_counts::calls::generate_graph` meets its contract: what `generate_graph` answers is told.
+-- Assumes nothing.
+use Rattle.host_counts.proofs.ToldLaws.{graph_told, graph_refused}
+use borrow.Author.Rules.{rules}
+use Rattle.host_counts.proofs.calls.generate_graph.Goals as goal
+
+pub returns-in-Accepted : goal.returns-in-Accepted
+returns-in-Accepted c =
+        graph_told _ _ c.args.nodes.now c.args.counts.now c.args.edges.now _ _ _ _ _ _ c.generate_graph-made.ensures.0 _ c.in-Accepted.is c.accept_graph.ensures
+
+pub returns-in-Refused : goal.returns-in-Refused
+returns-in-Refused c =
+        graph_refused _ _ c.args.nodes.now c.args.counts.now c.args.edges.now _ _ _ _ _ _ c.generate_graph-made.ensures.0 _ _ c.in-Refused.is c.refuse.ensures

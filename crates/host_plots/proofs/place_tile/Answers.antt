@@ -1,0 +1,15 @@
+-- `host_plots::place_tile` meets its contract: the call where the shapes are right, and zeros where they are not.
+-- Assumes nothing.
+use Rattle.host_plots.proofs.HostLaws.{place_accepted, place_unshaped}
+use borrow.Author.Rules.{rules}
+use Rattle.host_plots.proofs.place_tile.Goals as goal
+
+pub returns-in-Accepted : goal.returns-in-Accepted
+returns-in-Accepted c =
+        place_accepted _ _ c.args.marks.now c.args.tiles.now c.args.answer.now _ c.of_plot-verdict.ensures c.args.out.now _ _
+    c.in-Accepted.is c.board_from.ensures c.tiles_from.ensures c.place_tile.ensures
+
+pub returns-in-Refused : goal.returns-in-Refused
+returns-in-Refused c =
+        place_unshaped _ _ c.args.marks.now c.args.tiles.now c.args.answer.now _ c.of_plot-verdict.ensures c.args.out.now _
+    c.in-Refused.is c.clear_from.ensures c.refuse.ensures

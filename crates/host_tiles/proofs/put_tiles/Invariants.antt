@@ -1,0 +1,14 @@
+use Prim.Native.Nat.{◌-◌}
+use lib.ListN.{length, get_or}
+use Rattle.cells.specs.ArrayLaws.{Filled, filled_start, filled_step, filled_end}
+use native.Mathlib.Omega.{arith}
+use mathlib.Core.Path.{refl}
+use Rattle.host_tiles.specs.TileBytes.{stored_byte, struct_bytes}
+use borrow.Author.Rules.{rules}
+use Rattle.host_tiles.proofs.put_tiles.Given as goal
+
+abbrev pub invariant-loop-k : goal.invariant-loop-k
+invariant-loop-k l = Filled 0 (stored_byte l.lens l.codes) (λ l.k. get_or l.initial.bytes l.k 0) (length l.initial.bytes) l.k l.bytes
+
+abbrev pub decreases-loop-k : goal.decreases-loop-k
+decreases-loop-k l = length l.initial.bytes - l.k

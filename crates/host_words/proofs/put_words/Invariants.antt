@@ -1,0 +1,13 @@
+use Prim.Native.Nat.{◌-◌}
+use mathlib.Core.List.{[], ◌∷◌}
+use lib.ListN.{length, get_or}
+use Rattle.cells.specs.ArrayLaws.{Filled, filled_step, padded_start, padded_end}
+use native.Mathlib.Omega.{arith}
+use borrow.Author.Rules.{rules}
+use Rattle.host_words.proofs.put_words.Given as goal
+
+abbrev pub invariant-loop-i : goal.invariant-loop-i
+invariant-loop-i l = Filled 0 (λ k. get_or (l.w0 ∷ l.w1 ∷ l.w2 ∷ l.w3 ∷ []) k 0) (λ k. get_or l.initial.words k 0) (length l.initial.words) l.i l.words
+
+abbrev pub decreases-loop-i : goal.decreases-loop-i
+decreases-loop-i l = length l.initial.words - l.i

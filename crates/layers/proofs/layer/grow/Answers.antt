@@ -1,0 +1,20 @@
+-- `layers::layer::grow` meets its contract: the part of the array that is lent holds the children of any board.
+-- Assumes nothing.
+use mathlib.Core.Path.{refl}
+use Rattle.expansion.specs.ExpansionLaws.{child_words_lem, child_part}
+use borrow.Author.Rules.{rules}
+use Rattle.layers.proofs.layer.grow.Goals as goal
+
+pub slice_bounds-children-end : goal.slice_bounds-children-end
+slice_bounds-children-end c = (child_words_lem _ _ c.requires.0 _ c.child_words-end.ensures).1
+
+pub slice_bounds-grow_all-end : goal.slice_bounds-grow_all-end
+slice_bounds-grow_all-end c = (child_part _ _ c.requires.0 _ c.child_words-end.ensures _ refl).0
+
+pub grow_all-requires : goal.grow_all-requires
+grow_all-requires c =
+        let p = c.requires in
+    (p.0, p.1, (child_part _ _ p.0 _ c.child_words-end.ensures _ refl).1, p.2)
+
+pub returns : goal.returns
+returns c = c.grow_all.ensures

@@ -1,0 +1,52 @@
+-- `layers::layer::grow_all` meets its contract: the boards give their paths in order.
+-- Assumes nothing.
+use mathlib.Core.Path.{◌≡◌, refl, ◌∙◌}
+use Prim.Native.Nat.{◌-◌, ◌≤◌}
+use native.Mathlib.Omega.{arith}
+use lib.ListN.{length}
+use Rattle.expansion.specs.Boards.{setting_of}
+use Rattle.layers.specs.Inner.{entries_in, boards_in, HoldsLayer, next_of}
+use Rattle.layers.proofs.LayerLaws.{room_kept, grown_none, grown_more, grown_all}
+use borrow.Author.Rules.{rules}
+use Rattle.layers.proofs.layer.grow_all.Goals as goal
+
+pub loop-i-init : goal.loop-i-init
+loop-i-init c = (omega arith, omega arith, refl, refl, refl, grown_none _ _ _ _ _ _ _)
+
+pub grow_by-state-requires : goal.grow_by-state-requires
+grow_by-state-requires c =
+    let i = c.loop-i-test.true in
+    let l = c.loop-i in
+    let p = c.requires in (
+      p.0,
+      p.1 _ i,
+      omega (arith, p.2, l.invariant.4),
+      l.invariant.1,
+      (omega (arith, p.3.0, l.invariant.2), room_kept _ _ _ p.3.1 l.invariant.3),
+    )
+
+pub loop-i-preserved : goal.loop-i-preserved
+loop-i-preserved c =
+    let d = c.grow_by-state in
+    let l = c.loop-i in (
+      omega arith,
+      d.ensures.0,
+      d.auto.1.1.1.1.1.0 ∙ l.invariant.2,
+      d.auto.1.1.1.1.1.1.0 ∙ l.invariant.3,
+      d.auto.1.1.1.1.1.1.1.0 ∙ l.invariant.4,
+      grown_more _ _ _ _ _ _ _ _ _ (d.ensures.1 _ l.invariant.5),
+    )
+
+pub shape_of-next_boards : goal.shape_of-next_boards
+shape_of-next_boards c = c.loop-i.invariant.2
+
+pub shape_of-next_counts : goal.shape_of-next_counts
+shape_of-next_counts c = c.loop-i.invariant.3
+
+pub shape_of-children : goal.shape_of-children
+shape_of-children c = c.loop-i.invariant.4
+
+pub returns : goal.returns
+returns c =
+    let l = c.loop-i in
+    (l.invariant.1, grown_all _ _ _ _ _ _ _ _ _ _ l.invariant.0 c.loop-i-test.false l.invariant.5)

@@ -1,0 +1,13 @@
+use Rattle.cells.specs.Lists.{list_of}
+use Rattle.graph.specs.Graph.{edge_at}
+use Rattle.path_count.specs.PathCounts.{count_value, count_in}
+use Rattle.numbered_tilings.proofs.WalkLoops.{Back, Measured, steps_back, measured_start, measured_next, measured_end}
+use native.Mathlib.Omega.{arith}
+use borrow.Author.Rules.{rules}
+use Rattle.numbered_tilings.proofs.walk.list_length.Given as goal
+
+abbrev pub invariant-loop-v : goal.invariant-loop-v
+invariant-loop-v l = Measured (list_of (edge_at l.edges) l.count) (count_in l.counts) l.n l.last (count_value l.initial.left) l.v (count_value l.left) l.size
+
+abbrev pub decreases-loop-v : goal.decreases-loop-v
+decreases-loop-v l = l.v

@@ -1,0 +1,15 @@
+use Prim.Native.Nat.{◌<◌}
+use lib.ListN.{length, length-set}
+use Rattle.cells.specs.Lists.{list_of}
+use Rattle.graph.specs.Graph.{edge_at}
+use Rattle.path_count.specs.PathCounts.{count_value, count_in}
+use Rattle.numbered_tilings.proofs.WalkLoops.{Back, Backfilled, tiling_some, steps_back, place_lent, place_later, backfilled_start, backfilled_next, backfilled_end}
+use native.Mathlib.Omega.{arith}
+use borrow.Author.Rules.{rules}
+use Rattle.numbered_tilings.proofs.walk.write_list.Given as goal
+
+abbrev pub invariant-loop-v : goal.invariant-loop-v
+invariant-loop-v l = Backfilled (list_of (edge_at l.edges) l.count) (count_in l.counts) l.n l.last (count_value l.initial.left) l.size l.initial.out l.v (count_value l.left) l.at l.out
+
+abbrev pub decreases-loop-v : goal.decreases-loop-v
+decreases-loop-v l = l.v

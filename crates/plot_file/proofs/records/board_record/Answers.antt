@@ -1,0 +1,32 @@
+-- `plot_file::records::board_record` meets its contract: the mark is tested first, then that the two bytes are there, and then they make a board (`reads_board`).
+-- Assumes nothing.
+use mathlib.Core.Path.{◌≡◌, ap, sym, ◌∙◌}
+use mathlib.Core.Bool.{true}
+use Prim.Native.Nat.{◌+◌}
+use native.Mathlib.Omega.{arith}
+use Rattle.refusal.specs.Refusal.{map_answer}
+use Rattle.plot_file.specs.Inner.{is_board, start_at}
+use Rattle.plot_file.specs.ReadLaws.{board_body_other, board_body_cut}
+use Rattle.plot_file.proofs.StepLaws.{reads_refused, reads_board}
+use borrow.Author.Rules.{rules}
+use Rattle.plot_file.proofs.records.board_record.Goals as goal
+use Rattle.plot_file.proofs.records.board_record.Goals.{Then-is_board}
+
+is : (c : Then-is_board) → is_board c.args.mark ≡ true
+is c = sym c.is_board.ensures ∙ c.if-is_board.true
+
+pub returns-then-file-at-lt2 : goal.returns-then-file-at-lt2
+unfolding map_answer
+returns-then-file-at-lt2 c =
+        reads_refused _ _ _ _ _ (ap (map_answer start_at) (board_body_cut _ c.args.file.now c.args.at (is c.before.before) c.if-file-at-lt2.true)) c.refuse.ensures
+
+pub returns-then-is_board : goal.returns-then-is_board
+returns-then-is_board c =
+    let first = c.requires in
+    let both = c.if-file-at-lt2.false in
+    reads_board _ _ _ _ _ (is c.before.before.before.before.before) (omega arith) c.board_for-made.ensures c.started.ensures
+
+pub returns : goal.returns
+unfolding map_answer
+returns c =
+    reads_refused _ _ _ _ _ (ap (map_answer start_at) (board_body_other _ _ (sym c.is_board.ensures ∙ c.if-is_board.false))) c.refuse-2.ensures

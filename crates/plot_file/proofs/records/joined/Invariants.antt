@@ -1,0 +1,11 @@
+use Prim.Native.Nat.{◌≤◌, ◌-◌}
+use native.Mathlib.Omega.{arith}
+use Rattle.plot_file.proofs.TilesLaws.{Joined, joined_start, joined_count, joined_end, next_clean, joined_step}
+use borrow.Author.Rules.{rules}
+use Rattle.plot_file.proofs.records.joined.Given as goal
+
+abbrev pub invariant-loop-i : goal.invariant-loop-i
+invariant-loop-i l = (l.i ≤ l.count) × Joined l.initial.all l.others l.i l.all
+
+abbrev pub decreases-loop-i : goal.decreases-loop-i
+decreases-loop-i l = l.count - l.i

@@ -1,0 +1,16 @@
+-- `report::put_report` meets its contract: what the file's reader answers tells which lines the text has, and these are put in front.
+-- Assumes nothing.
+use mathlib.Core.Path.{sym}
+use Rattle.report.specs.TextLaws.{puts_as}
+use Rattle.report.specs.ReportLaws.{accepted_text, refused_text}
+use borrow.Author.Rules.{rules}
+use Rattle.report.proofs.put_report.Goals as goal
+
+pub returns-in-Accepted : goal.returns-in-Accepted
+returns-in-Accepted c =
+                let text = accepted_text _ _ c.read_plot-plot.ensures c.in-Accepted.is in
+    puts_as (sym text.2) (c.put_plot.ensures.0 text.0 text.1)
+
+pub returns-in-Refused : goal.returns-in-Refused
+returns-in-Refused c =
+                puts_as (sym (refused_text _ _ c.read_plot-plot.ensures _ c.in-Refused.is)) c.put_refused.ensures

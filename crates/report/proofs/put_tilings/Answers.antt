@@ -1,0 +1,56 @@
+-- `report::put_tilings` meets its contract. The loop's invariant: the lines of the tilings before m are put, where the words hold a graph of so many.
+-- Assumes nothing.
+use mathlib.Core.Path.{◌≡◌, refl, sym, ◌∙◌}
+use mathlib.Core.List.{flat_map}
+use Prim.Native.Nat.{◌-◌, ◌≤◌}
+use lib.ListN.{length}
+use Rattle.cells.specs.Lists.{list_from, list_of}
+use Rattle.path_count.specs.PathCounts.{count_value}
+use Rattle.tiler.specs.Graphs.{Graph, count_of_graph}
+use Rattle.report.specs.Report.{tiling_line}
+use Rattle.report.specs.Inner.{Puts, Built}
+use Rattle.report.specs.TextLaws.{puts_none}
+use Rattle.report.specs.CountLaws.{not_below, is_below}
+use Rattle.report.specs.ListedLaws.{puts_tiling, puts_listed}
+use borrow.Author.Rules.{rules}
+use borrow.Author.Tests.{not-true, not-false}
+use native.Mathlib.Omega.{arith}
+use Rattle.report.proofs.put_tilings.Goals as goal
+
+pub loop-m-init : goal.loop-m-init
+unfolding list_from list_of flat_map
+loop-m-init c =
+        (omega arith, omega arith, c.requires, refl, λ g built counted. puts_none _ _ c.requires)
+
+pub shape_of-out-then-not-less : goal.shape_of-out-then-not-less
+shape_of-out-then-not-less c = c.loop-m.invariant.3
+
+pub returns-then-not-less : goal.returns-then-not-less
+returns-then-not-less c =
+            let inv = c.loop-m.invariant in
+    let past = not_below _ _ _ inv.0 c.of_words.ensures (sym c.less.ensures ∙ not-true _ c.if-not-less.true) in
+    (λ g built counted. puts_listed g _ (omega (arith, counted, inv.0, inv.1, past)) (inv.4 g built counted), inv.2)
+
+pub put_tiling-next-requires : goal.put_tiling-next-requires
+put_tiling-next-requires c = let inv = c.loop-m.invariant in omega (arith, inv.2, inv.3)
+
+pub loop-m-preserved : goal.loop-m-preserved
+loop-m-preserved c =
+                    let inv = c.loop-m.invariant in
+    let below = is_below _ _ _ inv.0 c.of_words.ensures (sym c.less.ensures ∙ not-false _ c.if-not-less.false) in (
+      omega (arith, c.loop-m-test.true),
+      omega (arith, below),
+      omega (arith, c.put_tiling-next.ensures.1, inv.3),
+      c.put_tiling-next.auto.0 ∙ inv.3,
+      λ g built counted.
+          puts_tiling g _ c.requires (inv.4 g built counted)
+          (c.put_tiling-next.ensures.0 g built (omega (arith, counted, below))),
+    )
+
+pub shape_of-out : goal.shape_of-out
+shape_of-out c = c.loop-m.invariant.3
+
+pub returns : goal.returns
+returns c =
+    let inv = c.loop-m.invariant in
+    (λ g built counted. puts_listed g _ (omega (arith, counted, inv.0, inv.1, c.loop-m-test.false)) (inv.4 g built counted), inv.2)

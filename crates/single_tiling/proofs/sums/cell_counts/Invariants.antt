@@ -1,0 +1,16 @@
+use mathlib.Core.Path.{◌≡◌}
+use mathlib.Core.List.{[]}
+use Prim.Native.Nat.{ℕ, ◌-◌, ◌≤◌, ◌<◌}
+use native.Mathlib.Omega.{arith}
+use borrow.Author.Rules.{rules}
+use lib.ListN.{length, get_or}
+use Rattle.tile.specs.Path.{cell_count}
+use Rattle.tiles.specs.Paths.{paths_in}
+use Rattle.single_tiling.proofs.SumSteps.{fill_more}
+use Rattle.single_tiling.proofs.sums.cell_counts.Given as goal
+
+abbrev pub invariant-loop-i : goal.invariant-loop-i
+invariant-loop-i l = (length l.sizes ≡ 64) × (l.i ≤ l.count) × ((k : ℕ) → k < l.i → get_or l.sizes k 0 ≡ cell_count (get_or (paths_in l.tiles) k []))
+
+abbrev pub decreases-loop-i : goal.decreases-loop-i
+decreases-loop-i l = l.count - l.i

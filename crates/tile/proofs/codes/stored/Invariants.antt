@@ -1,0 +1,14 @@
+use mathlib.Core.Path.{refl}
+use Prim.Native.Nat.{◌≤◌, ◌-◌}
+use lib.ListN.{get_or, get_or-replicate}
+use Rattle.cells.specs.ArrayLaws.{Filled, filled_start, filled_step, filled_end}
+use Rattle.tile.proofs.CodeLaws.{path_behind, stores}
+use native.Mathlib.Omega.{arith}
+use borrow.Author.Rules.{rules}
+use Rattle.tile.proofs.codes.stored.Given as goal
+
+abbrev pub invariant-loop-i : goal.invariant-loop-i
+invariant-loop-i l = (l.i ≤ l.len) × Filled 0 (λ k. get_or l.path k 0) (λ k. 0) 32 l.i l.codes
+
+abbrev pub decreases-loop-i : goal.decreases-loop-i
+decreases-loop-i l = l.len - l.i

@@ -1,0 +1,36 @@
+-- `tiler::building::pass_edges` meets its contract: the edges are passed in order.
+-- Assumes nothing.
+use mathlib.Core.Path.{◌≡◌, refl}
+use Prim.Native.Nat.{◌-◌, ◌≤◌}
+use lib.ListN.{length}
+use Rattle.cells.specs.Lists.{list_of}
+use Rattle.graph.specs.Graph.{edge_at}
+use Rattle.tiler.proofs.PassingLaws.{Passing, pass_none, pass_more, pass_large, pass_done}
+use borrow.Author.Rules.{rules}
+use native.Mathlib.Omega.{arith}
+use Rattle.tiler.proofs.building.pass_edges.Goals as goal
+
+pub loop-i-init : goal.loop-i-init
+loop-i-init c = (search rules, refl, pass_none _ _ _ _ c.requires.2)
+
+pub pass_edge-requires : goal.pass_edge-requires
+pass_edge-requires c = omega (arith, c.loop-i-test.true, c.requires.0)
+
+-- t is what is known in the loop, s at the start
+pub returns-then-pass_edge : goal.returns-then-pass_edge
+returns-then-pass_edge c =
+            pass_large _ _ _ _ _ _ _ c.loop-i-test.true c.loop-i.invariant.2 (c.requires.1 _ c.loop-i-test.true) c.pass_edge.ensures c.if-pass_edge.true
+
+pub loop-i-preserved : goal.loop-i-preserved
+loop-i-preserved c =
+        (
+      omega arith,
+      search rules,
+      pass_more _ _ _ _ _ _ _ c.loop-i-test.true c.loop-i.invariant.2 (c.requires.1 _ c.loop-i-test.true) c.pass_edge.ensures c.if-pass_edge.false,
+    )
+
+pub shape_of-counts : goal.shape_of-counts
+shape_of-counts c = c.loop-i.invariant.1
+
+pub returns : goal.returns
+returns c = pass_done _ _ _ _ _ c.loop-i.invariant.0 c.loop-i-test.false c.loop-i.invariant.2

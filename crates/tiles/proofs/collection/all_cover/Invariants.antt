@@ -1,0 +1,15 @@
+use mathlib.Core.Path.{◌≡◌, sym, ◌∙◌}
+use Prim.Native.Nat.{ℕ, ◌≤◌, ◌<◌, ◌-◌}
+use borrow.Author.Count.{below_none, below_more}
+use Rattle.tile.specs.Path.{cell_count}
+use Rattle.tiles.specs.Paths.{path_at}
+use Rattle.tiles.proofs.CountLaws.{equal_counts_fails, equal_counts_all}
+use native.Mathlib.Omega.{arith}
+use borrow.Author.Rules.{rules}
+use Rattle.tiles.proofs.collection.all_cover.Given as goal
+
+abbrev pub invariant-loop-i : goal.invariant-loop-i
+invariant-loop-i l = (l.i ≤ l.count) × ((k : ℕ) → k < l.i → cell_count (path_at l.tiles.lens l.tiles.codes k) ≡ l.cells)
+
+abbrev pub decreases-loop-i : goal.decreases-loop-i
+decreases-loop-i l = l.count - l.i

@@ -1,0 +1,19 @@
+-- `tiles::collection::count_at` meets its contract: a tile of accepted tiles is not refused, and is counted.
+-- Assumes nothing.
+use mathlib.Core.Path.{◌≡◌}
+use lib.ListN.{length}
+use Rattle.tiles.specs.ReadLaws.{tile_count_is, tile_count_refused}
+use borrow.Author.Rules.{rules}
+use Rattle.tiles.proofs.collection.count_at.Goals as goal
+use Rattle.tiles.proofs.collection.count_at.Goals.{Start}
+
+long : (c : Start) → length c.args.tiles.codes ≡ 2048
+long c = search rules
+
+pub returns-in-Is : goal.returns-in-Is
+returns-in-Is c =
+            tile_count_is _ (long c.before.before.before.before.before) c.requires.0 _ c.requires.1 _ c.get-tile.ensures _ c.count_cells.ensures _ c.in-Is.is
+
+pub returns-in-Refused : goal.returns-in-Refused
+returns-in-Refused c =
+            absurd (tile_count_refused _ (long c.before.before.before.before) c.requires.0 _ c.requires.1 _ c.get-tile.ensures _ c.count_cells.ensures _ c.in-Refused.is)
