@@ -23,6 +23,9 @@ returns-then-not-is_whole c = let l = c.loop-at in
 pub record_from-requires : goal.record_from-requires
 record_from-requires c = ahead_long _ _ _ _ _ c.loop-at.invariant (sym c.is_whole.ensures ∙ not-false _ c.if-not-is_whole.false)
 
+pub overflow_add-at : goal.overflow_add-at
+overflow_add-at c = let long = ahead_long _ _ _ _ _ c.loop-at.invariant (sym c.is_whole.ensures ∙ not-false _ c.if-not-is_whole.false) in search rules
+
 pub loop-at-preserved : goal.loop-at-preserved
 loop-at-preserved c = current_step _ _ _ _ _ c.loop-at.invariant _ _ c.record_from.ensures c.current_of-current.ensures (sym c.is_whole.ensures ∙ not-false _ c.if-not-is_whole.false)
 

@@ -4,6 +4,9 @@ use Rattle.archive.proofs.ReadingLaws.{found_long, found_here, found_none, found
 use borrow.Author.Rules.{rules}
 use Rattle.archive.proofs.record_at.Goals as goal
 
+pub overflow_mul-place : goal.overflow_mul-place
+overflow_mul-place c = let long = found_long c.args.file.now c.args.place _ _ c.in-Number.is c.count_records-count.ensures c.if-place-n.true in search rules
+
 pub record_from-requires : goal.record_from-requires
 record_from-requires c = found_long c.args.file.now c.args.place _ _ c.in-Number.is c.count_records-count.ensures c.if-place-n.true
 

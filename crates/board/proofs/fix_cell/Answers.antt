@@ -16,11 +16,20 @@ use Rattle.board.proofs.fix_cell.Goals.{After-has_cell}
 
 pub returns-then-board-row : goal.returns-then-board-row
 returns-then-board-row c =
-        makes_refused _ _ (with_hole_bad _ _ _ c.requires (hole_below _ _ c.args.column c.if-board-row.true)) c.refused.ensures
+    makes_refused _ _ (with_hole_bad _ _ _ c.requires (hole_below _ _ c.args.column c.if-board-row.true)) c.refused.ensures
 
 pub returns-then-board-column : goal.returns-then-board-column
 returns-then-board-column c =
-        makes_refused _ _ (with_hole_bad _ _ _ c.requires (hole_beside (board_of c.args.board) c.args.row c.args.column (omega (arith, c.if-board-column.true)))) c.refused-then-board-column.ensures
+    makes_refused _ _ (with_hole_bad _ _ _ c.requires (hole_beside (board_of c.args.board) c.args.row c.args.column (omega (arith, c.if-board-column.true)))) c.refused-then-board-column.ensures
+
+-- a cell of the rectangle
+pub overflow_mul-cell : goal.overflow_mul-cell
+overflow_mul-cell c =
+    omega (arith, c.if-board-row.false, valid_height (board_of c.args.board) c.requires)
+
+pub overflow_add-cell : goal.overflow_add-cell
+overflow_add-cell c =
+    omega (arith, c.if-board-row.false, c.if-board-column.false, valid_width (board_of c.args.board) c.requires, valid_height (board_of c.args.board) c.requires)
 
 -- what the test of the marks told
 told : (c : After-has_cell) (t : Bool) → c.has_cell.result ≡ t → let s = c.args in has_cell (marks (board_of s.board)) (16 * s.row + s.column) ≡ t
@@ -31,9 +40,9 @@ told c t e =
 
 pub returns-then-has_cell : goal.returns-then-has_cell
 returns-then-has_cell c =
-        makes_refused _ _ (with_hole_bad _ _ _ c.requires (hole_marked _ _ _ c.requires c.if-board-row.false c.if-board-column.false (told c.before.before _ c.if-has_cell.true))) c.refused-then-has_cell.ensures
+    makes_refused _ _ (with_hole_bad _ _ _ c.requires (hole_marked _ _ _ c.requires c.if-board-row.false c.if-board-column.false (told c.before.before _ c.if-has_cell.true))) c.refused-then-has_cell.ensures
 
 pub returns : goal.returns
 returns c =
-        makes_hole _ _ _ c.requires (hole_free _ _ _ c.requires c.if-board-row.false c.if-board-column.false (told c.before.before _ c.if-has_cell.false))
+    makes_hole _ _ _ c.requires (hole_free _ _ _ c.requires c.if-board-row.false c.if-board-column.false (told c.before.before _ c.if-has_cell.false))
     _ c.with_cell-board.ensures

@@ -17,15 +17,21 @@ accepted c = sym (ap verdict_number c.in-Accepted.is) ∙ c.judged-verdict.ensur
 pub add_children-stored-requires : goal.add_children-stored-requires
 add_children-stored-requires c = children_accepted _ _ (accepted c.before)
 
+-- a is what is known after `add_children`
+pub overflow_mul-n : goal.overflow_mul-n
+overflow_mul-n c =
+    let n = few _ _ _ c.add_children-stored.ensures _ c.in-Number.is in
+    omega arith
+
 pub returns-in-Number : goal.returns-in-Number
 returns-in-Number c =
-        places_number _ _ _ _ (accepted c.before.before.before.before.before.before.before.before.before.before.before) _ c.add_children-stored.auto.0 _ c.add_children-stored.ensures _ c.in-Number.is
+    places_number _ _ _ _ (accepted c.before.before.before.before.before.before.before.before.before.before.before) _ c.add_children-stored.auto.0 _ c.add_children-stored.ensures _ c.in-Number.is
     (λ i. (c.type_inv.out.given i).fits) c.clear_from.ensures
 
 pub returns-in-Full : goal.returns-in-Full
 returns-in-Full c =
-        places_full _ _ _ _ (accepted c.before.before.before.before.before.before.before.before.before.before) _ c.add_children-stored.auto.0 _ c.add_children-stored.ensures c.in-Full.is c.clear_from-in-Full.ensures
+    places_full _ _ _ _ (accepted c.before.before.before.before.before.before.before.before.before.before) _ c.add_children-stored.auto.0 _ c.add_children-stored.ensures c.in-Full.is c.clear_from-in-Full.ensures
 
 pub returns-in-Refused : goal.returns-in-Refused
 returns-in-Refused c =
-        places_refused _ _ _ _ c.in-Refused.refusal (sym (ap verdict_number c.in-Refused.is) ∙ c.judged-verdict.ensures) c.clear_from-in-Refused.ensures
+    places_refused _ _ _ _ c.in-Refused.refusal (sym (ap verdict_number c.in-Refused.is) ∙ c.judged-verdict.ensures) c.clear_from-in-Refused.ensures

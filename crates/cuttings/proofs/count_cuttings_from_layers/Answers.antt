@@ -9,8 +9,8 @@ returns-in_default c = count_stays _ _ _ c.in_default.is
 
 pub returns-in-Is : goal.returns-in-Is
 returns-in-Is c =
-            figure_told _ _ _ c.in-Number.is _ c.is_all_marked-answer.ensures _ c.in-Is.is _ c.figure.ensures
+    figure_told _ _ _ c.in-Number.is _ c.is_all_marked-answer.ensures _ c.in-Is.is _ c.figure.ensures
 
 pub returns-in-Refused : goal.returns-in-Refused
 returns-in-Refused c =
-            board_refused _ _ _ c.in-Number.is _ c.is_all_marked-answer.ensures _ c.in-Refused.is
+    board_refused _ _ _ c.in-Number.is _ c.is_all_marked-answer.ensures _ c.in-Refused.is

@@ -12,8 +12,20 @@ use Rattle.expansion.proofs.most_children.Goals as goal
 pub loop-i-init : goal.loop-i-init
 loop-i-init c = (omega arith, points_none _, omega arith)
 
+pub offset_bounds-lens-i : goal.offset_bounds-lens-i
+offset_bounds-lens-i c = let few = (read_tiles_sound _ _ c.requires).0 in omega (arith, c.loop-i-test.true)
+
 pub bounds-lens-i : goal.bounds-lens-i
 bounds-lens-i c = let few = (read_tiles_sound _ _ c.requires).0 in search rules
+
+pub overflow_add-sum : goal.overflow_add-sum
+overflow_add-sum c = let short = (sound_tile _ c.requires _ c.loop-i-test.true).0 in omega arith
+
+pub overflow_add-sum-in-loop-i : goal.overflow_add-sum-in-loop-i
+overflow_add-sum-in-loop-i c =
+    let few = (read_tiles_sound _ _ c.requires).0 in
+    let short = (sound_tile _ c.requires _ c.loop-i-test.true).0 in
+    omega (arith, c.loop-i.invariant.2, c.loop-i-test.true)
 
 pub loop-i-preserved : goal.loop-i-preserved
 loop-i-preserved c =
@@ -22,6 +34,6 @@ loop-i-preserved c =
 
 pub returns : goal.returns
 returns c =
-        let few = (read_tiles_sound _ _ c.requires).0 in
+    let few = (read_tiles_sound _ _ c.requires).0 in
     let long : length c.args.tiles.codes ≡ 2048 = search rules in
     (points_all c.args.tiles long c.requires _ _ c.loop-i.invariant.0 c.loop-i-test.false c.loop-i.invariant.1, omega (arith, c.loop-i.invariant.0, c.loop-i.invariant.2))

@@ -6,12 +6,12 @@ use Rattle.host_counts.proofs.generate_graph.Goals as goal
 
 pub returns-in-Accepted : goal.returns-in-Accepted
 returns-in-Accepted c =
-        graph_accepted _ _ c.args.marks.now c.args.tiles.now c.args.answer.now _ c.of_plot-verdict.ensures
+    graph_accepted _ _ c.args.marks.now c.args.tiles.now c.args.answer.now _ c.of_plot-verdict.ensures
     c.args.nodes.now c.args.counts.now c.args.edges.now _ _
     c.in-Accepted.is c.board_from.ensures c.tiles_from.ensures c.generate_graph.ensures
 
 pub returns-in-Refused : goal.returns-in-Refused
 returns-in-Refused c =
-        graph_unshaped _ _ c.args.marks.now c.args.tiles.now c.args.answer.now _ c.of_plot-verdict.ensures
+    graph_unshaped _ _ c.args.marks.now c.args.tiles.now c.args.answer.now _ c.of_plot-verdict.ensures
     c.args.nodes.now c.args.counts.now c.args.edges.now _ c.in-Refused.is
     c.clear_from.ensures c.clear_from-in-Refused.ensures c.clear_from-in-Refused-2.ensures c.refuse.ensures

@@ -6,10 +6,10 @@ use Rattle.host_plots.proofs.place_tile.Goals as goal
 
 pub returns-in-Accepted : goal.returns-in-Accepted
 returns-in-Accepted c =
-        place_accepted _ _ c.args.marks.now c.args.tiles.now c.args.answer.now _ c.of_plot-verdict.ensures c.args.out.now _ _
+    place_accepted _ _ c.args.marks.now c.args.tiles.now c.args.answer.now _ c.of_plot-verdict.ensures c.args.out.now _ _
     c.in-Accepted.is c.board_from.ensures c.tiles_from.ensures c.place_tile.ensures
 
 pub returns-in-Refused : goal.returns-in-Refused
 returns-in-Refused c =
-        place_unshaped _ _ c.args.marks.now c.args.tiles.now c.args.answer.now _ c.of_plot-verdict.ensures c.args.out.now _
+    place_unshaped _ _ c.args.marks.now c.args.tiles.now c.args.answer.now _ c.of_plot-verdict.ensures c.args.out.now _
     c.in-Refused.is c.clear_from.ensures c.refuse.ensures

@@ -6,10 +6,10 @@ use Rattle.host_plots.proofs.read_plot.Goals as goal
 
 pub returns-in-Accepted : goal.returns-in-Accepted
 returns-in-Accepted c =
-        plot_accepted c.args.file.now c.args.board.now c.args.tiles.now c.args.answer.now _ c.of_file-verdict.ensures
+    plot_accepted c.args.file.now c.args.board.now c.args.tiles.now c.args.answer.now _ c.of_file-verdict.ensures
     c.in-Accepted.is c.read_plot.ensures
 
 pub returns-in-Refused : goal.returns-in-Refused
 returns-in-Refused c =
-        plot_unshaped c.args.file.now c.args.board.now c.args.tiles.now c.args.answer.now _ c.of_file-verdict.ensures _
+    plot_unshaped c.args.file.now c.args.board.now c.args.tiles.now c.args.answer.now _ c.of_file-verdict.ensures _
     c.in-Refused.is _ c.new.ensures c.clear_from.ensures c.put_tiles.ensures c.refuse.ensures

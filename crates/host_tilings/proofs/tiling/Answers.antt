@@ -6,12 +6,12 @@ use Rattle.host_tilings.proofs.tiling.Goals as goal
 
 pub tiling-requires : goal.tiling-requires
 tiling-requires c =
-        tiling_words c.args.nodes.now c.args.counts.now c.args.edges.now c.args.graph.now c.args.m.now c.args.out.now c.args.answer.now _ c.of_tiling-verdict.ensures c.in-Accepted.is
+    tiling_words c.args.nodes.now c.args.counts.now c.args.edges.now c.args.graph.now c.args.m.now c.args.out.now c.args.answer.now _ c.of_tiling-verdict.ensures c.in-Accepted.is
 
 pub returns-in-Accepted : goal.returns-in-Accepted
 returns-in-Accepted c =
-        tiling_accepted c.args.nodes.now c.args.counts.now c.args.edges.now c.args.graph.now c.args.m.now c.args.out.now c.args.answer.now _ c.of_tiling-verdict.ensures c.in-Accepted.is _ c.graph_from.ensures c.tiling.ensures
+    tiling_accepted c.args.nodes.now c.args.counts.now c.args.edges.now c.args.graph.now c.args.m.now c.args.out.now c.args.answer.now _ c.of_tiling-verdict.ensures c.in-Accepted.is _ c.graph_from.ensures c.tiling.ensures
 
 pub returns-in-Refused : goal.returns-in-Refused
 returns-in-Refused c =
-        tiling_unshaped c.args.nodes.now c.args.counts.now c.args.edges.now c.args.graph.now c.args.m.now c.args.out.now c.args.answer.now _ c.of_tiling-verdict.ensures _ c.in-Refused.is c.clear_from.ensures c.refuse.ensures
+    tiling_unshaped c.args.nodes.now c.args.counts.now c.args.edges.now c.args.graph.now c.args.m.now c.args.out.now c.args.answer.now _ c.of_tiling-verdict.ensures _ c.in-Refused.is c.clear_from.ensures c.refuse.ensures

@@ -6,5 +6,5 @@ use Rattle.host_words.proofs.board_from.Goals as goal
 
 pub returns : goal.returns
 returns c =
-                    board_made _ _ c.args.marks.now c.word_at.ensures c.word_at-2.ensures c.word_at-3.ensures
+    board_made _ _ c.args.marks.now c.word_at.ensures c.word_at-2.ensures c.word_at-3.ensures
     c.word_at-4.ensures c.word_at-5.ensures c.word_at-6.ensures c.word_at-7.ensures c.word_at-8.ensures c.of_marks.ensures

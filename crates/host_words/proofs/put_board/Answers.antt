@@ -38,6 +38,6 @@ laid c = record { s0 = search rules; s1 = search rules; s2 = search rules; s3 = 
 pub returns : goal.returns
 returns c =
     let inv = c.loop-i.invariant in
-        let words = c.args.words.now in
+    let words = c.args.words.now in
     padded_end (struct_words c.args.board) words _ _ inv (omega (arith, inv.long))
     ∙ ap (λ (ns : List ℕ). padded ns (length words)) (board_words_lem c.args.board (fixed c.before.before.before) (laid c.before.before.before))

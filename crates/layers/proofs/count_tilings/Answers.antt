@@ -16,7 +16,7 @@ laid c = record { s0 = search rules; s1 = search rules; s2 = search rules; s3 = 
 -- w, x, y and z are what is known after the four calls of `clear_from`
 pub returns : goal.returns
 returns c =
-                            let d = c.counted-count in
+    let d = c.counted-count in
     both (counts_cuttings _ (fixed c.before.before.before.before.before.before.before.before.before.before.before.before.before.before.before.before.before.before.before.before.before.before.before.before.before.before.before.before.before.before.before.before.before) (laid c.before.before.before.before.before.before.before.before.before.before.before.before.before.before.before.before.before.before.before.before.before.before.before.before.before.before.before.before.before.before.before.before.before) _ _ _ _ _ _ _ _ _ _) record {
       answer = d.ensures;
       zero_boards_a = cleared_zeros _ _ _ c.clear_from.ensures d.auto.1.1.0;

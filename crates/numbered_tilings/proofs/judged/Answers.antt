@@ -18,22 +18,22 @@ returns-then-is_bad_graph c = answers_bad _ _ _ _ _ _ (sym c.is_bad_graph.ensure
 
 pub returns-then-not-less : goal.returns-then-not-less
 returns-then-not-less c =
-        answers_none _ _ _ _ _ (sound c.before.before.before) _ c.count_tilings_from_graph-count.ensures _
+    answers_none _ _ _ _ _ (sound c.before.before.before) _ c.count_tilings_from_graph-count.ensures _
     (ltb-false _ _ (sym c.less.ensures ∙ not-true _ c.if-not-less.true))
 
 pub list_length-size-requires : goal.list_length-size-requires
 list_length-size-requires c =
-        walkable _ _ _ _ _ (sound c.before.before.before.before) _ c.count_tilings_from_graph-count.ensures
+    walkable _ _ _ _ _ (sound c.before.before.before.before) _ c.count_tilings_from_graph-count.ensures
     (ltb-true _ _ (sym c.less.ensures ∙ not-false _ c.if-not-less.false)) _ c.last_node-last.ensures
 
 pub returns-then-room-size : goal.returns-then-room-size
 returns-then-room-size c =
-            answers_short _ _ _ _ _ (sound c.before.before.before.before.before.before) _ c.count_tilings_from_graph-count.ensures
+    answers_short _ _ _ _ _ (sound c.before.before.before.before.before.before) _ c.count_tilings_from_graph-count.ensures
     (ltb-true _ _ (sym c.less.ensures ∙ not-false _ c.if-not-less.false)) _ c.last_node-last.ensures _ _ c.list_length-size.ensures
     c.if-room-size.true
 
 pub returns : goal.returns
 returns c =
-            answers_given _ _ _ _ _ (sound c.before.before.before.before.before.before) _ c.count_tilings_from_graph-count.ensures
+    answers_given _ _ _ _ _ (sound c.before.before.before.before.before.before) _ c.count_tilings_from_graph-count.ensures
     (ltb-true _ _ (sym c.less.ensures ∙ not-false _ c.if-not-less.false)) _ c.last_node-last.ensures _ _ c.list_length-size.ensures
     c.if-room-size.false

@@ -7,17 +7,17 @@ use Rattle.numbered_tilings.proofs.tiling_by_number.Goals as goal
 
 pub returns-in_default : goal.returns-in_default
 returns-in_default c =
-        let args = c.args in
+    let args = c.args in
     gives_none args.graph args.nodes.now args.counts.now args.edges.now (count_value args.m) args.output.now _ c.judged-answer.ensures _ c.in_default.is _ c.clear_from.ensures
 
 pub write_list-requires : goal.write_list-requires
 write_list-requires c =
-        let args = c.args in
+    let args = c.args in
     told_writable args.graph args.nodes.now args.counts.now args.edges.now (count_value args.m) args.output.now _
     c.judged-answer.ensures _ c.in-Length.is _ c.last_node-last.ensures
 
 pub returns : goal.returns
 returns c =
-                let args = c.args in
+    let args = c.args in
     gives_list args.graph args.nodes.now args.counts.now args.edges.now (count_value args.m) args.output.now _ c.judged-answer.ensures _ c.in-Length.is _ c.last_node-last.ensures _ _
     c.write_list.auto.1.1.1.1.1.1.0 c.write_list.ensures c.clear_from-2.ensures

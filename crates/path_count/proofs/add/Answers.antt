@@ -6,8 +6,8 @@ use Rattle.path_count.proofs.add.Goals as goal
 
 pub returns-in_default : goal.returns-in_default
 returns-in_default c =
-        add_refused _ _ _ _ c.get.ensures _ c.plus-sum.ensures c.in_default.is
+    add_refused _ _ _ _ c.get.ensures _ c.plus-sum.ensures c.in_default.is
 
 pub returns : goal.returns
 returns c =
-                add_stored _ _ _ _ c.get.ensures _ c.plus-sum.ensures _ c.in-Is.is _ c.put.ensures
+    add_stored _ _ _ _ c.get.ensures _ c.plus-sum.ensures _ c.in-Is.is _ c.put.ensures

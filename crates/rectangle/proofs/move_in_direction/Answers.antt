@@ -24,15 +24,20 @@ returns-then-col-gt15 c = after_col _ _ _ _ _ c.if-col-gt15.true
 pub returns-in_default : goal.returns-in_default
 returns-in_default c = after_code _ _ _ _ _ (told_refusal _ _ c.step-offset.ensures _ c.in_default.is)
 
+pub overflow_add-row : goal.overflow_add-row
+overflow_add-row c = step_fits c.args.row c.in-By.down (omega arith) (small c).0
+
+pub overflow_add-col : goal.overflow_add-col
+overflow_add-col c = step_fits c.args.col c.in-By.right (omega arith) (small c).1
+
 pub returns : goal.returns
 returns c =
-        let d = c.offset-1.given in
     let s = small c.before in
     let row : c.args.row < 16 = omega arith in
     let col : c.args.col < 16 = omega arith in
     let told = c.step-offset.ensures in
     place_step _ _ _ _ _ _ _ _ _ c.place_at.result c.place_at.ensures
-    (step_back c.args.row d.0.0 row s.0)
-    (step_back c.args.col d.0.1.0 col s.1)
-    (told_step _ _ told _ _ d.1)
-    ∙ sym (place_after_is _ _ _ _ _ row col (told_code _ _ told _ _ d.1))
+    (step_back c.args.row c.in-By.down row s.0)
+    (step_back c.args.col c.in-By.right col s.1)
+    (told_step _ _ told _ _ c.in-By.is)
+    ∙ sym (place_after_is _ _ _ _ _ row col (told_code _ _ told _ _ c.in-By.is))

@@ -11,6 +11,12 @@ returns-then-row-lt0 c = place_above _ _ _ _ (rw (to_z-of_z c.ranges.row) at c.i
 pub returns-then-col-lt0 : goal.returns-then-col-lt0
 returns-then-col-lt0 c = place_left _ _ _ _ (rw (to_z-of_z c.ranges.col) at c.if-col-lt0.true)
 
+pub overflow_cast-r : goal.overflow_cast-r
+overflow_cast-r c = casts _ c.ranges.row c.if-row-lt0.false
+
+pub overflow_cast-c : goal.overflow_cast-c
+overflow_cast-c c = casts _ c.ranges.col c.if-col-lt0.false
+
 pub returns-then-height-r : goal.returns-then-height-r
 returns-then-height-r c =
     place_below _ _ _ _ _ _

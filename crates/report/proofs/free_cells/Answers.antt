@@ -9,7 +9,7 @@ use Rattle.report.proofs.free_cells.Goals as goal
 pub returns-in-Number : goal.returns-in-Number
 unfolding value_or
 returns-in-Number c =
-        ap (λ (f : FreeCells). value_or 0 (free_cells_answer f)) (sym c.in-Number.is) ∙ ap (value_or 0) c.free_cells-free.ensures
+    ap (λ (f : FreeCells). value_or 0 (free_cells_answer f)) (sym c.in-Number.is) ∙ ap (value_or 0) c.free_cells-free.ensures
 
 pub returns-in-Refused : goal.returns-in-Refused
 unfolding value_or

@@ -8,11 +8,11 @@ use Rattle.report.proofs.put_counts.Goals as goal
 
 pub put_cuttings-requires : goal.put_cuttings-requires
 put_cuttings-requires c =
-            puts_inside c.requires c.put_layers-next.ensures
+    puts_inside c.requires c.put_layers-next.ensures
 
 pub returns : goal.returns
 returns c =
-                        let both = puts_append c.requires c.put_layers-next.ensures c.put_cuttings.ensures in (
+    let both = puts_append c.requires c.put_layers-next.ensures c.put_cuttings.ensures in (
       λ p h.
           let counted = held_counted p _ _ h _ _ _ _ _ _ _ _ _ c.count_tilings-count.ensures.0 refl counts_lent.0 refl counts_lent.0 in
           puts_append c.requires (puts_as (ap layers_line counted) c.put_layers-next.ensures)

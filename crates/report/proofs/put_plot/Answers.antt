@@ -11,7 +11,7 @@ use Rattle.report.proofs.put_plot.Goals as goal
 pub returns : goal.returns
 unfolding plot_lines
 returns c =
-                    (
+    (
       λ p h.
           puts_append (omega arith)
           (puts_as (sym (append_assoc (board_line p ++ tiles_line p) (layers_line (plot_layers p)) (cuttings_line (plot_cuttings p))))

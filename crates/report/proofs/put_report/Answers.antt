@@ -8,9 +8,9 @@ use Rattle.report.proofs.put_report.Goals as goal
 
 pub returns-in-Accepted : goal.returns-in-Accepted
 returns-in-Accepted c =
-                let text = accepted_text _ _ c.read_plot-plot.ensures c.in-Accepted.is in
+    let text = accepted_text _ _ c.read_plot-plot.ensures c.in-Accepted.is in
     puts_as (sym text.2) (c.put_plot.ensures.0 text.0 text.1)
 
 pub returns-in-Refused : goal.returns-in-Refused
 returns-in-Refused c =
-                puts_as (sym (refused_text _ _ c.read_plot-plot.ensures _ c.in-Refused.is)) c.put_refused.ensures
+    puts_as (sym (refused_text _ _ c.read_plot-plot.ensures _ c.in-Refused.is)) c.put_refused.ensures

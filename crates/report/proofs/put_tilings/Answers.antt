@@ -20,14 +20,14 @@ use Rattle.report.proofs.put_tilings.Goals as goal
 pub loop-m-init : goal.loop-m-init
 unfolding list_from list_of flat_map
 loop-m-init c =
-        (omega arith, omega arith, c.requires, refl, λ g built counted. puts_none _ _ c.requires)
+    (omega arith, omega arith, c.requires, refl, λ g built counted. puts_none _ _ c.requires)
 
 pub shape_of-out-then-not-less : goal.shape_of-out-then-not-less
 shape_of-out-then-not-less c = c.loop-m.invariant.3
 
 pub returns-then-not-less : goal.returns-then-not-less
 returns-then-not-less c =
-            let inv = c.loop-m.invariant in
+    let inv = c.loop-m.invariant in
     let past = not_below _ _ _ inv.0 c.of_words.ensures (sym c.less.ensures ∙ not-true _ c.if-not-less.true) in
     (λ g built counted. puts_listed g _ (omega (arith, counted, inv.0, inv.1, past)) (inv.4 g built counted), inv.2)
 
@@ -36,7 +36,7 @@ put_tiling-next-requires c = let inv = c.loop-m.invariant in omega (arith, inv.2
 
 pub loop-m-preserved : goal.loop-m-preserved
 loop-m-preserved c =
-                    let inv = c.loop-m.invariant in
+    let inv = c.loop-m.invariant in
     let below = is_below _ _ _ inv.0 c.of_words.ensures (sym c.less.ensures ∙ not-false _ c.if-not-less.false) in (
       omega (arith, c.loop-m-test.true),
       omega (arith, below),

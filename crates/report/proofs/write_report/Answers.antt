@@ -6,4 +6,4 @@ use Rattle.report.proofs.write_report.Goals as goal
 
 pub returns : goal.returns
 returns c =
-        puts_cleared c.put_report-end.ensures c.clear_from.ensures
+    puts_cleared c.put_report-end.ensures c.clear_from.ensures

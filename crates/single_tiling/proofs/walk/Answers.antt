@@ -27,8 +27,8 @@ returns-then-not-is_sum c = walk_no_sum _ (fixed c.before.before.before.before) 
 
 pub descend-requires : goal.descend-requires
 descend-requires c =
-        searched_held _ (fixed c.before.before.before.before.before.before.before.before.before.before) (laid c.before.before.before.before.before.before.before.before.before.before) _ _ _ c.requires _ c.has_single-single.ensures
+    searched_held _ (fixed c.before.before.before.before.before.before.before.before.before.before) (laid c.before.before.before.before.before.before.before.before.before.before) _ _ _ c.requires _ c.has_single-single.ensures
 
 pub returns : goal.returns
 returns c =
-                walk_first _ (fixed c.before.before.before.before.before.before.before.before.before.before.before.before.before) (laid c.before.before.before.before.before.before.before.before.before.before.before.before.before) _ _ _ c.requires _ _ _ c.if-free-eq0.false c.descend.ensures
+    walk_first _ (fixed c.before.before.before.before.before.before.before.before.before.before.before.before.before) (laid c.before.before.before.before.before.before.before.before.before.before.before.before.before) _ _ _ c.requires _ _ _ c.if-free-eq0.false c.descend.ensures

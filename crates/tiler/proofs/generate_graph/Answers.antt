@@ -16,15 +16,15 @@ laid c = record { s0 = search rules; s1 = search rules; s2 = search rules; s3 = 
 
 pub made-requires : goal.made-requires
 made-requires c =
-        (judged_size _ _ _ _ c.judge-judged.ensures c.in-Size.is).0
+    (judged_size _ _ _ _ c.judge-judged.ensures c.in-Size.is).0
 
 pub returns-in-Size : goal.returns-in-Size
 returns-in-Size c =
-                both (graph_numbers_cuttings _ (fixed c.before.before.before.before.before.before.before.before.before.before.before.before.before.before.before.before) (laid c.before.before.before.before.before.before.before.before.before.before.before.before.before.before.before.before) _ c.args.nodes.now c.args.counts.now c.args.edges.now _ _ _ _)
+    both (graph_numbers_cuttings _ (fixed c.before.before.before.before.before.before.before.before.before.before.before.before.before.before.before.before) (laid c.before.before.before.before.before.before.before.before.before.before.before.before.before.before.before.before) _ c.args.nodes.now c.args.counts.now c.args.edges.now _ _ _ _)
     (generates_made _ _ _ _ _ _ _ _ _ (judged_size _ _ _ _ c.judge-judged.ensures c.in-Size.is).2 c.made.ensures)
 
 pub returns-in-Refused : goal.returns-in-Refused
 returns-in-Refused c =
-                both (graph_numbers_cuttings _ (fixed c.before.before.before.before.before.before.before.before.before.before.before.before.before.before.before.before.before) (laid c.before.before.before.before.before.before.before.before.before.before.before.before.before.before.before.before.before) _ c.args.nodes.now c.args.counts.now c.args.edges.now _ _ _ _)
+    both (graph_numbers_cuttings _ (fixed c.before.before.before.before.before.before.before.before.before.before.before.before.before.before.before.before.before) (laid c.before.before.before.before.before.before.before.before.before.before.before.before.before.before.before.before.before) _ c.args.nodes.now c.args.counts.now c.args.edges.now _ _ _ _)
     (generates_refused _ _ _ _ _ _ _ _ _ _ (judged_refused _ _ _ _ c.judge-judged.ensures c.in-Refused.is)
     c.refused.ensures)

@@ -5,5 +5,5 @@ use borrow.Author.Rules.{rules}
 use Rattle.archive.proofs.bytes.record_from.Goals as goal
 
 pub returns : goal.returns
-returns c =     record_read c.args.file.now c.args.at c.pair_from.ensures c.pair_from-2.ensures c.pair_from-3.ensures
+returns c = record_read c.args.file.now c.args.at c.pair_from.ensures c.pair_from-2.ensures c.pair_from-3.ensures
     c.word_from.ensures c.word_from-2.ensures

@@ -18,5 +18,8 @@ returns-then-scale-gt8 c = makes_refused _ _ (l_high _ _ c.if-scale-gt8.true) c.
 pub returns-then-n-gt16 : goal.returns-then-n-gt16
 returns-then-n-gt16 c = makes_refused _ _ (l_wide _ _ c.if-scale-eq0.false c.if-n-gt16.true) c.refused-then-n-gt16.ensures
 
+pub overflow_mul-n : goal.overflow_mul-n
+overflow_mul-n c = omega (arith, small_product c.args.n c.args.scale (omega arith) (omega arith))
+
 pub returns : goal.returns
 returns c = subst (λ (a : Answer Board). MakesBoard a c.made-2.result) (l_shaped _ _) c.made-2.ensures

@@ -19,5 +19,14 @@ returns-then-scale-gt8 c = makes_refused _ _ (t_high _ _ c.if-scale-gt8.true) c.
 pub returns-then-n-gt16 : goal.returns-then-n-gt16
 returns-then-n-gt16 c = makes_refused _ _ (t_wide _ _ c.if-scale-eq0.false c.if-n-gt16.true) c.refused-then-n-gt16.ensures
 
+pub overflow_mul-n-2 : goal.overflow_mul-n-2
+overflow_mul-n-2 c = omega (arith, small_product (2 * c.args.n + 1) c.args.scale (omega arith) (omega arith))
+
+pub overflow_mul-n-3 : goal.overflow_mul-n-3
+overflow_mul-n-3 c = omega (arith, small_product c.args.n c.args.scale (omega arith) (omega arith))
+
+pub overflow_mul-n-4 : goal.overflow_mul-n-4
+overflow_mul-n-4 c = omega (arith, small_product (c.args.n + 1) c.args.scale (omega arith) (omega arith))
+
 pub returns : goal.returns
 returns c = subst (λ (a : Answer Board). MakesBoard a c.made-2.result) (t_shaped _ _) c.made-2.ensures

@@ -13,4 +13,4 @@ fix_cell-requires c = check_accepted _ _ c.check-verdict.ensures c.in-Accepted.i
 pub returns-in-Refused : goal.returns-in-Refused
 unfolding read_board
 returns-in-Refused c =
-        makes_refused _ _ (with_hole_handed _ _ _ _ (check_refused c.args.self _ c.check-verdict.ensures _ c.in-Refused.is)) c.refused.ensures
+    makes_refused _ _ (with_hole_handed _ _ _ _ (check_refused c.args.self _ c.check-verdict.ensures _ c.in-Refused.is)) c.refused.ensures

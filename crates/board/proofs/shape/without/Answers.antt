@@ -13,5 +13,17 @@ sound_set c = record { s0 = search rules; s1 = search rules; s2 = search rules; 
 sound_part : (c : Start) → Sound c.args.part
 sound_part c = record { s0 = search rules; s1 = search rules; s2 = search rules; s3 = search rules }
 
+pub overflow_sub-result : goal.overflow_sub-result
+overflow_sub-result c = word_le _ _ (sound_part c.before.before) (sound_set c.before.before) c.requires 0
+
+pub overflow_sub-result-2 : goal.overflow_sub-result-2
+overflow_sub-result-2 c = word_le _ _ (sound_part c.before.before.before.before) (sound_set c.before.before.before.before) c.requires 1
+
+pub overflow_sub-result-3 : goal.overflow_sub-result-3
+overflow_sub-result-3 c = word_le _ _ (sound_part c.before.before.before.before.before.before) (sound_set c.before.before.before.before.before.before) c.requires 2
+
+pub overflow_sub-result-4 : goal.overflow_sub-result-4
+overflow_sub-result-4 c = word_le _ _ (sound_part c.before.before.before.before.before.before.before.before) (sound_set c.before.before.before.before.before.before.before.before) c.requires 3
+
 pub returns : goal.returns
 returns c = number_without c.args.part c.args.set (sound_part c.before.before.before.before.before.before.before.before) (sound_set c.before.before.before.before.before.before.before.before) c.requires

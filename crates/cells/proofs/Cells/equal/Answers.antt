@@ -20,8 +20,8 @@ returns-then-self-other-2 c = eqb_word _ _ (sound c.before.before.before.before.
 
 pub returns-then-self-other-3 : goal.returns-then-self-other-3
 returns-then-self-other-3 c =
-        eqb_word _ _ (sound c.before.before.before.before.before.before.before.before.before) (sound_other c.before.before.before.before.before.before.before.before.before) 2 c.if-self-other-3.true
+    eqb_word _ _ (sound c.before.before.before.before.before.before.before.before.before) (sound_other c.before.before.before.before.before.before.before.before.before) 2 c.if-self-other-3.true
 
 pub returns : goal.returns
 returns c =
-                    eqb_last _ _ (sound c.before.before.before.before.before.before.before.before.before.before.before) (sound_other c.before.before.before.before.before.before.before.before.before.before.before) c.if-self-other.false c.if-self-other-2.false c.if-self-other-3.false
+    eqb_last _ _ (sound c.before.before.before.before.before.before.before.before.before.before.before) (sound_other c.before.before.before.before.before.before.before.before.before.before.before) c.if-self-other.false c.if-self-other-2.false c.if-self-other-3.false

@@ -20,8 +20,8 @@ returns-then-self-other-ne0-2 c = shares_cell_word _ _ (sound c.before.before.be
 
 pub returns-then-self-other-ne0-3 : goal.returns-then-self-other-ne0-3
 returns-then-self-other-ne0-3 c =
-        shares_cell_word _ _ (sound c.before.before.before.before.before.before.before.before.before) (sound_other c.before.before.before.before.before.before.before.before.before) 2 c.if-self-other-ne0-3.true
+    shares_cell_word _ _ (sound c.before.before.before.before.before.before.before.before.before) (sound_other c.before.before.before.before.before.before.before.before.before) 2 c.if-self-other-ne0-3.true
 
 pub returns : goal.returns
 returns c =
-                    shares_cell_last _ _ (sound c.before.before.before.before.before.before.before.before.before.before.before) (sound_other c.before.before.before.before.before.before.before.before.before.before.before) c.if-self-other-ne0.false c.if-self-other-ne0-2.false c.if-self-other-ne0-3.false
+    shares_cell_last _ _ (sound c.before.before.before.before.before.before.before.before.before.before.before) (sound_other c.before.before.before.before.before.before.before.before.before.before.before) c.if-self-other-ne0.false c.if-self-other-ne0-2.false c.if-self-other-ne0-3.false

@@ -19,15 +19,15 @@ returns-in_default c = λ ns k. add_full _ _ _ k _ c.in_default.is
 
 pub returns-in_default-found : goal.returns-in_default-found
 returns-in_default-found c =
-        λ ns k. add_old _ _ _ k _ _ c.in-Number.is true
+    λ ns k. add_old _ _ _ k _ _ c.in-Number.is true
     (found_holds _ _ _ _ c.find-found.ensures _ c.in_default-found.is) refl
 
 pub returns-then-out-n : goal.returns-then-out-n
 returns-then-out-n c =
-        λ ns k. add_over _ _ _ k _ _ c.in-Number.is false
+    λ ns k. add_over _ _ _ k _ _ c.in-Number.is false
     (missed_holds _ _ _ _ c.find-found.ensures c.in-Nothing.is) refl c.if-out-n.true
 
 pub returns : goal.returns
 returns c =
-        λ ns k. add_put _ _ _ k _ _ c.in-Number.is false
+    λ ns k. add_put _ _ _ k _ _ c.in-Number.is false
     (missed_holds _ _ _ _ c.find-found.ensures c.in-Nothing.is) (small c.before.before.before.before.before.before.before.before.before.before.before.before) refl c.if-out-n.false _ c.put.ensures

@@ -19,6 +19,12 @@ use Rattle.children.proofs.placing.add_tiles.Goals as goal
 pub loop-i-init : goal.loop-i-init
 loop-i-init c = (search rules, refl, tiles_none _ _ _ _ _ _ (keeps_none _))
 
+pub overflow_add-end : goal.overflow_add-end
+overflow_add-end c = let short = (sound_tile _ c.requires.2 _ c.loop-i-test.true).0 in let few = c.requires.3 in omega arith
+
+pub slice_bounds-add_fits-end : goal.slice_bounds-add_fits-end
+slice_bounds-add_fits-end c = let short = (sound_tile _ c.requires.2 _ c.loop-i-test.true).0 in let few = c.requires.3 in let long : length c.args.tiles.codes ≡ 2048 = search rules in omega arith
+
 pub add_fits-state-requires : goal.add_fits-state-requires
 add_fits-state-requires c = (c.requires.0, c.requires.1, subst (λ (p : Path). So (is_path p)) (sym (part_path c.args.tiles.lens c.args.tiles.codes c.loop-i.i)) (part_sound _ c.requires.2 _ c.loop-i-test.true))
 

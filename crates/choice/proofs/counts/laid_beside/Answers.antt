@@ -20,6 +20,12 @@ stepped c = beside_step _ _ c.args.cell _ c.move_in_direction-place.result c.mov
 pub returns-in_default : goal.returns-in_default
 returns-in_default c = (beside_nowhere _ _ _ _ _ _ (stepped c.before.before) c.in_default.is, search rules)
 
+pub overflow_mul-r : goal.overflow_mul-r
+overflow_mul-r c = let p = place_placed _ _ _ _ _ _ (stepped c.before.before.before) c.in-At.is in omega arith
+
+pub overflow_add-r : goal.overflow_add-r
+overflow_add-r c = let p = place_placed _ _ _ _ _ _ (stepped c.before.before.before) c.in-At.is in omega arith
+
 pub returns-then-has_cell : goal.returns-then-has_cell
 unfolding one
 returns-then-has_cell c = (

@@ -21,6 +21,12 @@ stepped c =
 pub returns-in_default : goal.returns-in_default
 returns-in_default c = free_nowhere _ _ _ _ _ (stepped c.before.before) c.in_default.is
 
+pub overflow_mul-r : goal.overflow_mul-r
+overflow_mul-r c = let p = place_placed _ _ _ _ _ _ (stepped c.before.before.before) c.in-At.is in omega arith
+
+pub overflow_add-r : goal.overflow_add-r
+overflow_add-r c = let p = place_placed _ _ _ _ _ _ (stepped c.before.before.before) c.in-At.is in omega arith
+
 pub returns-then-has_cell : goal.returns-then-has_cell
 returns-then-has_cell c =
     free_marked _ _ _ _ _ (stepped c.before.before.before.before.before) _ _ c.in-At.is

@@ -7,11 +7,11 @@ use Rattle.fit.proofs.walk.tile_fits_at_position.Goals as goal
 
 pub returns-then-has_cell : goal.returns-then-has_cell
 returns-then-has_cell c =
-        fit_marked _ _ _ _ _ _ _ c.requires.2 c.requires.3 c.requires.4 (sym c.has_cell.ensures ∙ c.if-has_cell.true)
+    fit_marked _ _ _ _ _ _ _ c.requires.2 c.requires.3 c.requires.4 (sym c.has_cell.ensures ∙ c.if-has_cell.true)
 
 pub returns-in_default : goal.returns-in_default
 returns-in_default c =
-        fit_stops _ _ _ _ _ _ _ c.requires.2 c.requires.3 c.requires.4
+    fit_stops _ _ _ _ _ _ _ c.requires.2 c.requires.3 c.requires.4
     (sym c.has_cell.ensures ∙ c.if-has_cell.false) _ _
     c.of_words.ensures.0
     c.with_cell-first.ensures _
@@ -19,7 +19,7 @@ returns-in_default c =
 
 pub returns : goal.returns
 returns c =
-        fit_goes _ _ _ _ _ _ _ c.requires.2 c.requires.3 c.requires.4
+    fit_goes _ _ _ _ _ _ _ c.requires.2 c.requires.3 c.requires.4
     (sym c.has_cell.ensures
     ∙ c.if-has_cell.false) _ _
     c.of_words.ensures.0

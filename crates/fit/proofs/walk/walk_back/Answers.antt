@@ -31,10 +31,16 @@ returns-in_default c =
     (back_next _ _ _ _ c.loop-i-test.true c.back_code.ensures.0)
     c.free_step-place.ensures c.in_default.is
 
+pub overflow_mul-down : goal.overflow_mul-down
+overflow_mul-down c = let p = free_in_placed _ _ _ _ _ _ (sym (ap place_answer c.in-At.is) ∙ c.free_step-place.ensures) in omega arith
+
+pub overflow_add-down : goal.overflow_add-down
+overflow_add-down c = let p = free_in_placed _ _ _ _ _ _ (sym (ap place_answer c.in-At.is) ∙ c.free_step-place.ensures) in omega arith
+
 pub loop-i-preserved : goal.loop-i-preserved
 loop-i-preserved c =
     let l = c.loop-i in
-        walk_goes _ _ _ _ _ _ _ _ _ _ l.invariant _ (λ q. back q c.args.path.now (l.i - 1)) _
+    walk_goes _ _ _ _ _ _ _ _ _ _ l.invariant _ (λ q. back q c.args.path.now (l.i - 1)) _
     (back_next _ _ _ _ c.loop-i-test.true c.back_code.ensures.0)
     c.free_step-place.ensures _ _ c.in-At.is _ c.with_cell-covered.ensures _ (omega arith)
 

@@ -9,7 +9,7 @@ use Rattle.graph.proofs.rooms.layer_room.Goals as goal
 pub returns : goal.returns
 unfolding layer_room
 returns c =
-            c.room-3.ensures
+    c.room-3.ensures
     ∙ ap room_of
     (c.least.ensures
     ∙ ap₂ min (c.least-a.ensures ∙ ap (min _) c.room.ensures) (c.least-b.ensures ∙ ap (min _) c.room-2.ensures))

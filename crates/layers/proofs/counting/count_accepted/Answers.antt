@@ -25,18 +25,18 @@ returns-then-room-eq0 c = start_no_room _ _ _ _ c.layer_room-room.ensures c.if-r
 -- s is what is known at the start, f after `free_cells`, m after `start`, r after `run`; w is that the room is lent
 pub returns-then-free-eq0 : goal.returns-then-free-eq0
 returns-then-free-eq0 c =
-            start_full _ _ c.requires.0 (small_fixed c.before.before.before.before.before.before.before.before.before) (small_laid c.before.before.before.before.before.before.before.before.before) _ c.free_cells-free.ensures _ _ c.layer_room-room.ensures c.if-room-eq0.false
+    start_full _ _ c.requires.0 (small_fixed c.before.before.before.before.before.before.before.before.before) (small_laid c.before.before.before.before.before.before.before.before.before) _ c.free_cells-free.ensures _ _ c.layer_room-room.ensures c.if-room-eq0.false
     _ (word_count 0 (lit< tt) _ c.of_words.ensures) c.if-free-eq0.true
 
 pub start-requires : goal.start-requires
 start-requires c =
-        let w = layer_room_lem _ _ _ _ _ c.layer_room-room.ensures in
+    let w = layer_room_lem _ _ _ _ _ c.layer_room-room.ensures in
     let some = positive _ c.if-room-eq0.false in
     (omega (arith, w.0, some), omega (arith, w.1, some))
 
 pub run-requires : goal.run-requires
 run-requires c =
-                let w = layer_room_lem _ _ _ _ _ c.layer_room-room.ensures in (
+    let w = layer_room_lem _ _ _ _ _ c.layer_room-room.ensures in (
       (c.requires.0, c.requires.1),
       (omega (arith, w.0, c.start.auto.1.0), room_kept _ _ _ w.1 c.start.auto.1.1.0),
       (w.2, w.3),
@@ -46,5 +46,5 @@ run-requires c =
 
 pub returns : goal.returns
 returns c =
-                    start_run _ _ c.requires.0 (small_fixed c.before.before.before.before.before.before.before.before.before.before.before.before.before.before.before.before.before.before.before.before.before.before.before.before.before.before.before.before) (small_laid c.before.before.before.before.before.before.before.before.before.before.before.before.before.before.before.before.before.before.before.before.before.before.before.before.before.before.before.before) _ c.free_cells-free.ensures _ _ c.layer_room-room.ensures c.if-room-eq0.false
+    start_run _ _ c.requires.0 (small_fixed c.before.before.before.before.before.before.before.before.before.before.before.before.before.before.before.before.before.before.before.before.before.before.before.before.before.before.before.before) (small_laid c.before.before.before.before.before.before.before.before.before.before.before.before.before.before.before.before.before.before.before.before.before.before.before.before.before.before.before.before) _ c.free_cells-free.ensures _ _ c.layer_room-room.ensures c.if-room-eq0.false
     _ c.start.ensures c.if-free-eq0.false _ c.run.ensures

@@ -6,12 +6,12 @@ use Rattle.layers.proofs.counting.counted.Goals as goal
 
 pub count_accepted-requires : goal.count_accepted-requires
 count_accepted-requires c =
-        let r = judged_size _ _ _ _ c.judge-judged.ensures c.in-Size.is in
+    let r = judged_size _ _ _ _ c.judge-judged.ensures c.in-Size.is in
     (r.0, r.1)
 
 pub returns-in-Size : goal.returns-in-Size
 returns-in-Size c =
-            count_given _ _ _ _ (judged_size _ _ _ _ c.judge-judged.ensures c.in-Size.is).2 c.count_accepted.ensures
+    count_given _ _ _ _ (judged_size _ _ _ _ c.judge-judged.ensures c.in-Size.is).2 c.count_accepted.ensures
 
 pub returns-in-Refused : goal.returns-in-Refused
 returns-in-Refused c = count_refused _ _ _ _ (judged_refused _ _ _ _ c.judge-judged.ensures c.in-Refused.is)

@@ -8,5 +8,5 @@ use Rattle.layers.proofs.counting.start.Goals as goal
 
 pub returns : goal.returns
 returns c =
-                        first_entries c.args.board _ c.args.counts.now _ _ _ _ c.marks.ensures (word_count 1 (lit< tt) _ c.of_words.ensures) c.put.ensures c.put-2.ensures
+    first_entries c.args.board _ c.args.counts.now _ _ _ _ c.marks.ensures (word_count 1 (lit< tt) _ c.of_words.ensures) c.put.ensures c.put-2.ensures
     c.requires.0 c.requires.1

@@ -16,7 +16,7 @@ grow_once-grown-requires c = let p = c.requires in (p.0, p.1, p.2, c.if-left-plo
 -- g is what is known after the growth, p what is asked
 pub returns-in-Boards : goal.returns-in-Boards
 returns-in-Boards c =
-            let p = c.requires in
+    let p = c.requires in
     grown_on _ _ _ _ _ _ _ _ c.grow_once-grown.ensures _ _ c.in-Boards.is _
     (run_last _ _ _ _ _ _ (grown_ready _ _ _ _ _ _ _ _ c.grow_once-grown.ensures _ _ c.in-Boards.is) p.0.0 _ _ p.0.1 _
     (omega (arith, p.3, grown_rest _ _ _ _ _ _ _ _ c.grow_once-grown.ensures _ _ c.in-Boards.is)) c.last_count-in-Boards.ensures)

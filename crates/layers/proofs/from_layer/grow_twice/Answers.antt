@@ -11,7 +11,7 @@ grow_once-first-requires c = let p = c.requires in (p.0, p.2, p.3, omega (arith,
 -- g is what is known after the first growth, p what is asked
 pub grow_once-requires : goal.grow_once-requires
 grow_once-requires c =
-            let p = c.requires in (
+    let p = c.requires in (
       p.0,
       p.1,
       grown_ready _ _ _ _ _ _ _ _ c.grow_once-first.ensures _ _ c.in-Boards.is,
@@ -20,7 +20,7 @@ grow_once-requires c =
 
 pub returns-in-Boards : goal.returns-in-Boards
 returns-in-Boards c =
-                grown_twice _ _ _ _ _ _ _ _ c.grow_once-first.ensures _ _ c.in-Boards.is _ _ _ c.grow_once.ensures
+    grown_twice _ _ _ _ _ _ _ _ c.grow_once-first.ensures _ _ c.in-Boards.is _ _ _ c.grow_once.ensures
 
 pub returns-in-Refused : goal.returns-in-Refused
 returns-in-Refused c = once_refused _ _ _ _ _ _ _ _ c.grow_once-first.ensures _ c.in-Refused.is _ _ _

@@ -28,11 +28,11 @@ grow_twice-grown-requires c =
 -- g is what is known after the growth, l where the round begins, s at the start
 pub loop-free-smaller : goal.loop-free-smaller
 loop-free-smaller c =
-                run_less _ _ _ _ _ _ c.loop-free.invariant.4 c.requires.0.0 c.args.plot.room _ c.requires.0.1 _ (omega (arith, c.loop-free-test.true)) (grown_rest _ _ _ _ _ _ _ _ c.grow_twice-grown.ensures _ _ c.in-Boards.is)
+    run_less _ _ _ _ _ _ c.loop-free.invariant.4 c.requires.0.0 c.args.plot.room _ c.requires.0.1 _ (omega (arith, c.loop-free-test.true)) (grown_rest _ _ _ _ _ _ _ _ c.grow_twice-grown.ensures _ _ c.in-Boards.is)
 
 pub loop-free-preserved : goal.loop-free-preserved
 loop-free-preserved c =
-        let i = c.loop-free.invariant in
+    let i = c.loop-free.invariant in
     let k = c.grow_twice-grown.auto in (
       k.1.0 ∙ i.0,
       k.1.1.0 ∙ i.1,
@@ -56,7 +56,7 @@ shape_of-next_counts-in-Refused c = c.grow_twice-grown.auto.1.1.1.1.0 ∙ c.loop
 
 pub returns-in-Refused : goal.returns-in-Refused
 returns-in-Refused c =
-        c.loop-free.invariant.5 _ (grown_refused _ _ _ _ _ _ _ _ c.grow_twice-grown.ensures _ c.in-Refused.is)
+    c.loop-free.invariant.5 _ (grown_refused _ _ _ _ _ _ _ _ c.grow_twice-grown.ensures _ c.in-Refused.is)
 
 pub finish-requires : goal.finish-requires
 finish-requires c =

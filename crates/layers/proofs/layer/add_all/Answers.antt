@@ -19,7 +19,7 @@ loop-i-init c = (search rules, c.requires.0, refl, refl, λ es h. each_none _ _ 
 pub add_paths-state-requires : goal.add_paths-state-requires
 add_paths-state-requires c =
     let l = c.loop-i in
-        (l.invariant.1, (omega (arith, l.invariant.2, c.requires.1.0), room_kept _ _ _ c.requires.1.1 l.invariant.3))
+    (l.invariant.1, (omega (arith, l.invariant.2, c.requires.1.0), room_kept _ _ _ c.requires.1.1 l.invariant.3))
 
 pub loop-i-preserved : goal.loop-i-preserved
 loop-i-preserved c =

@@ -24,11 +24,11 @@ returns-in_default c = (omega arith, λ es h. add_no_room _ _ _ _ _ h _ _ c.in_d
 
 pub returns-then-room-n : goal.returns-then-room-n
 returns-then-room-n c =
-                (omega arith, λ es h. add_past _ _ _ _ _ h _ _ _ _ c.in-Boards.is c.requires.1.0 _ c.find-found.ensures c.in_default-found.is c.if-room-n.true)
+    (omega arith, λ es h. add_past _ _ _ _ _ h _ _ _ _ c.in-Boards.is c.requires.1.0 _ c.find-found.ensures c.in_default-found.is c.if-room-n.true)
 
 pub returns-in_default-found : goal.returns-in_default-found
 returns-in_default-found c =
-                        (
+    (
       omega arith,
       λ es h.
           add_new _ _ _ _ _ h _ _ _ _ c.in-Boards.is c.requires.1.0 _ c.find-found.ensures
@@ -37,7 +37,7 @@ returns-in_default-found c =
 
 pub returns-then-over : goal.returns-then-over
 returns-then-over c =
-            (
+    (
       omega (arith, ap boards_in c.in-Boards.is, c.requires.0),
       λ es h.
           add_large _ _ _ _ _ h _ _ _ _ c.in-Boards.is c.requires.1.0 _ c.find-found.ensures _
@@ -46,7 +46,7 @@ returns-then-over c =
 
 pub returns : goal.returns
 returns c =
-            (
+    (
       omega (arith, ap boards_in c.in-Boards.is, c.requires.0),
       λ es h.
           add_old _ _ _ _ _ h _ _ _ _ c.in-Boards.is c.requires.1.0 _ c.find-found.ensures _

@@ -13,7 +13,7 @@ slice_bounds-grow_all-end c = (child_part _ _ c.requires.0 _ c.child_words-end.e
 
 pub grow_all-requires : goal.grow_all-requires
 grow_all-requires c =
-        let p = c.requires in
+    let p = c.requires in
     (p.0, p.1, (child_part _ _ p.0 _ c.child_words-end.ensures _ refl).1, p.2)
 
 pub returns : goal.returns

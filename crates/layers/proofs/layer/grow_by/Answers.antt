@@ -11,7 +11,7 @@ use Rattle.layers.proofs.layer.grow_by.Goals as goal
 
 pub returns : goal.returns
 returns c =
-                        let a = c.args in
+    let a = c.args in
     let from = subst (From (board_of a.board)) (sym c.get.ensures) c.requires.1 in
     let e = (expanded_children _ _ c.requires.0 _ from _ _ c.requires.2 _ c.expand-n.ensures).1 ∙ ap (childBoards (setting_of a.board a.tiles)) c.get.ensures in
     (c.add_all.ensures.0, λ es h. grown_by _ _ _ _ _ _ _ _ _ e c.get-2.ensures (c.add_all.ensures.1 es h))

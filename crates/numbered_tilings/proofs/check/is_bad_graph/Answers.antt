@@ -13,12 +13,12 @@ returns-then-node_room-n c = nodes_pass _ _ _ _ c.if-n-eq0.false _ c.node_room.e
 
 pub returns-then-edge_room-count : goal.returns-then-edge_room-count
 returns-then-edge_room-count c =
-        edges_pass _ _ _ _ c.if-n-eq0.false _ c.node_room.ensures c.if-node_room-n.false _ c.edge_room.ensures
+    edges_pass _ _ _ _ c.if-n-eq0.false _ c.node_room.ensures c.if-node_room-n.false _ c.edge_room.ensures
     c.if-edge_room-count.true
 
 pub returns-then-is_past : goal.returns-then-is_past
 returns-then-is_past c =
-            full_past _ _ _ _ c.if-n-eq0.false _ c.node_room.ensures c.if-node_room-n.false _
+    full_past _ _ _ _ c.if-n-eq0.false _ c.node_room.ensures c.if-node_room-n.false _
     c.edge_room.ensures c.if-edge_room-count.false (sym c.is_past.ensures ∙ c.if-is_past.true)
 
 pub has_bad_edge-requires : goal.has_bad_edge-requires
@@ -26,16 +26,16 @@ has_bad_edge-requires c = edges_lent_lem _ _ _ c.edge_room.ensures c.if-edge_roo
 
 pub returns-then-has_bad_edge : goal.returns-then-has_bad_edge
 returns-then-has_bad_edge c =
-                edge_bad _ _ _ _ c.if-n-eq0.false _ c.node_room.ensures c.if-node_room-n.false _
+    edge_bad _ _ _ _ c.if-n-eq0.false _ c.node_room.ensures c.if-node_room-n.false _
     c.edge_room.ensures c.if-edge_room-count.false (sym c.is_past.ensures ∙ c.if-is_past.false)
     (sym c.has_bad_edge.ensures ∙ c.if-has_bad_edge.true)
 
 pub has_bad_count-requires : goal.has_bad_count-requires
 has_bad_count-requires c =
-        edges_lent_lem _ _ _ c.edge_room.ensures c.if-edge_room-count.false
+    edges_lent_lem _ _ _ c.edge_room.ensures c.if-edge_room-count.false
 
 pub returns : goal.returns
 returns c =
-                    counts_told _ _ _ _ c.if-n-eq0.false _ c.node_room.ensures c.if-node_room-n.false _
+    counts_told _ _ _ _ c.if-n-eq0.false _ c.node_room.ensures c.if-node_room-n.false _
     c.edge_room.ensures c.if-edge_room-count.false (sym c.is_past.ensures ∙ c.if-is_past.false)
     (sym c.has_bad_edge.ensures ∙ c.if-has_bad_edge.false) _ c.has_bad_count.ensures

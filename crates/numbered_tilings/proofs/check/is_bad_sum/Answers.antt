@@ -16,13 +16,13 @@ loop-i-init c =
 
 pub returns-in_default : goal.returns-in_default
 returns-in_default c =
-                    sum_passes c.args.counts.now c.args.edges.now _ _ _ _ c.loop-i.invariant.1 c.share_at.ensures
+    sum_passes c.args.counts.now c.args.edges.now _ _ _ _ c.loop-i.invariant.1 c.share_at.ensures
     (count_in_small c.args.counts.now (λ k. omega (arith, c.type_inv.counts.given k)) _) _ c.requires.1
     c.loop-i-test.true (sum_large _ _ c.plus-next.ensures c.in_default.is)
 
 pub loop-i-preserved : goal.loop-i-preserved
 loop-i-preserved c =
-            (
+    (
       search rules,
       sum_added c.args.counts.now c.args.edges.now _ _ _ _ c.loop-i.invariant.1 c.share_at.ensures _
           (sum_is _ _ c.plus-next.ensures _ c.in-Is.is).0,
@@ -30,5 +30,5 @@ loop-i-preserved c =
 
 pub returns : goal.returns
 returns c =
-            sum_told c.args.counts.now c.args.edges.now _ _ _ _ _ c.requires.1 c.loop-i.invariant.1 c.loop-i.invariant.0
+    sum_told c.args.counts.now c.args.edges.now _ _ _ _ _ c.requires.1 c.loop-i.invariant.1 c.loop-i.invariant.0
     c.loop-i-test.false c.get.ensures _ c.equal.ensures

@@ -8,9 +8,9 @@ use Rattle.numbered_tilings.proofs.check.share_at.Goals as goal
 
 pub returns-then-child_at-v : goal.returns-then-child_at-v
 returns-then-child_at-v c =
-        share_here _ _ _ c.parent_at.ensures c.child_at.ensures (count_in c.args.counts.now) _ _
+    share_here _ _ _ c.parent_at.ensures c.child_at.ensures (count_in c.args.counts.now) _ _
     c.if-child_at-v.true c.get.ensures
 
 pub returns : goal.returns
 returns c =
-        c.of_words.ensures ∙ share_elsewhere _ _ _ refl c.child_at.ensures (count_in c.args.counts.now) _ c.if-child_at-v.false
+    c.of_words.ensures ∙ share_elsewhere _ _ _ refl c.child_at.ensures (count_in c.args.counts.now) _ c.if-child_at-v.false

@@ -16,13 +16,13 @@ loop-i-init c = (search rules, turn_start _ _ _ _ _)
 
 pub returns-then-less : goal.returns-then-less
 returns-then-less c =
-            turn_held _ _ _ _ _ c.loop-i-test.true _ _ c.share_at-share.ensures (ltb-true _ _ (sym c.less.ensures ∙ c.if-less.true)) _
+    turn_held _ _ _ _ _ c.loop-i-test.true _ _ c.share_at-share.ensures (ltb-true _ _ (sym c.less.ensures ∙ c.if-less.true)) _
     c.parent_at.ensures
     ∙ sym c.loop-i.invariant.1
 
 pub loop-i-preserved : goal.loop-i-preserved
 loop-i-preserved c =
-        (
+    (
       search rules,
       c.loop-i.invariant.1
           ∙ turn_passed _ _ _ _ _ c.loop-i-test.true _ _ c.share_at-share.ensures

@@ -11,4 +11,4 @@ returns-then-file-at-lt2 c = read_mark_cut c.args.file.now c.args.at c.if-file-a
 
 pub returns : goal.returns
 returns c =
-        read_mark_at c.args.file.now c.args.at c.requires c.if-file-at-lt2.false _ c.mark_of.ensures
+    read_mark_at c.args.file.now c.args.at c.requires c.if-file-at-lt2.false _ c.mark_of.ensures

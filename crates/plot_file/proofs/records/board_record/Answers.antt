@@ -18,7 +18,13 @@ is c = sym c.is_board.ensures ∙ c.if-is_board.true
 pub returns-then-file-at-lt2 : goal.returns-then-file-at-lt2
 unfolding map_answer
 returns-then-file-at-lt2 c =
-        reads_refused _ _ _ _ _ (ap (map_answer start_at) (board_body_cut _ c.args.file.now c.args.at (is c.before.before) c.if-file-at-lt2.true)) c.refuse.ensures
+    reads_refused _ _ _ _ _ (ap (map_answer start_at) (board_body_cut _ c.args.file.now c.args.at (is c.before.before) c.if-file-at-lt2.true)) c.refuse.ensures
+
+pub overflow_cast-file : goal.overflow_cast-file
+overflow_cast-file c = omega (arith, c.type_inv.file.given c.args.at)
+
+pub overflow_cast-file-then-is_board : goal.overflow_cast-file-then-is_board
+overflow_cast-file-then-is_board c = omega (arith, c.type_inv.file.given (c.args.at + 1))
 
 pub returns-then-is_board : goal.returns-then-is_board
 returns-then-is_board c =

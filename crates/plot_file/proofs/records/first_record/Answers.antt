@@ -11,8 +11,8 @@ board_record-requires c = marked_behind _ 0 _ c.read_mark-marked.ensures _ (omeg
 
 pub returns-in-Is : goal.returns-in-Is
 returns-in-Is c =
-        reads_from _ _ _ _ _ _ c.board_record.ensures (omega arith) (first_record_marked _ _ _ (marked_is _ 0 _ c.read_mark-marked.ensures _ c.in-Is.is))
+    reads_from _ _ _ _ _ _ c.board_record.ensures (omega arith) (first_record_marked _ _ _ (marked_is _ 0 _ c.read_mark-marked.ensures _ c.in-Is.is))
 
 pub returns-in-Refused : goal.returns-in-Refused
 returns-in-Refused c =
-        reads_refused _ _ _ _ _ (first_record_refused _ _ (marked_refused _ 0 _ c.read_mark-marked.ensures _ c.in-Refused.is)) c.refuse.ensures
+    reads_refused _ _ _ _ _ (first_record_refused _ _ (marked_refused _ 0 _ c.read_mark-marked.ensures _ c.in-Refused.is)) c.refuse.ensures

@@ -8,12 +8,12 @@ use Rattle.plot_file.proofs.records.later_record.Goals as goal
 
 pub later_body-requires : goal.later_body-requires
 later_body-requires c =
-        (marked_behind _ _ _ c.read_mark-marked.ensures _ c.requires.0 c.in-Is.is, c.requires.1)
+    (marked_behind _ _ _ c.read_mark-marked.ensures _ c.requires.0 c.in-Is.is, c.requires.1)
 
 pub returns-in-Is : goal.returns-in-Is
 returns-in-Is c =
-            reads_from _ _ _ _ _ _ c.later_body.ensures (omega arith) (later_record_marked _ _ _ _ (marked_is c.args.file.now c.args.at _ c.read_mark-marked.ensures _ c.in-Is.is))
+    reads_from _ _ _ _ _ _ c.later_body.ensures (omega arith) (later_record_marked _ _ _ _ (marked_is c.args.file.now c.args.at _ c.read_mark-marked.ensures _ c.in-Is.is))
 
 pub returns-in-Refused : goal.returns-in-Refused
 returns-in-Refused c =
-            reads_refused _ _ _ _ _ (later_record_refused _ _ _ (marked_refused c.args.file.now c.args.at _ c.read_mark-marked.ensures _ c.in-Refused.is)) c.refuse.ensures
+    reads_refused _ _ _ _ _ (later_record_refused _ _ _ (marked_refused c.args.file.now c.args.at _ c.read_mark-marked.ensures _ c.in-Refused.is)) c.refuse.ensures

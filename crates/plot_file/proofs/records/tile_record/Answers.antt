@@ -16,11 +16,11 @@ pub added-requires : goal.added-requires
 added-requires c =
     let body = c.read_body-body in
     let read = body.ensures in
-        (c.requires.1, for_clean c.args.whole (path_in body.result.tile) (body_path _ _ _ read c.in-Accepted.is).0 _ c.tiles_for.ensures)
+    (c.requires.1, for_clean c.args.whole (path_in body.result.tile) (body_path _ _ _ read c.in-Accepted.is).0 _ c.tiles_for.ensures)
 
 pub returns-in-Accepted : goal.returns-in-Accepted
 returns-in-Accepted c =
-        reads_tiles _ _ c.args.whole _ _ _ _ c.read_body-body.ensures c.in-Accepted.is c.tiles_for.ensures c.added.ensures
+    reads_tiles _ _ c.args.whole _ _ _ _ c.read_body-body.ensures c.in-Accepted.is c.tiles_for.ensures c.added.ensures
 
 pub returns-in-Refused : goal.returns-in-Refused
 returns-in-Refused c =

@@ -10,15 +10,15 @@ put_bytes-third-requires c = puts_inside c.requires c.put_field-second.ensures
 
 pub put_nodes-last-requires : goal.put_nodes-last-requires
 put_nodes-last-requires c =
-            puts_inside (puts_inside c.requires c.put_field-second.ensures) c.put_bytes-third.ensures
+    puts_inside (puts_inside c.requires c.put_field-second.ensures) c.put_bytes-third.ensures
 
 pub put_bytes-requires : goal.put_bytes-requires
 put_bytes-requires c =
-                puts_inside (puts_inside (puts_inside c.requires c.put_field-second.ensures) c.put_bytes-third.ensures) c.put_nodes-last.ensures
+    puts_inside (puts_inside (puts_inside c.requires c.put_field-second.ensures) c.put_bytes-third.ensures) c.put_nodes-last.ensures
 
 pub returns : goal.returns
 unfolding field ascii feed
 returns c =
-                let inside = c.requires in
+    let inside = c.requires in
     puts_append inside (puts_append inside (puts_append inside c.put_field-second.ensures c.put_bytes-third.ensures) c.put_nodes-last.ensures)
     c.put_bytes.ensures

@@ -10,10 +10,10 @@ put_field-third-requires c = puts_inside c.requires c.put_paths-second.ensures
 
 pub put_last-requires : goal.put_last-requires
 put_last-requires c =
-            puts_inside (puts_inside c.requires c.put_paths-second.ensures) c.put_field-third.ensures
+    puts_inside (puts_inside c.requires c.put_paths-second.ensures) c.put_field-third.ensures
 
 pub returns : goal.returns
 unfolding field ascii
 returns c =
-            let inside = c.requires in
+    let inside = c.requires in
     puts_join _ _ inside (puts_append inside c.put_paths-second.ensures c.put_field-third.ensures) c.put_last.ensures

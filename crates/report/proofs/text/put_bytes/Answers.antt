@@ -16,7 +16,7 @@ put_byte-next-requires c = puts_inside c.requires c.loop-i.invariant.1
 
 pub loop-i-preserved : goal.loop-i-preserved
 loop-i-preserved c =
-        (
+    (
       omega arith,
       puts_byte c.requires _ _ c.loop-i-test.true c.loop-i.invariant.1 c.put_byte-next.ensures,
     )

@@ -11,4 +11,4 @@ use Rattle.report.proofs.text.put_paths.Goals as goal
 
 pub returns : goal.returns
 returns c =
-            puts_as (ap (λ (n : ℕ). c.args.words.now ++ decimal n) (low_is _ (count_small c.args.count (search rules)) _ c.low.ensures)) c.put_field.ensures
+    puts_as (ap (λ (n : ℕ). c.args.words.now ++ decimal n) (low_is _ (count_small c.args.count (search rules)) _ c.low.ensures)) c.put_field.ensures

@@ -16,7 +16,7 @@ loop-i-init c = (search rules, search rules, λ k h. absurd (omega arith))
 
 pub loop-i-preserved : goal.loop-i-preserved
 loop-i-preserved c =
-        let room : c.loop-i.i < length c.loop-i.sizes = search rules in
+    let room : c.loop-i.i < length c.loop-i.sizes = search rules in
     (search rules, search rules, fill_more _ c.loop-i.sizes _ _ c.loop-i.invariant.2 room c.cells_of.ensures)
 
 pub returns : goal.returns

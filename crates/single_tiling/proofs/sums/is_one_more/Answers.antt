@@ -17,7 +17,7 @@ loop-i-init c = (search rules, below_none _)
 
 pub returns-then-table-n-eq1 : goal.returns-then-table-n-eq1
 returns-then-table-n-eq1 c =
-        sym
+    sym
     (any_list_of _ _ _ _ c.loop-i-test.true
     (one_more c.args.table.now c.args.n (get_or c.args.sizes.now c.loop-i.i 0) c.if-size-n.true c.if-table-n-eq1.true))
 

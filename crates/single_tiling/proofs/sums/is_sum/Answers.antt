@@ -16,9 +16,9 @@ loop-m-init c = (refl, omega arith, omega arith, marked_start _ (set (replicate 
 
 pub loop-m-preserved : goal.loop-m-preserved
 loop-m-preserved c =
-            let inv = c.loop-m.invariant in
+    let inv = c.loop-m.invariant in
     let room : c.loop-m.m < 257 = omega arith in
-        let positive = listed_positive c.args.tiles c.cell_counts-sizes.result c.cell_counts-sizes.ensures in
+    let positive = listed_positive c.args.tiles c.cell_counts-sizes.result c.cell_counts-sizes.ensures in
     let table =
     ⊎_elim (λ w. table_set _ c.loop-m.table c.if-is_one_more.table _ inv.0 inv.3 room w.1)
     (λ w. table_skip _ c.loop-m.table c.if-is_one_more.table _ inv.0 inv.3 positive inv.1 (sym w.0.left ∙ c.is_one_more.ensures) w.1)
@@ -27,4 +27,4 @@ loop-m-preserved c =
 
 pub returns : goal.returns
 returns c =
-            sum_found c.args.tiles c.cell_counts-sizes.result c.cell_counts-sizes.ensures c.loop-m.table _ _ c.loop-m.invariant.3 c.loop-m-test.false
+    sum_found c.args.tiles c.cell_counts-sizes.result c.cell_counts-sizes.ensures c.loop-m.table _ _ c.loop-m.invariant.3 c.loop-m-test.false

@@ -26,11 +26,11 @@ slice_bounds-is_path-end c = let h = long c.before.before.before in sym (length-
 pub returns-then-is_path : goal.returns-then-is_path
 unfolding refusal_of
 returns-then-is_path c =
-        let read = read_tile_short c.args.self c.if-len-gt32.false in
+    let read = read_tile_short c.args.self c.if-len-gt32.false in
     sym (ap refusal_of (read ∙ read_path_path _ (sym c.is_path.ensures ∙ c.if-is_path.true)))
 
 pub returns : goal.returns
 unfolding refusal_of
 returns c =
-        let read = read_tile_short c.args.self c.if-len-gt32.false in
+    let read = read_tile_short c.args.self c.if-len-gt32.false in
     sym (ap refusal_of (read ∙ read_path_other _ (sym c.is_path.ensures ∙ c.if-is_path.false)))

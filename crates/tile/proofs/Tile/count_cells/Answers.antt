@@ -20,19 +20,19 @@ returns-in_default c = sym (ap (map_answer cell_count) (check_refused _ _ c.chec
 
 pub slice_bounds-codes-end : goal.slice_bounds-codes-end
 slice_bounds-codes-end c =
-        let h = long c.before.before.before.before in
+    let h = long c.before.before.before.before in
     let short = (check_accepted _ _ c.check.ensures c.in-Accepted.is).0 in
     omega arith
 
 pub slice_bounds-count-end : goal.slice_bounds-count-end
 slice_bounds-count-end c =
-        let h = long c.before.before.before.before.before in
+    let h = long c.before.before.before.before.before in
     let short = (check_accepted _ _ c.check.ensures c.in-Accepted.is).0 in
     sym (length-take-le _ _ (omega arith))
 
 pub count-requires : goal.count-requires
 count-requires c =
-        let h = long c.before.before.before.before.before in
+    let h = long c.before.before.before.before.before in
     let ok = check_accepted _ _ c.check.ensures c.in-Accepted.is in
     let short = ok.0 in
     let whole : length (path_in c.args.self) ≡ c.args.self.len = length-take-le _ _ (omega arith) in
@@ -41,5 +41,5 @@ count-requires c =
 pub returns : goal.returns
 unfolding map_answer
 returns c =
-        let ok = check_accepted _ _ c.check.ensures c.in-Accepted.is in
+    let ok = check_accepted _ _ c.check.ensures c.in-Accepted.is in
     ap given c.count.ensures ∙ sym (ap (map_answer cell_count) (read_tile_given c.args.self ok.0 ok.1))

@@ -11,7 +11,7 @@ stored-requires c = (is_path_is _ (sym c.is_path.ensures ∙ c.if-is_path.true))
 
 pub returns-then-is_path : goal.returns-then-is_path
 returns-then-is_path c =
-        makes_given _ _ _ _ (read_path_path _ (sym c.is_path.ensures ∙ c.if-is_path.true)) c.made.ensures c.stored.ensures
+    makes_given _ _ _ _ (read_path_path _ (sym c.is_path.ensures ∙ c.if-is_path.true)) c.made.ensures c.stored.ensures
 
 pub returns : goal.returns
 returns c = makes_refused _ _ (read_path_other _ (sym c.is_path.ensures ∙ c.if-is_path.false)) c.refused.ensures

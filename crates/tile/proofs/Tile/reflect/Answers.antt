@@ -11,7 +11,7 @@ use Rattle.tile.proofs.Tile.reflect.Goals as goal
 pub returns-in_default : goal.returns-in_default
 unfolding map_answer reflected
 returns-in_default c =
-        makes_refused _ _ (ap (map_answer (reflected c.args.axis)) (check_refused _ _ c.check.ensures _ c.in_default.is)) c.refused.ensures
+    makes_refused _ _ (ap (map_answer (reflected c.args.axis)) (check_refused _ _ c.check.ensures _ c.in_default.is)) c.refused.ensures
 
 pub moved-requires : goal.moved-requires
 moved-requires c = (check_accepted _ _ c.check.ensures c.in-Accepted.is).0
@@ -19,5 +19,5 @@ moved-requires c = (check_accepted _ _ c.check.ensures c.in-Accepted.is).0
 pub returns : goal.returns
 unfolding map_answer reflected
 returns c =
-            let ok = check_accepted _ _ c.check.ensures c.in-Accepted.is in
+    let ok = check_accepted _ _ c.check.ensures c.in-Accepted.is in
     makes_given _ _ _ _ (ap (map_answer (reflected c.args.axis)) (read_tile_given c.args.self ok.0 ok.1)) c.made.ensures c.moved.ensures

@@ -31,4 +31,4 @@ loop-i-preserved c =
 pub returns : goal.returns
 returns c =
     let inv = c.loop-i.invariant in
-        stores _ _ _ (sym (length_image _ _ _ (long c.before.before.before))) (filled_end 0 _ _ 32 _ _ inv.1 (λ k h i. image_behind _ _ _ (long c.before.before.before) k (omega arith)))
+    stores _ _ _ (sym (length_image _ _ _ (long c.before.before.before))) (filled_end 0 _ _ 32 _ _ inv.1 (λ k h i. image_behind _ _ _ (long c.before.before.before) k (omega arith)))

@@ -21,4 +21,4 @@ loop-i-preserved c =
 pub returns : goal.returns
 returns c =
     let inv = c.loop-i.invariant in
-        stores _ _ _ refl (filled_end 0 _ _ 32 _ _ inv.1 (λ k h i. path_behind c.args.path.now k (omega arith)))
+    stores _ _ _ refl (filled_end 0 _ _ 32 _ _ inv.1 (λ k h i. path_behind c.args.path.now k (omega arith)))

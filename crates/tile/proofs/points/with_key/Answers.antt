@@ -21,8 +21,8 @@ slice_bounds-has_key-end c = let h = inside c.before.before in sym (length-take-
 
 pub returns-then-has_key : goal.returns-then-has_key
 returns-then-has_key c =
-        (keys_in_old c.args.seen c.args.key (sym c.has_key.ensures ∙ c.if-has_key.true), omega arith)
+    (keys_in_old c.args.seen c.args.key (sym c.has_key.ensures ∙ c.if-has_key.true), omega arith)
 
 pub returns : goal.returns
 returns c =
-        (keys_in_new c.args.seen _ _ (inside c.before.before.before.before) refl (sym c.has_key.ensures ∙ c.if-has_key.false), omega arith)
+    (keys_in_new c.args.seen _ _ (inside c.before.before.before.before) refl (sym c.has_key.ensures ∙ c.if-has_key.false), omega arith)

@@ -18,11 +18,11 @@ loop-i-init c = (search rules, c.requires.0, refl, refl, λ g k. children_none _
 
 pub add_child-state-requires : goal.add_child-state-requires
 add_child-state-requires c =
-            (c.loop-i.invariant.1, omega (arith, c.requires.1, c.loop-i.invariant.2), omega (arith, c.requires.2, c.loop-i.invariant.3))
+    (c.loop-i.invariant.1, omega (arith, c.requires.1, c.loop-i.invariant.2), omega (arith, c.requires.2, c.loop-i.invariant.3))
 
 pub loop-i-preserved : goal.loop-i-preserved
 loop-i-preserved c =
-            (
+    (
       search rules,
       c.add_child-state.ensures.0,
       search rules,

@@ -34,7 +34,7 @@ loop-i-init c =
 
 pub expand_node-growth-requires : goal.expand_node-growth-requires
 expand_node-growth-requires c =
-            (
+    (
       c.requires.0,
       build_node c.args.board c.args.tiles c.requires.0 (fixed_small c.before.before.before.before.before.before.before.before) (laid_small c.before.before.before.before.before.before.before.before)
           _ _ _ _ _ _ c.loop-i.invariant.6 _ c.loop-i.invariant.0 c.loop-i-test.true,
@@ -46,7 +46,7 @@ expand_node-growth-requires c =
 
 pub loop-i-preserved : goal.loop-i-preserved
 loop-i-preserved c =
-                (
+    (
       c.node_count-n.ensures,
       c.expand_node-growth.ensures.0,
       search rules,
@@ -70,7 +70,7 @@ shape_of-children c = c.loop-i.invariant.4
 
 pub returns : goal.returns
 returns c =
-        (
+    (
       c.loop-i.invariant.1,
       build_end c.args.board c.args.tiles c.requires.0 (fixed_small c.before.before.before.before.before) (laid_small c.before.before.before.before.before)
           _ _ _ _ _ _ c.loop-i.invariant.6 _ c.loop-i.invariant.0 c.loop-i.invariant.5 c.loop-i-test.false,

@@ -21,12 +21,12 @@ is_full-requires c = subst (From _) (sym c.get.ensures) (c.requires _ c.loop-i-t
 
 pub returns-then-is_full : goal.returns-then-is_full
 returns-then-is_full c =
-        complete_found _ _ c.loop-i.invariant.1 _ c.loop-i.invariant.0 c.loop-i-test.true
+    complete_found _ _ c.loop-i.invariant.1 _ c.loop-i.invariant.0 c.loop-i-test.true
     (full_at_lem c.args.board _ _ _ _ c.is_full.ensures c.get.ensures c.if-is_full.true)
 
 pub loop-i-preserved : goal.loop-i-preserved
 loop-i-preserved c =
-        let test = full_at_lem c.args.board _ _ _ _ c.is_full.ensures c.get.ensures c.if-is_full.false in
+    let test = full_at_lem c.args.board _ _ _ _ c.is_full.ensures c.get.ensures c.if-is_full.false in
     (omega (arith, c.loop-i.invariant.0), missed_more _ _ _ c.loop-i.invariant.1 test)
 
 pub returns : goal.returns

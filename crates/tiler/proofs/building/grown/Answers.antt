@@ -19,7 +19,7 @@ laid_small c = number_lt _ (record { s0 = search rules; s1 = search rules; s2 = 
 
 pub returns-then-node_room-eq0 : goal.returns-then-node_room-eq0
 returns-then-node_room-eq0 c =
-        (omega arith, build_no_room c.args.board c.args.tiles c.requires.0 (fixed_small c.before.before.before) (laid_small c.before.before.before) _ _ _ _ c.if-node_room-eq0.true)
+    (omega arith, build_no_room c.args.board c.args.tiles c.requires.0 (fixed_small c.before.before.before) (laid_small c.before.before.before) _ _ _ _ c.if-node_room-eq0.true)
 
 -- w is what is known after `child_words`, s at the start
 pub slice_bounds-children-end : goal.slice_bounds-children-end
@@ -30,7 +30,7 @@ slice_bounds-build-end c = (child_part _ _ c.requires.0 _ c.child_words-end.ensu
 
 pub build-requires : goal.build-requires
 build-requires c =
-                    (
+    (
       c.requires.0,
       (child_part _ _ c.requires.0 _ c.child_words-end.ensures _ refl).1,
       search rules,

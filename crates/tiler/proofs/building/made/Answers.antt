@@ -23,38 +23,38 @@ grown-growth-requires c =
 
 pub returns-in_default : goal.returns-in_default
 returns-in_default c =
-                    made_no_room _ _ c.requires (fixed c.before.before.before.before.before.before.before.before.before.before.before.before.before.before.before.before.before.before.before.before.before.before.before.before) (laid c.before.before.before.before.before.before.before.before.before.before.before.before.before.before.before.before.before.before.before.before.before.before.before.before) _ _ _ _ _ c.node_room-node_room.ensures
+    made_no_room _ _ c.requires (fixed c.before.before.before.before.before.before.before.before.before.before.before.before.before.before.before.before.before.before.before.before.before.before.before.before) (laid c.before.before.before.before.before.before.before.before.before.before.before.before.before.before.before.before.before.before.before.before.before.before.before.before) _ _ _ _ _ c.node_room-node_room.ensures
     c.edge_room-edge_room.ensures _ _ _ c.grown-growth.ensures.1 c.grown-growth.auto.1.1.0 c.grown-growth.auto.1.1.1.0
     _ _ _ _ c.in_default.is c.refused.ensures
 
 pub returns-then-edge_room-e : goal.returns-then-edge_room-e
 returns-then-edge_room-e c =
-                        made_no_room_for_edges _ _ c.requires (fixed c.before.before.before.before.before.before.before.before.before.before.before.before.before.before.before.before.before.before.before.before.before.before.before.before.before.before) (laid c.before.before.before.before.before.before.before.before.before.before.before.before.before.before.before.before.before.before.before.before.before.before.before.before.before.before) _ _ _ _ _ c.node_room-node_room.ensures
+    made_no_room_for_edges _ _ c.requires (fixed c.before.before.before.before.before.before.before.before.before.before.before.before.before.before.before.before.before.before.before.before.before.before.before.before.before.before) (laid c.before.before.before.before.before.before.before.before.before.before.before.before.before.before.before.before.before.before.before.before.before.before.before.before.before.before) _ _ _ _ _ c.node_room-node_room.ensures
     c.edge_room-edge_room.ensures _ _ _ c.grown-growth.ensures.1 c.grown-growth.auto.1.1.0 c.grown-growth.auto.1.1.1.0
     _ _ c.in-Size.is _ _ _ _ c.if-edge_room-e.true c.refused-then-edge_room-e.ensures
 
 pub count_paths-requires : goal.count_paths-requires
 count_paths-requires c =
-                    count_asks _ _ c.requires (fixed c.before.before.before.before.before.before.before.before.before.before.before.before.before.before.before.before.before) (laid c.before.before.before.before.before.before.before.before.before.before.before.before.before.before.before.before.before) _ _ _ _ _ c.node_room-node_room.ensures
+    count_asks _ _ c.requires (fixed c.before.before.before.before.before.before.before.before.before.before.before.before.before.before.before.before.before) (laid c.before.before.before.before.before.before.before.before.before.before.before.before.before.before.before.before.before) _ _ _ _ _ c.node_room-node_room.ensures
     c.edge_room-edge_room.ensures _ _ _ c.grown-growth.ensures.1 c.grown-growth.auto.1.1.0 c.grown-growth.auto.1.1.1.0
     _ _ c.in-Size.is c.if-edge_room-e.false
 
 pub returns-then-not-count_paths : goal.returns-then-not-count_paths
 returns-then-not-count_paths c =
-                                made_large _ _ c.requires (fixed c.before.before.before.before.before.before.before.before.before.before.before.before.before.before.before.before.before.before.before.before.before.before.before.before.before.before.before.before.before.before.before) (laid c.before.before.before.before.before.before.before.before.before.before.before.before.before.before.before.before.before.before.before.before.before.before.before.before.before.before.before.before.before.before.before) _ _ _ _ _ c.node_room-node_room.ensures
+    made_large _ _ c.requires (fixed c.before.before.before.before.before.before.before.before.before.before.before.before.before.before.before.before.before.before.before.before.before.before.before.before.before.before.before.before.before.before.before) (laid c.before.before.before.before.before.before.before.before.before.before.before.before.before.before.before.before.before.before.before.before.before.before.before.before.before.before.before.before.before.before.before) _ _ _ _ _ c.node_room-node_room.ensures
     c.edge_room-edge_room.ensures _ _ _ c.grown-growth.ensures.1 c.grown-growth.auto.1.1.0 c.grown-growth.auto.1.1.1.0
     _ _ c.in-Size.is c.if-edge_room-e.false _ _ c.count_paths.auto.1.1.0 c.count_paths.ensures
     _ _ _ _ (not-true _ c.if-not-count_paths.true) c.refused-then-not-count_paths.ensures
 
 pub finished-requires : goal.finished-requires
 finished-requires c =
-                    finish_asks _ _ c.requires (fixed c.before.before.before.before.before.before.before.before.before.before.before.before.before.before.before.before.before.before.before.before.before.before.before) (laid c.before.before.before.before.before.before.before.before.before.before.before.before.before.before.before.before.before.before.before.before.before.before.before) _ _ _ _ _ c.node_room-node_room.ensures
+    finish_asks _ _ c.requires (fixed c.before.before.before.before.before.before.before.before.before.before.before.before.before.before.before.before.before.before.before.before.before.before.before) (laid c.before.before.before.before.before.before.before.before.before.before.before.before.before.before.before.before.before.before.before.before.before.before.before) _ _ _ _ _ c.node_room-node_room.ensures
     c.edge_room-edge_room.ensures _ _ _ c.grown-growth.ensures.1 c.grown-growth.auto.1.1.0 c.grown-growth.auto.1.1.1.0
     _ _ c.in-Size.is c.if-edge_room-e.false
 
 pub returns : goal.returns
 returns c =
-                                    made_finished _ _ c.requires (fixed c.before.before.before.before.before.before.before.before.before.before.before.before.before.before.before.before.before.before.before.before.before.before.before.before.before.before.before.before) (laid c.before.before.before.before.before.before.before.before.before.before.before.before.before.before.before.before.before.before.before.before.before.before.before.before.before.before.before.before) _ _ _ _ _ c.node_room-node_room.ensures
+    made_finished _ _ c.requires (fixed c.before.before.before.before.before.before.before.before.before.before.before.before.before.before.before.before.before.before.before.before.before.before.before.before.before.before.before.before) (laid c.before.before.before.before.before.before.before.before.before.before.before.before.before.before.before.before.before.before.before.before.before.before.before.before.before.before.before.before) _ _ _ _ _ c.node_room-node_room.ensures
     c.edge_room-edge_room.ensures _ _ _ c.grown-growth.ensures.1 c.grown-growth.auto.1.1.0 c.grown-growth.auto.1.1.1.0
     _ _ c.in-Size.is c.if-edge_room-e.false _ _ c.count_paths.auto.1.1.0 c.count_paths.ensures
     _ _ _ (λ i. (c.type_inv.nodes.given i).fits)

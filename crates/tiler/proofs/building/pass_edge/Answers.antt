@@ -6,4 +6,4 @@ use Rattle.tiler.proofs.building.pass_edge.Goals as goal
 
 pub returns : goal.returns
 returns c =
-        edge_adds _ _ _ _ _ _ c.get-paths.ensures c.add.ensures
+    edge_adds _ _ _ _ _ _ c.get-paths.ensures c.add.ensures

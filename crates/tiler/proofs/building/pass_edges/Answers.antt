@@ -19,11 +19,11 @@ pass_edge-requires c = omega (arith, c.loop-i-test.true, c.requires.0)
 -- t is what is known in the loop, s at the start
 pub returns-then-pass_edge : goal.returns-then-pass_edge
 returns-then-pass_edge c =
-            pass_large _ _ _ _ _ _ _ c.loop-i-test.true c.loop-i.invariant.2 (c.requires.1 _ c.loop-i-test.true) c.pass_edge.ensures c.if-pass_edge.true
+    pass_large _ _ _ _ _ _ _ c.loop-i-test.true c.loop-i.invariant.2 (c.requires.1 _ c.loop-i-test.true) c.pass_edge.ensures c.if-pass_edge.true
 
 pub loop-i-preserved : goal.loop-i-preserved
 loop-i-preserved c =
-        (
+    (
       omega arith,
       search rules,
       pass_more _ _ _ _ _ _ _ c.loop-i-test.true c.loop-i.invariant.2 (c.requires.1 _ c.loop-i-test.true) c.pass_edge.ensures c.if-pass_edge.false,

@@ -13,9 +13,9 @@ returns-then-count-gt64 c = sym (ap refusal_of (read_tiles_many c.args.self c.if
 pub returns-then-all_sound : goal.returns-then-all_sound
 unfolding refusal_of
 returns-then-all_sound c =
-        sym (ap refusal_of (read_tiles_given c.args.self c.if-count-gt64.false (sym c.all_sound.ensures ∙ c.if-all_sound.true)))
+    sym (ap refusal_of (read_tiles_given c.args.self c.if-count-gt64.false (sym c.all_sound.ensures ∙ c.if-all_sound.true)))
 
 pub returns : goal.returns
 unfolding refusal_of
 returns c =
-        sym (ap refusal_of (read_tiles_unsound c.args.self c.if-count-gt64.false (sym c.all_sound.ensures ∙ c.if-all_sound.false)))
+    sym (ap refusal_of (read_tiles_unsound c.args.self c.if-count-gt64.false (sym c.all_sound.ensures ∙ c.if-all_sound.false)))

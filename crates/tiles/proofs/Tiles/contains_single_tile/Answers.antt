@@ -20,11 +20,11 @@ has_single-requires c = (accepted c.before.before c.in-Accepted.is).0
 pub returns-in-Accepted : goal.returns-in-Accepted
 unfolding map_answer
 returns-in-Accepted c =
-        let ok = accepted c.before.before.before c.in-Accepted.is in
+    let ok = accepted c.before.before.before c.in-Accepted.is in
     ap given c.has_single.ensures ∙ sym (ap (map_answer contains_single) ok.1)
 
 pub returns-in-Refused : goal.returns-in-Refused
 unfolding map_answer
 returns-in-Refused c =
-        let told = c.in-Refused.is in
+    let told = c.in-Refused.is in
     sym (ap (map_answer contains_single) (refused_of (read_tiles c.args.self) c.in-Refused.refusal (sym (ap verdict_number told) ∙ c.check-verdict.ensures)))

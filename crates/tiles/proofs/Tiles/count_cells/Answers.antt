@@ -23,7 +23,7 @@ all_cover-requires c = (accepted c.before.before.before c.in-Accepted.is, c.firs
 pub returns-then-all_cover : goal.returns-then-all_cover
 unfolding map_answer
 returns-then-all_cover c =
-        let read = accepted c.before.before.before.before.before c.in-Accepted.is in
+    let read = accepted c.before.before.before.before.before c.in-Accepted.is in
     let equal = sym c.all_cover.ensures ∙ c.if-all_cover.true in
     ap given c.first_count-cells.ensures
     ∙ sym (ap (map_answer shared_count) (read_equal_tiles_equal c.args.self _ read equal))
@@ -31,14 +31,14 @@ returns-then-all_cover c =
 pub returns-else-all_cover : goal.returns-else-all_cover
 unfolding map_answer
 returns-else-all_cover c =
-        let read = accepted c.before.before.before.before.before c.in-Accepted.is in
+    let read = accepted c.before.before.before.before.before c.in-Accepted.is in
     let unequal = sym c.all_cover.ensures ∙ c.if-all_cover.false in
     sym (ap (map_answer shared_count) (read_equal_tiles_unequal c.args.self _ read unequal))
 
 pub returns-in-Refused : goal.returns-in-Refused
 unfolding map_answer
 returns-in-Refused c =
-        let ts = c.args.self in
+    let ts = c.args.self in
     let told = c.in-Refused.is in
     let read = refused_of (read_tiles ts) c.in-Refused.refusal (sym (ap verdict_number told) ∙ c.check-verdict.ensures) in
     sym (ap (map_answer shared_count) (read_equal_tiles_refused ts _ read))

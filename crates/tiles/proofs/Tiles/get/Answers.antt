@@ -22,6 +22,6 @@ returns-then-i-lt64 c = tile_at_is c.args.self c.args.i _ c.part.ensures
 
 pub returns : goal.returns
 returns c =
-        let h = lens_long c.before.before.before.before in
+    let h = lens_long c.before.before.before.before in
     let k = codes_long c.before.before.before.before in
     c.box_tile.ensures ∙ tile_at_past c.args.self c.args.i (omega arith) (omega arith)

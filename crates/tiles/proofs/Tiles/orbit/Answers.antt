@@ -39,7 +39,7 @@ mirror c =
 pub returns-in_default : goal.returns-in_default
 unfolding map_answer
 returns-in_default c =
-        makes_no_tiles _ _ (ap (map_answer orbit) (check_refused _ _ c.check.ensures _ c.in_default.is)) c.new.ensures refl
+    makes_no_tiles _ _ (ap (map_answer orbit) (check_refused _ _ c.check.ensures _ c.in_default.is)) c.new.ensures refl
 
 pub slice_bounds-codes-end : goal.slice_bounds-codes-end
 slice_bounds-codes-end c = omega (arith, long c.before.before.before.before, (accepted c.before).0)
@@ -52,16 +52,16 @@ slice_bounds-new-end c =
 
 pub with_turns-half-requires : goal.with_turns-half-requires
 with_turns-half-requires c =
-        orbit_starts _ (short c.before.before.before.before.before.before) (accepted c.before.before.before.before.before.before).1 _ c.new-2.ensures _ (first c.before.before.before)
+    orbit_starts _ (short c.before.before.before.before.before.before) (accepted c.before.before.before.before.before.before).1 _ c.new-2.ensures _ (first c.before.before.before)
 
 pub with_turns-requires : goal.with_turns-requires
 with_turns-requires c =
-            orbit_goes_on _ (short c.before.before.before.before.before.before.before.before) (accepted c.before.before.before.before.before.before.before.before).1 _ c.new-2.ensures _ (first c.before.before.before.before.before) _ c.with_turns-half.ensures _ (mirror c.before.before.before.before)
+    orbit_goes_on _ (short c.before.before.before.before.before.before.before.before) (accepted c.before.before.before.before.before.before.before.before).1 _ c.new-2.ensures _ (first c.before.before.before.before.before) _ c.with_turns-half.ensures _ (mirror c.before.before.before.before)
 
 pub returns : goal.returns
 unfolding map_answer
 returns c =
-                let ok = accepted c.before.before.before.before.before.before.before.before.before in
+    let ok = accepted c.before.before.before.before.before.before.before.before.before in
     makes_tiles _ _ _ (ap (map_answer orbit) (read_tile_given _ ok.0 ok.1))
     (c.with_turns.ensures ∙ orbit_is _ (short c.before.before.before.before.before.before.before.before.before) ok.1 _ c.new-2.ensures _ (first c.before.before.before.before.before.before) _ c.with_turns-half.ensures _ (mirror c.before.before.before.before.before))
     refl

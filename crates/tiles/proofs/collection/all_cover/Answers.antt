@@ -18,7 +18,7 @@ count_at-requires c = let test = c.loop-i-test.true in (c.requires.0, omega arit
 
 pub returns-then-count_at-cells : goal.returns-then-count_at-cells
 returns-then-count_at-cells c =
-            sym (equal_counts_fails c.args.tiles c.args.cells c.requires.1 _ c.loop-i-test.true (λ e. c.if-count_at-cells.true (c.count_at.ensures ∙ e)))
+    sym (equal_counts_fails c.args.tiles c.args.cells c.requires.1 _ c.loop-i-test.true (λ e. c.if-count_at-cells.true (c.count_at.ensures ∙ e)))
 
 pub loop-i-preserved : goal.loop-i-preserved
 loop-i-preserved c =
@@ -27,5 +27,5 @@ loop-i-preserved c =
 
 pub returns : goal.returns
 returns c =
-        let inv = c.loop-i.invariant in
+    let inv = c.loop-i.invariant in
     sym (equal_counts_all c.args.tiles c.args.cells c.requires.1 (λ k h. inv.1 k (omega arith)))

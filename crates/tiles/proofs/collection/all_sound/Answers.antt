@@ -17,22 +17,22 @@ loop-i-init c = (search rules, all_below_none _)
 
 pub sound-requires : goal.sound-requires
 sound-requires c =
-        let long : length c.args.tiles.codes ≡ 2048 = search rules in
+    let long : length c.args.tiles.codes ≡ 2048 = search rules in
     let few = c.requires in
     omega arith
 
 pub returns-then-not-sound : goal.returns-then-not-sound
 unfolding sound_at
 returns-then-not-sound c =
-        sym (all_below_fails _ _ _ c.loop-i-test.true (sym c.sound.ensures ∙ not-true _ c.if-not-sound.true))
+    sym (all_below_fails _ _ _ c.loop-i-test.true (sym c.sound.ensures ∙ not-true _ c.if-not-sound.true))
 
 pub loop-i-preserved : goal.loop-i-preserved
 unfolding sound_at
 loop-i-preserved c =
-        (search rules, all_below_more _ _ c.loop-i.invariant.1 (sym c.sound.ensures ∙ not-false _ c.if-not-sound.false))
+    (search rules, all_below_more _ _ c.loop-i.invariant.1 (sym c.sound.ensures ∙ not-false _ c.if-not-sound.false))
 
 pub returns : goal.returns
 returns c =
-        let inv = c.loop-i.invariant in
+    let inv = c.loop-i.invariant in
     let all : c.loop-i.i ≡ c.args.tiles.count = omega arith in
     sym (ap (all_below (sound_at c.args.tiles.lens c.args.tiles.codes)) (sym all) ∙ inv.1)

@@ -7,6 +7,6 @@ use Rattle.tiles.proofs.collection.appended.Goals as goal
 
 pub returns : goal.returns
 returns c =
-        let ts = c.args.tiles in
+    let ts = c.args.tiles in
     let t = c.args.tile in
     λ i. record { count = ts.count + 1; lens = set ts.lens ts.count t.len; codes = c.with_codes-codes.ensures i }

@@ -12,8 +12,8 @@ long c = search rules
 
 pub returns-in-Is : goal.returns-in-Is
 returns-in-Is c =
-            tile_count_is _ (long c.before.before.before.before.before) c.requires.0 _ c.requires.1 _ c.get-tile.ensures _ c.count_cells.ensures _ c.in-Is.is
+    tile_count_is _ (long c.before.before.before.before.before) c.requires.0 _ c.requires.1 _ c.get-tile.ensures _ c.count_cells.ensures _ c.in-Is.is
 
 pub returns-in-Refused : goal.returns-in-Refused
 returns-in-Refused c =
-            absurd (tile_count_refused _ (long c.before.before.before.before) c.requires.0 _ c.requires.1 _ c.get-tile.ensures _ c.count_cells.ensures _ c.in-Refused.is)
+    absurd (tile_count_refused _ (long c.before.before.before.before) c.requires.0 _ c.requires.1 _ c.get-tile.ensures _ c.count_cells.ensures _ c.in-Refused.is)

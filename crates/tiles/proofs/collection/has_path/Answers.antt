@@ -17,7 +17,7 @@ loop-i-init c = (search rules, below_none _)
 
 pub same_at-requires : goal.same_at-requires
 same_at-requires c =
-        let long : length c.args.tiles.codes ≡ 2048 = search rules in
+    let long : length c.args.tiles.codes ≡ 2048 = search rules in
     let few = c.requires.few in
     let short = c.requires.short c.loop-i.i in
     omega arith
@@ -25,11 +25,11 @@ same_at-requires c =
 pub returns-then-same_at : goal.returns-then-same_at
 unfolding holds
 returns-then-same_at c =
-        sym (any_list_of _ _ _ _ c.loop-i-test.true (sym c.same_at.ensures ∙ c.if-same_at.true))
+    sym (any_list_of _ _ _ _ c.loop-i-test.true (sym c.same_at.ensures ∙ c.if-same_at.true))
 
 pub loop-i-preserved : goal.loop-i-preserved
 loop-i-preserved c =
-        (search rules, below_more _ _ c.loop-i.invariant.1 (sym c.same_at.ensures ∙ c.if-same_at.false))
+    (search rules, below_more _ _ c.loop-i.invariant.1 (sym c.same_at.ensures ∙ c.if-same_at.false))
 
 pub returns : goal.returns
 unfolding holds

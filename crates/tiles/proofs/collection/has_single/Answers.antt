@@ -20,6 +20,6 @@ loop-i-preserved c = (search rules, below_more _ _ c.loop-i.invariant.1 c.if-len
 
 pub returns : goal.returns
 returns c =
-        let inv = c.loop-i.invariant in
+    let inv = c.loop-i.invariant in
     let long : length c.args.tiles.codes ≡ 2048 = search rules in
     sym (contains_single_false c.args.tiles long c.requires (λ k h. inv.1 k (omega arith)))

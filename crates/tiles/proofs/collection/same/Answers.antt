@@ -16,11 +16,11 @@ loop-i-init c = (search rules, refl)
 
 pub returns-then-a-i : goal.returns-then-a-i
 returns-then-a-i c =
-        sym (c.loop-i.invariant.1 ∙ same_path_bad _ _ c.if-a-b.false _ c.loop-i-test.true c.if-a-i.true)
+    sym (c.loop-i.invariant.1 ∙ same_path_bad _ _ c.if-a-b.false _ c.loop-i-test.true c.if-a-i.true)
 
 pub loop-i-preserved : goal.loop-i-preserved
 loop-i-preserved c =
-        (search rules, c.loop-i.invariant.1 ∙ same_path_good _ _ c.if-a-b.false _ c.loop-i-test.true c.if-a-i.false)
+    (search rules, c.loop-i.invariant.1 ∙ same_path_good _ _ c.if-a-b.false _ c.loop-i-test.true c.if-a-i.false)
 
 pub returns : goal.returns
 returns c = sym (c.loop-i.invariant.1 ∙ same_path_end _ _ c.if-a-b.false _ c.loop-i-test.false c.loop-i.invariant.0)

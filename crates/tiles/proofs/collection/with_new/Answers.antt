@@ -23,10 +23,10 @@ slice_bounds-has_path-end c = let h = long c.before.before in let short = c.requ
 
 pub returns-then-has_path : goal.returns-then-has_path
 returns-then-has_path c =
-        c.requires.0.is ∙ ap tiles_of (sym (add_new_old same_path (paths_in c.args.tiles) (path_in c.args.tile) (sym c.has_path.ensures ∙ c.if-has_path.true)))
+    c.requires.0.is ∙ ap tiles_of (sym (add_new_old same_path (paths_in c.args.tiles) (path_in c.args.tile) (sym c.has_path.ensures ∙ c.if-has_path.true)))
 
 pub returns : goal.returns
 returns c =
-        c.appended.ensures
+    c.appended.ensures
     ∙ appended_clean _ _ c.requires.0 c.requires.1 c.requires.2
     ∙ ap tiles_of (sym (add_new_new same_path (paths_in c.args.tiles) (path_in c.args.tile) (sym c.has_path.ensures ∙ c.if-has_path.false)))

@@ -16,7 +16,7 @@ with_new-out-requires c = let so = c.loop-i.invariant.1 in (so.clean, so.clean_t
 
 pub loop-i-preserved : goal.loop-i-preserved
 loop-i-preserved c =
-            (omega arith, collected_step _ _ _ _ _ _ _ c.loop-i.invariant.1 c.loop-i-test.true c.with_new-out.ensures c.rotate-next.ensures)
+    (omega arith, collected_step _ _ _ _ _ _ _ c.loop-i.invariant.1 c.loop-i-test.true c.with_new-out.ensures c.rotate-next.ensures)
 
 pub returns : goal.returns
 returns c = collected_end _ _ _ _ _ c.loop-i.invariant.1 c.loop-i-test.false
