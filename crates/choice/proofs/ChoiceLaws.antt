@@ -1,7 +1,7 @@
 -- What the tests and loops of the code come to: the laid mark beside a cell, the outer cells, the count of a cell, and the scan for the best cell.
 -- Rests on `CountLaws` and on the laws of places. Assumes nothing.
 use mathlib.Core.Path.{◌≡◌, refl, sym, ap, ap₂, ◌∙◌}
-use mathlib.Core.Bool.{Bool, true, false, So, cond, ◌&&◌, ◌||◌, or_true}
+use mathlib.Core.Bool.{Bool, true, false, So, cond, ◌&&◌, ◌||◌, or-true}
 use mathlib.Core.List.{List, [], ◌∷◌, ◌++◌}
 use mathlib.Core.Option.{Option, none, some}
 use Prim.Native.Nat.{ℕ, ◌+◌, ◌*◌, ◌/◌, ◌%◌, ◌≤◌, ◌<◌}
@@ -77,7 +77,7 @@ module _ (w h row col : ℕ) where
     where
       go : (a b c d : Bool) → (a || b || c || d) ≡ ((a || c) || (b || d))
       go true b c d = refl
-      go false true c d = sym (or_true c)
+      go false true c d = sym (or-true c)
       go false false c d = refl
 
   module _ (p q : ℕ) (e : p ≡ one (eqb row 0 || eqb (row + 1) h)) (f : q ≡ one (eqb col 0 || eqb (col + 1) w)) where

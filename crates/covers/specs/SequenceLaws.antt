@@ -41,7 +41,7 @@ module _ {B P : Type 0} (G : Setting B P) (L : Laws G) where
   set ps = holds G.same_piece ps
 
   in_set : (ps : List P) (p : P) → So (set ps p) ↔ Mem p ps
-  in_set = holds_iff G.same_piece L.Piece-eq
+  in_set = holds_iff G.same_piece L.piece_eq
 
   -- the elements of p ∷ ps
   set_cases : {A : Type 0} (p : P) (ps : List P) (q : P) → (q ≡ p → A) → (So (set ps q) → A) → So (set (p ∷ ps) q) → A
@@ -112,7 +112,7 @@ module _ {B P : Type 0} (G : Setting B P) (L : Laws G) where
     }
       where
         other : (q : P) → So (others G.same_piece X p q) ↔ (So (X q) × (q ≡ p → ⊥))
-        other = others_iff G.same_piece L.Piece-eq X p
+        other = others_iff G.same_piece L.piece_eq X p
 
         left : (c : ℕ) → So (G.free (G.lay s p) c) ↔ (So (G.free s c) × (So (G.covers p c) → ⊥))
         left = L.lay_free s p ok (u.fits p x)
@@ -210,17 +210,17 @@ module _ {B P : Type 0} (G : Setting B P) (L : Laws G) where
   found_add s X p x m r = (p ∷ r.0, (m, r.1), set_ext (set (p ∷ r.0)) X to (λ q y. from q y (G.same_piece p q) refl))
     where
       other : (q : P) → So (others G.same_piece X p q) ↔ (So (X q) × (q ≡ p → ⊥))
-      other = others_iff G.same_piece L.Piece-eq X p
+      other = others_iff G.same_piece L.piece_eq X p
 
       to : (q : P) → So (set (p ∷ r.0) q) → So (X q)
       to q y =
           set_cases p r.0 q (λ e. subst (λ (z : P). So (X z)) (sym e) x) (λ z. ((other q).0 (subst (λ (Y : P → Bool). So (Y q)) r.2 z)).0) y
 
       from : (q : P) → So (X q) → (b : Bool) → G.same_piece p q ≡ b → So (set (p ∷ r.0) q)
-      from q y true e = (in_set (p ∷ r.0) q).1 (here (sym ((L.Piece-eq p q).0 e)))
+      from q y true e = (in_set (p ∷ r.0) q).1 (here (sym ((L.piece_eq p q).0 e)))
       from q y false e =
           set_later p r.0 q
-          (subst (λ (Y : P → Bool). So (Y q)) (sym r.2) ((other q).1 (y, λ k. false≢true (sym e ∙ (L.Piece-eq p q).1 (sym k)))))
+          (subst (λ (Y : P → Bool). So (Y q)) (sym r.2) ((other q).1 (y, λ k. false≢true (sym e ∙ (L.piece_eq p q).1 (sym k)))))
 
   module _ (sound : SoundPruning G) where
     -- a placing sequence with the pieces of a cutting, if there is one once the piece on the chosen cell is laid

@@ -23,6 +23,7 @@ use Rattle.tiles.specs.ReadLaws.{read_tiles_sound}
 -- where all tiles cover equally many cells, each covers as many as the first
 pub shared_count_mem : (paths : List Path) → EqualCounts paths → (path : Path) → Mem path paths → cell_count path ≡ shared_count paths
 unfolding shared_count
+shared_count_mem [] h path m = elim m [ ]
 shared_count_mem (first ∷ paths) h path m = h path first m (here refl)
 
 module _ (paths : List Path) where

@@ -17,13 +17,13 @@ is_whole-requires c = c.loop-at.invariant.within
 
 pub returns-then-not-is_whole : goal.returns-then-not-is_whole
 returns-then-not-is_whole c = let l = c.loop-at in
-    ahead_broken _ _ _ _ _ l.invariant c.loop-at-test.true (sym c.is_whole.ensures ∙ not-true _ c.if-not-is_whole.true)
+    ahead_broken _ _ _ _ _ l.invariant c.loop-at-test.true (sym c.is_whole.ensures ∙ c.if-not-is_whole.true)
 
 pub overflow_add-at : goal.overflow_add-at
-overflow_add-at c = let long = ahead_long _ _ _ _ _ c.loop-at.invariant (sym c.is_whole.ensures ∙ not-false _ c.if-not-is_whole.false) in search rules
+overflow_add-at c = let long = ahead_long _ _ _ _ _ c.loop-at.invariant (sym c.is_whole.ensures ∙ c.if-not-is_whole.false) in search rules
 
 pub loop-at-preserved : goal.loop-at-preserved
-loop-at-preserved c = count_step _ _ _ c.loop-at.invariant (sym c.is_whole.ensures ∙ not-false _ c.if-not-is_whole.false)
+loop-at-preserved c = count_step _ _ _ c.loop-at.invariant (sym c.is_whole.ensures ∙ c.if-not-is_whole.false)
 
 pub returns : goal.returns
 returns c = count_end _ _ _ c.loop-at.invariant c.loop-at-test.false

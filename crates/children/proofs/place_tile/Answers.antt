@@ -9,13 +9,10 @@ use Rattle.board.specs.Board.{board_of}
 use Rattle.children.specs.Children.{children_of}
 use Rattle.children.proofs.AnswerLaws.{children_accepted, few, places_number, places_full, places_refused}
 use Rattle.children.proofs.place_tile.Goals as goal
-use Rattle.children.proofs.place_tile.Goals.{In-Accepted}
-
-accepted : (c : In-Accepted) → 0 ≡ refusal_of (children_of (board_of c.args.board) c.args.tiles)
-accepted c = sym (ap verdict_number c.in-Accepted.is) ∙ c.judged-verdict.ensures
 
 pub add_children-stored-requires : goal.add_children-stored-requires
-add_children-stored-requires c = children_accepted _ _ (accepted c.before)
+add_children-stored-requires c =
+    let accepted : 0 ≡ refusal_of (children_of (board_of c.args.board) c.args.tiles) = sym (ap verdict_number c.in-Accepted.is) ∙ c.judged-verdict.ensures in children_accepted _ _ (accepted)
 
 -- a is what is known after `add_children`
 pub overflow_mul-n : goal.overflow_mul-n
@@ -25,12 +22,14 @@ overflow_mul-n c =
 
 pub returns-in-Number : goal.returns-in-Number
 returns-in-Number c =
-    places_number _ _ _ _ (accepted c.before.before.before.before.before.before.before.before.before.before.before) _ c.add_children-stored.auto.0 _ c.add_children-stored.ensures _ c.in-Number.is
-    (λ i. (c.type_inv.out.given i).fits) c.clear_from.ensures
+    let accepted : 0 ≡ refusal_of (children_of (board_of c.args.board) c.args.tiles) = sym (ap verdict_number c.in-Accepted.is) ∙ c.judged-verdict.ensures in
+    places_number _ _ _ _ (accepted) _ c.add_children-stored.auto.0 _ c.add_children-stored.ensures _ c.in-Number.is
+    (λ i. (c.type_inv.out i).fits) c.clear_from.ensures
 
 pub returns-in-Full : goal.returns-in-Full
 returns-in-Full c =
-    places_full _ _ _ _ (accepted c.before.before.before.before.before.before.before.before.before.before) _ c.add_children-stored.auto.0 _ c.add_children-stored.ensures c.in-Full.is c.clear_from-in-Full.ensures
+    let accepted : 0 ≡ refusal_of (children_of (board_of c.args.board) c.args.tiles) = sym (ap verdict_number c.in-Accepted.is) ∙ c.judged-verdict.ensures in
+    places_full _ _ _ _ (accepted) _ c.add_children-stored.auto.0 _ c.add_children-stored.ensures c.in-Full.is c.clear_from-in-Full.ensures
 
 pub returns-in-Refused : goal.returns-in-Refused
 returns-in-Refused c =

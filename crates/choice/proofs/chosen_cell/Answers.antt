@@ -12,7 +12,7 @@ use Rattle.choice.proofs.chosen_cell.Goals as goal
 use Rattle.choice.proofs.chosen_cell.Goals.{Else-not-size_ok}
 
 pub returns-then-not-size_ok : goal.returns-then-not-size_ok
-returns-then-not-size_ok c = sym (chosen_for_refused _ _ _ _ (sym c.size_ok.ensures ∙ not-true _ c.if-not-size_ok.true))
+returns-then-not-size_ok c = sym (chosen_for_refused _ _ _ _ (sym c.size_ok.ensures ∙ c.if-not-size_ok.true))
 
 -- the size is right
 sized : (c : Else-not-size_ok) → size_ok c.args.width c.args.height ≡ true

@@ -17,13 +17,13 @@ pub returns-then-path-start : goal.returns-then-path-start
 returns-then-path-start c = sym (fit_in_point _ _ _ _ _ _ c.if-path-start.true)
 
 pub returns-then-not-size_ok : goal.returns-then-not-size_ok
-returns-then-not-size_ok c = sym (fit_in_size _ _ _ _ _ _ (sym c.size_ok.ensures ∙ not-true _ c.if-not-size_ok.true))
+returns-then-not-size_ok c = sym (fit_in_size _ _ _ _ _ _ (sym c.size_ok.ensures ∙ c.if-not-size_ok.true))
 
 pub returns-then-not-is_inside : goal.returns-then-not-is_inside
-returns-then-not-is_inside c = sym (fit_in_outside _ _ _ _ _ _ (sym c.is_inside.ensures ∙ not-true _ c.if-not-is_inside.true))
+returns-then-not-is_inside c = sym (fit_in_outside _ _ _ _ _ _ (sym c.is_inside.ensures ∙ c.if-not-is_inside.true))
 
 pub returns-then-not-is_path : goal.returns-then-not-is_path
-returns-then-not-is_path c = sym (fit_in_path _ _ _ _ _ _ (sym c.is_path.ensures ∙ not-true _ c.if-not-is_path.true))
+returns-then-not-is_path c = sym (fit_in_path _ _ _ _ _ _ (sym c.is_path.ensures ∙ c.if-not-is_path.true))
 
 -- what the tests told of the size, the cell and the codes
 size : (c : Else-not-is_path) → size_ok c.args.width c.args.height ≡ true

@@ -29,10 +29,10 @@ loop-i-preserved c = filled_step 0 _ _ _ _ _ _ c.loop-i.invariant (omega (arith,
 pub shape_of-words : goal.shape_of-words
 shape_of-words c = c.loop-i.invariant.long
 
-fixed : (c : Start invariant-loop decreases-loop) → Sound c.args.board.fixed
+fixed : (c : Start) → Sound c.args.board.fixed
 fixed c = record { s0 = search rules; s1 = search rules; s2 = search rules; s3 = search rules }
 
-laid : (c : Start invariant-loop decreases-loop) → Sound c.args.board.laid
+laid : (c : Start) → Sound c.args.board.laid
 laid c = record { s0 = search rules; s1 = search rules; s2 = search rules; s3 = search rules }
 
 pub returns : goal.returns

@@ -7,33 +7,32 @@ use Rattle.numbered_tilings.proofs.WalkLoops.{walkable, answers_bad, answers_non
 use borrow.Author.Rules.{rules}
 use borrow.Author.Tests.{ltb-true, ltb-false, not-true, not-false}
 use Rattle.numbered_tilings.proofs.judged.Goals as goal
-use Rattle.numbered_tilings.proofs.judged.Goals.{Else-is_bad_graph}
-
-sound : (c : Else-is_bad_graph)
-    → let args = c.args in bad_graph args.graph args.nodes args.counts.now args.edges.now ≡ false
-sound c = sym c.is_bad_graph.ensures ∙ c.if-is_bad_graph.false
 
 pub returns-then-is_bad_graph : goal.returns-then-is_bad_graph
 returns-then-is_bad_graph c = answers_bad _ _ _ _ _ _ (sym c.is_bad_graph.ensures ∙ c.if-is_bad_graph.true)
 
 pub returns-then-not-less : goal.returns-then-not-less
 returns-then-not-less c =
-    answers_none _ _ _ _ _ (sound c.before.before.before) _ c.count_tilings_from_graph-count.ensures _
-    (ltb-false _ _ (sym c.less.ensures ∙ not-true _ c.if-not-less.true))
+    let sound : let args = c.args in bad_graph args.graph args.nodes args.counts.now args.edges.now ≡ false = sym c.is_bad_graph.ensures ∙ c.if-is_bad_graph.false in
+    answers_none _ _ _ _ _ (sound) _ c.count_tilings_from_graph-count.ensures _
+    (ltb-false _ _ (sym c.less.ensures ∙ c.if-not-less.true))
 
 pub list_length-size-requires : goal.list_length-size-requires
 list_length-size-requires c =
-    walkable _ _ _ _ _ (sound c.before.before.before.before) _ c.count_tilings_from_graph-count.ensures
-    (ltb-true _ _ (sym c.less.ensures ∙ not-false _ c.if-not-less.false)) _ c.last_node-last.ensures
+    let sound : let args = c.args in bad_graph args.graph args.nodes args.counts.now args.edges.now ≡ false = sym c.is_bad_graph.ensures ∙ c.if-is_bad_graph.false in
+    walkable _ _ _ _ _ (sound) _ c.count_tilings_from_graph-count.ensures
+    (ltb-true _ _ (sym c.less.ensures ∙ c.if-not-less.false)) _ c.last_node-last.ensures
 
 pub returns-then-room-size : goal.returns-then-room-size
 returns-then-room-size c =
-    answers_short _ _ _ _ _ (sound c.before.before.before.before.before.before) _ c.count_tilings_from_graph-count.ensures
-    (ltb-true _ _ (sym c.less.ensures ∙ not-false _ c.if-not-less.false)) _ c.last_node-last.ensures _ _ c.list_length-size.ensures
+    let sound : let args = c.args in bad_graph args.graph args.nodes args.counts.now args.edges.now ≡ false = sym c.is_bad_graph.ensures ∙ c.if-is_bad_graph.false in
+    answers_short _ _ _ _ _ (sound) _ c.count_tilings_from_graph-count.ensures
+    (ltb-true _ _ (sym c.less.ensures ∙ c.if-not-less.false)) _ c.last_node-last.ensures _ _ c.list_length-size.ensures
     c.if-room-size.true
 
 pub returns : goal.returns
 returns c =
-    answers_given _ _ _ _ _ (sound c.before.before.before.before.before.before) _ c.count_tilings_from_graph-count.ensures
-    (ltb-true _ _ (sym c.less.ensures ∙ not-false _ c.if-not-less.false)) _ c.last_node-last.ensures _ _ c.list_length-size.ensures
+    let sound : let args = c.args in bad_graph args.graph args.nodes args.counts.now args.edges.now ≡ false = sym c.is_bad_graph.ensures ∙ c.if-is_bad_graph.false in
+    answers_given _ _ _ _ _ (sound) _ c.count_tilings_from_graph-count.ensures
+    (ltb-true _ _ (sym c.less.ensures ∙ c.if-not-less.false)) _ c.last_node-last.ensures _ _ c.list_length-size.ensures
     c.if-room-size.false

@@ -16,6 +16,6 @@ returns c =
     let inside = c.requires in (
       λ g built.
           puts_append inside (puts_as (graph_line_lem built _ c.count_tilings_from_graph-count.ensures) c.put_sizes-next.ensures)
-          (c.put_tilings.ensures.0 g built (c.count_tilings_from_graph-count.ensures ∙ built.count)),
-      omega (arith, c.put_tilings.ensures.1, puts_length inside c.put_sizes-next.ensures),
+          (c.put_tilings.ensures.text g built (c.count_tilings_from_graph-count.ensures ∙ built.count)),
+      omega (arith, c.put_tilings.ensures.within, puts_length inside c.put_sizes-next.ensures),
     )

@@ -9,7 +9,7 @@ use Rattle.report.proofs.put_report.Goals as goal
 pub returns-in-Accepted : goal.returns-in-Accepted
 returns-in-Accepted c =
     let text = accepted_text _ _ c.read_plot-plot.ensures c.in-Accepted.is in
-    puts_as (sym text.2) (c.put_plot.ensures.0 text.0 text.1)
+    puts_as (sym text.2) (c.put_plot.ensures.text text.0 text.1)
 
 pub returns-in-Refused : goal.returns-in-Refused
 returns-in-Refused c =

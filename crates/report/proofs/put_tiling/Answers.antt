@@ -14,18 +14,18 @@ use Rattle.report.proofs.put_tiling.Goals as goal
 pub slice_bounds-list-end : goal.slice_bounds-list-end
 slice_bounds-list-end c =
     told_short c.args.graph c.args.nodes.now c.args.counts.now c.args.edges.now (count_value c.of_words-number.result) _ _ c.tiling_by_number-tiling.result
-    c.tiling_by_number-tiling.ensures.0 _ c.in-Length.is
+    c.tiling_by_number-tiling.ensures.answer _ c.in-Length.is
 
 pub slice_bounds-put_list-end : goal.slice_bounds-put_list-end
 slice_bounds-put_list-end c =
     told_long c.args.graph c.args.nodes.now c.args.counts.now c.args.edges.now (count_value c.of_words-number.result) _ _ c.tiling_by_number-tiling.result
-    c.tiling_by_number-tiling.ensures.0 _ c.in-Length.is
+    c.tiling_by_number-tiling.ensures.answer _ c.in-Length.is
 
 pub returns-in-Length : goal.returns-in-Length
 unfolding tiling_line
 returns-in-Length c =
     let gives = gives_same c.args.graph c.args.nodes.now c.args.counts.now c.args.edges.now _ c.args.m _ _ c.tiling_by_number-tiling.result
-    (word_count c.args.m (search rules) _ c.of_words-number.ensures) c.tiling_by_number-tiling.ensures.0 in (
+    (word_count c.args.m (search rules) _ c.of_words-number.ensures) c.tiling_by_number-tiling.ensures.answer in (
       λ g built below.
           puts_as (ap (λ (l : List ℕ). field "tiling " c.args.m ++ ascii ":" ++ flat_map (field " ") l ++ feed)
           (told_list c.args.graph c.args.nodes.now c.args.counts.now c.args.edges.now c.args.m _ _ c.tiling_by_number-tiling.result gives built below refl _ c.in-Length.is)) c.put_list.ensures,
@@ -35,5 +35,5 @@ returns-in-Length c =
 pub returns-in-Refused : goal.returns-in-Refused
 returns-in-Refused c =
     let gives = gives_same c.args.graph c.args.nodes.now c.args.counts.now c.args.edges.now _ c.args.m _ _ c.tiling_by_number-tiling.result
-    (word_count c.args.m (search rules) _ c.of_words-number.ensures) c.tiling_by_number-tiling.ensures.0 in
+    (word_count c.args.m (search rules) _ c.of_words-number.ensures) c.tiling_by_number-tiling.ensures.answer in
     (λ g built below. absurd (told_given c.args.graph c.args.nodes.now c.args.counts.now c.args.edges.now c.args.m _ _ c.tiling_by_number-tiling.result gives built below refl _ c.in-Refused.is), c.requires)

@@ -28,7 +28,7 @@ shape_of-out-then-not-less c = c.loop-m.invariant.3
 pub returns-then-not-less : goal.returns-then-not-less
 returns-then-not-less c =
     let inv = c.loop-m.invariant in
-    let past = not_below _ _ _ inv.0 c.of_words.ensures (sym c.less.ensures ∙ not-true _ c.if-not-less.true) in
+    let past = not_below _ _ _ inv.0 c.of_words.ensures (sym c.less.ensures ∙ c.if-not-less.true) in
     (λ g built counted. puts_listed g _ (omega (arith, counted, inv.0, inv.1, past)) (inv.4 g built counted), inv.2)
 
 pub put_tiling-next-requires : goal.put_tiling-next-requires
@@ -37,14 +37,14 @@ put_tiling-next-requires c = let inv = c.loop-m.invariant in omega (arith, inv.2
 pub loop-m-preserved : goal.loop-m-preserved
 loop-m-preserved c =
     let inv = c.loop-m.invariant in
-    let below = is_below _ _ _ inv.0 c.of_words.ensures (sym c.less.ensures ∙ not-false _ c.if-not-less.false) in (
+    let below = is_below _ _ _ inv.0 c.of_words.ensures (sym c.less.ensures ∙ c.if-not-less.false) in (
       omega (arith, c.loop-m-test.true),
       omega (arith, below),
-      omega (arith, c.put_tiling-next.ensures.1, inv.3),
+      omega (arith, c.put_tiling-next.ensures.within, inv.3),
       c.put_tiling-next.auto.0 ∙ inv.3,
       λ g built counted.
           puts_tiling g _ c.requires (inv.4 g built counted)
-          (c.put_tiling-next.ensures.0 g built (omega (arith, counted, below))),
+          (c.put_tiling-next.ensures.text g built (omega (arith, counted, below))),
     )
 
 pub shape_of-out : goal.shape_of-out

@@ -8,27 +8,28 @@ use Rattle.rectangle.specs.FreeLaws.{free_le}
 use Rattle.single_tiling.proofs.SearchLaws.{searched_held, walk_full, walk_no_sum, walk_first}
 use borrow.Author.Rules.{rules}
 use Rattle.single_tiling.proofs.walk.Goals as goal
-use Rattle.single_tiling.proofs.walk.Goals.{Start}
-
-fixed : (c : Start) → Sound c.args.board.fixed
-fixed c = record { s0 = search rules; s1 = search rules; s2 = search rules; s3 = search rules }
-
-laid : (c : Start) → Sound c.args.board.laid
-laid c = record { s0 = search rules; s1 = search rules; s2 = search rules; s3 = search rules }
 
 pub returns-then-free-eq0 : goal.returns-then-free-eq0
-returns-then-free-eq0 c = walk_full _ (fixed c.before.before) (laid c.before.before) _ _ _ c.requires _ c.if-free-eq0.true
+returns-then-free-eq0 c =
+    let fixed : Sound c.args.board.fixed = record { s0 = search rules; s1 = search rules; s2 = search rules; s3 = search rules } in
+    let laid : Sound c.args.board.laid = record { s0 = search rules; s1 = search rules; s2 = search rules; s3 = search rules } in walk_full _ (fixed) (laid) _ _ _ c.requires _ c.if-free-eq0.true
 
 pub is_sum-requires : goal.is_sum-requires
 is_sum-requires c = (c.requires.tiles, subst (λ (n : ℕ). n ≤ 256) (sym c.requires.cells) (free_le _))
 
 pub returns-then-not-is_sum : goal.returns-then-not-is_sum
-returns-then-not-is_sum c = walk_no_sum _ (fixed c.before.before.before.before) (laid c.before.before.before.before) _ _ _ c.requires _ _ (not-true _ c.if-not-is_sum.true) c.is_sum.ensures
+returns-then-not-is_sum c =
+    let fixed : Sound c.args.board.fixed = record { s0 = search rules; s1 = search rules; s2 = search rules; s3 = search rules } in
+    let laid : Sound c.args.board.laid = record { s0 = search rules; s1 = search rules; s2 = search rules; s3 = search rules } in walk_no_sum _ (fixed) (laid) _ _ _ c.requires _ _ c.if-not-is_sum.true c.is_sum.ensures
 
 pub descend-requires : goal.descend-requires
 descend-requires c =
-    searched_held _ (fixed c.before.before.before.before.before.before.before.before.before.before) (laid c.before.before.before.before.before.before.before.before.before.before) _ _ _ c.requires _ c.has_single-single.ensures
+    let fixed : Sound c.args.board.fixed = record { s0 = search rules; s1 = search rules; s2 = search rules; s3 = search rules } in
+    let laid : Sound c.args.board.laid = record { s0 = search rules; s1 = search rules; s2 = search rules; s3 = search rules } in
+    searched_held _ (fixed) (laid) _ _ _ c.requires _ c.has_single-single.ensures
 
 pub returns : goal.returns
 returns c =
-    walk_first _ (fixed c.before.before.before.before.before.before.before.before.before.before.before.before.before) (laid c.before.before.before.before.before.before.before.before.before.before.before.before.before) _ _ _ c.requires _ _ _ c.if-free-eq0.false c.descend.ensures
+    let fixed : Sound c.args.board.fixed = record { s0 = search rules; s1 = search rules; s2 = search rules; s3 = search rules } in
+    let laid : Sound c.args.board.laid = record { s0 = search rules; s1 = search rules; s2 = search rules; s3 = search rules } in
+    walk_first _ (fixed) (laid) _ _ _ c.requires _ _ _ c.if-free-eq0.false c.descend.ensures

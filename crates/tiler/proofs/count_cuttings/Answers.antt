@@ -16,4 +16,4 @@ laid c = record { s0 = search rules; s1 = search rules; s2 = search rules; s3 = 
 
 pub returns : goal.returns
 returns c =
-    both (call_counts_cuttings _ _ (fixed c.before.before.before.before.before.before.before.before.before.before.before.before.before.before.before.before.before.before) (laid c.before.before.before.before.before.before.before.before.before.before.before.before.before.before.before.before.before.before) _ _ _ _ _ _ _ _ _) (figure_left _ _ _ c.count_tilings-count.ensures.0 c.count_cuttings_from_layers.ensures)
+    both (call_counts_cuttings _ _ (fixed c.before.before.before.before.before.before.before.before.before.before.before.before.before.before.before.before.before.before) (laid c.before.before.before.before.before.before.before.before.before.before.before.before.before.before.before.before.before.before) _ _ _ _ _ _ _ _ _) (figure_left _ _ _ c.count_tilings-count.ensures.answer c.count_cuttings_from_layers.ensures)

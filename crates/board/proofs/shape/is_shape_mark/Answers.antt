@@ -7,13 +7,13 @@ use Rattle.board.proofs.ShapeLaws.{shape_outside, shape_under, shape_low, shape_
 use Rattle.board.proofs.shape.is_shape_mark.Goals as goal
 
 pub returns-then-not-is_inside : goal.returns-then-not-is_inside
-returns-then-not-is_inside c = shape_outside _ _ _ _ _ _ (sym c.is_inside.ensures ∙ not-true _ c.if-not-is_inside.true)
+returns-then-not-is_inside c = shape_outside _ _ _ _ _ _ (sym c.is_inside.ensures ∙ c.if-not-is_inside.true)
 
 pub returns-then-rows-cell : goal.returns-then-rows-cell
-returns-then-rows-cell c = shape_under _ _ _ _ _ _ (sym c.is_inside.ensures ∙ not-false _ c.if-not-is_inside.false) c.if-rows-cell.true
+returns-then-rows-cell c = shape_under _ _ _ _ _ _ (sym c.is_inside.ensures ∙ c.if-not-is_inside.false) c.if-rows-cell.true
 
 pub returns-then-cell-low : goal.returns-then-cell-low
-returns-then-cell-low c = shape_low _ _ _ _ _ _ (sym c.is_inside.ensures ∙ not-false _ c.if-not-is_inside.false) c.if-rows-cell.false c.if-cell-low.true
+returns-then-cell-low c = shape_low _ _ _ _ _ _ (sym c.is_inside.ensures ∙ c.if-not-is_inside.false) c.if-rows-cell.false c.if-cell-low.true
 
 pub returns : goal.returns
-returns c = shape_high _ _ _ _ _ _ (sym c.is_inside.ensures ∙ not-false _ c.if-not-is_inside.false) c.if-rows-cell.false c.if-cell-low.false
+returns c = shape_high _ _ _ _ _ _ (sym c.is_inside.ensures ∙ c.if-not-is_inside.false) c.if-rows-cell.false c.if-cell-low.false

@@ -17,10 +17,10 @@ pub loop-cell-init : goal.loop-cell-init
 loop-cell-init c = (search rules, all_below_none _)
 
 pub returns-then-not-mark_ok : goal.returns-then-not-mark_ok
-returns-then-not-mark_ok c = sym (all_below_fails _ _ _ c.loop-cell-test.true (sym c.mark_ok.ensures ∙ not-true _ c.if-not-mark_ok.true))
+returns-then-not-mark_ok c = sym (all_below_fails _ _ _ c.loop-cell-test.true (sym c.mark_ok.ensures ∙ c.if-not-mark_ok.true))
 
 pub loop-cell-preserved : goal.loop-cell-preserved
-loop-cell-preserved c = (omega arith, all_below_more _ _ c.loop-cell.invariant.1 (sym c.mark_ok.ensures ∙ not-false _ c.if-not-mark_ok.false))
+loop-cell-preserved c = (omega arith, all_below_more _ _ c.loop-cell.invariant.1 (sym c.mark_ok.ensures ∙ c.if-not-mark_ok.false))
 
 pub returns : goal.returns
 returns c = all_below_end _ _ c.loop-cell.invariant.1 c.loop-cell.invariant.0 c.loop-cell-test.false

@@ -9,10 +9,6 @@ use Rattle.cells.specs.WordLaws.{number_lt}
 use Rattle.cells.specs.SearchLaws.{found_holds, missed_holds}
 use Rattle.children.proofs.PlacingLaws.{add_full, add_old, add_over, add_put}
 use Rattle.children.proofs.placing.add_child.Goals as goal
-use Rattle.children.proofs.placing.add_child.Goals.{Start}
-
-small : (c : Start) → number c.args.child < 2 ^ 256
-small c = number_lt _ (record { s0 = search rules; s1 = search rules; s2 = search rules; s3 = search rules })
 
 pub returns-in_default : goal.returns-in_default
 returns-in_default c = λ ns k. add_full _ _ _ k _ c.in_default.is
@@ -29,5 +25,6 @@ returns-then-out-n c =
 
 pub returns : goal.returns
 returns c =
+    let small : number c.args.child < 2 ^ 256 = number_lt _ (record { s0 = search rules; s1 = search rules; s2 = search rules; s3 = search rules }) in
     λ ns k. add_put _ _ _ k _ _ c.in-Number.is false
-    (missed_holds _ _ _ _ c.find-found.ensures c.in-Nothing.is) (small c.before.before.before.before.before.before.before.before.before.before.before.before) refl c.if-out-n.false _ c.put.ensures
+    (missed_holds _ _ _ _ c.find-found.ensures c.in-Nothing.is) (small) refl c.if-out-n.false _ c.put.ensures

@@ -10,17 +10,14 @@ use Rattle.board.specs.Board.{board_of}
 use Rattle.children.specs.ChildLaws.{children_full, children_pruned}
 use Rattle.children.proofs.PlacingLaws.{found_told, found_pruned, kept_none, kept_all}
 use Rattle.children.proofs.placing.add_children.Goals as goal
-use Rattle.children.proofs.placing.add_children.Goals.{After-chosen_cell-found}
-
-told : (c : After-chosen_cell-found) → chosen_answer c.chosen_cell-found.result ≡ given (chosen_count (board_of c.args.board))
-told c = found_told (board_of c.args.board) c.requires.0 _ c.marks-marked.ensures c.chosen_cell-found.result c.chosen_cell-found.ensures
 
 pub is_pruned-requires : goal.is_pruned-requires
 is_pruned-requires c = c.requires.1
 
 pub returns-then-is_pruned : goal.returns-then-is_pruned
 returns-then-is_pruned c =
-    let t = told c.before.before.before.before.before in
+    let told : chosen_answer c.chosen_cell-found.result ≡ given (chosen_count (board_of c.args.board)) = found_told (board_of c.args.board) c.requires.0 _ c.marks-marked.ensures c.chosen_cell-found.result c.chosen_cell-found.ensures in
+    let t = told in
     let f = c.in-Cell.is in
     kept_none _ _ _
     (children_pruned _ _ (found_pruned _ c.requires.0 _ _ (found_cell _ _ t _ _ f) (found_count _ _ t _ _ f) _ _ c.is_pruned.ensures ∙ c.if-is_pruned.true))
@@ -30,14 +27,17 @@ add_tiles-requires c = let p = c.requires in (p.0, c.marks-marked.ensures, p.1, 
 
 pub returns-else-is_pruned : goal.returns-else-is_pruned
 returns-else-is_pruned c =
-    let t = told c.before.before.before.before.before.before.before.before.before in
+    let told : chosen_answer c.chosen_cell-found.result ≡ given (chosen_count (board_of c.args.board)) = found_told (board_of c.args.board) c.requires.0 _ c.marks-marked.ensures c.chosen_cell-found.result c.chosen_cell-found.ensures in
+    let t = told in
     let f = c.in-Cell.is in
     kept_all _ _ _ _ (found_cell _ _ t _ _ f)
     (found_pruned _ c.requires.0 _ _ (found_cell _ _ t _ _ f) (found_count _ _ t _ _ f) _ _ c.is_pruned.ensures ∙ c.if-is_pruned.false) _
     c.add_tiles.ensures
 
 pub returns-in-Full : goal.returns-in-Full
-returns-in-Full c = kept_none _ _ _ (children_full _ _ (found_full _ _ (told c.before.before) c.in-Full.is))
+returns-in-Full c =
+    let told : chosen_answer c.chosen_cell-found.result ≡ given (chosen_count (board_of c.args.board)) = found_told (board_of c.args.board) c.requires.0 _ c.marks-marked.ensures c.chosen_cell-found.result c.chosen_cell-found.ensures in kept_none _ _ _ (children_full _ _ (found_full _ _ (told) c.in-Full.is))
 
 pub returns-in-Refused : goal.returns-in-Refused
-returns-in-Refused c = absurd (found_no_refusal _ _ (told c.before.before) _ c.in-Refused.is)
+returns-in-Refused c =
+    let told : chosen_answer c.chosen_cell-found.result ≡ given (chosen_count (board_of c.args.board)) = found_told (board_of c.args.board) c.requires.0 _ c.marks-marked.ensures c.chosen_cell-found.result c.chosen_cell-found.ensures in absurd (found_no_refusal _ _ (told) _ c.in-Refused.is)

@@ -8,10 +8,10 @@ use Rattle.choice.proofs.ChoiceLaws.{count_sum}
 use Rattle.choice.proofs.counts.count_at.Goals as goal
 
 pub returns-then-not-is_inside : goal.returns-then-not-is_inside
-returns-then-not-is_inside c = sym (count_outside _ _ _ _ (sym c.is_inside.ensures ∙ not-true _ c.if-not-is_inside.true))
+returns-then-not-is_inside c = sym (count_outside _ _ _ _ (sym c.is_inside.ensures ∙ c.if-not-is_inside.true))
 
 pub returns : goal.returns
 returns c =
-    count_sum _ _ _ _ (sym c.is_inside.ensures ∙ not-false _ c.if-not-is_inside.false) _ _ _ _ _
+    count_sum _ _ _ _ (sym c.is_inside.ensures ∙ c.if-not-is_inside.false) _ _ _ _ _
     c.outer_mark.ensures.0 c.laid_beside-up.ensures.0 c.laid_beside-down.ensures.0
     c.laid_beside-left.ensures.0 c.laid_beside-right.ensures.0

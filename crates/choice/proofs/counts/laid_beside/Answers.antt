@@ -12,32 +12,33 @@ use Rattle.rectangle.specs.PlaceLaws.{place_placed}
 use Rattle.choice.proofs.ChoiceLaws.{beside_step, beside_nowhere, beside_place}
 use Rattle.choice.specs.Choice.{one}
 use Rattle.choice.proofs.counts.laid_beside.Goals as goal
-use Rattle.choice.proofs.counts.laid_beside.Goals.{After-move_in_direction-place}
-
-stepped : (c : After-move_in_direction-place) → place_answer c.move_in_direction-place.result ≡ place_if (inside c.args.width c.args.height) (shift (position_of c.args.cell) (step c.args.code))
-stepped c = beside_step _ _ c.args.cell _ c.move_in_direction-place.result c.move_in_direction-place.ensures c.requires.2 c.requires.3
 
 pub returns-in_default : goal.returns-in_default
-returns-in_default c = (beside_nowhere _ _ _ _ _ _ (stepped c.before.before) c.in_default.is, search rules)
+returns-in_default c =
+    let stepped : place_answer c.move_in_direction-place.result ≡ place_if (inside c.args.width c.args.height) (shift (position_of c.args.cell) (step c.args.code)) = beside_step _ _ c.args.cell _ c.move_in_direction-place.result c.move_in_direction-place.ensures c.requires.2 c.requires.3 in (beside_nowhere _ _ _ _ _ _ (stepped) c.in_default.is, search rules)
 
 pub overflow_mul-r : goal.overflow_mul-r
-overflow_mul-r c = let p = place_placed _ _ _ _ _ _ (stepped c.before.before.before) c.in-At.is in omega arith
+overflow_mul-r c =
+    let stepped : place_answer c.move_in_direction-place.result ≡ place_if (inside c.args.width c.args.height) (shift (position_of c.args.cell) (step c.args.code)) = beside_step _ _ c.args.cell _ c.move_in_direction-place.result c.move_in_direction-place.ensures c.requires.2 c.requires.3 in let p = place_placed _ _ _ _ _ _ (stepped) c.in-At.is in omega arith
 
 pub overflow_add-r : goal.overflow_add-r
-overflow_add-r c = let p = place_placed _ _ _ _ _ _ (stepped c.before.before.before) c.in-At.is in omega arith
+overflow_add-r c =
+    let stepped : place_answer c.move_in_direction-place.result ≡ place_if (inside c.args.width c.args.height) (shift (position_of c.args.cell) (step c.args.code)) = beside_step _ _ c.args.cell _ c.move_in_direction-place.result c.move_in_direction-place.ensures c.requires.2 c.requires.3 in let p = place_placed _ _ _ _ _ _ (stepped) c.in-At.is in omega arith
 
 pub returns-then-has_cell : goal.returns-then-has_cell
 unfolding one
-returns-then-has_cell c = (
-  beside_place _ _ _ _ _ _ (stepped c.before.before.before.before.before) _ _ c.in-At.is true
+returns-then-has_cell c =
+    let stepped : place_answer c.move_in_direction-place.result ≡ place_if (inside c.args.width c.args.height) (shift (position_of c.args.cell) (step c.args.code)) = beside_step _ _ c.args.cell _ c.move_in_direction-place.result c.move_in_direction-place.ensures c.requires.2 c.requires.3 in (
+  beside_place _ _ _ _ _ _ (stepped) _ _ c.in-At.is true
       (sym c.has_cell.ensures ∙ c.if-has_cell.true),
   search rules,
 )
 
 pub returns : goal.returns
 unfolding one
-returns c = (
-  beside_place _ _ _ _ _ _ (stepped c.before.before.before.before.before) _ _ c.in-At.is false
+returns c =
+    let stepped : place_answer c.move_in_direction-place.result ≡ place_if (inside c.args.width c.args.height) (shift (position_of c.args.cell) (step c.args.code)) = beside_step _ _ c.args.cell _ c.move_in_direction-place.result c.move_in_direction-place.ensures c.requires.2 c.requires.3 in (
+  beside_place _ _ _ _ _ _ (stepped) _ _ c.in-At.is false
       (sym c.has_cell.ensures ∙ c.if-has_cell.false),
   search rules,
 )

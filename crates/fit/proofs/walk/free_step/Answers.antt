@@ -11,28 +11,32 @@ use Rattle.rectangle.specs.Parts.{place_answer, place_if}
 use Rattle.rectangle.specs.PlaceLaws.{place_placed}
 use Rattle.fit.proofs.WalkLaws.{walk_step, free_nowhere, free_marked, free_open}
 use Rattle.fit.proofs.walk.free_step.Goals as goal
-use Rattle.fit.proofs.walk.free_step.Goals.{After-move_in_direction-place}
-
-stepped : (c : After-move_in_direction-place) → place_answer c.move_in_direction-place.result ≡ place_if (inside c.args.width c.args.height) (shift (at (pos c.args.row) (pos c.args.col)) (step c.args.code))
-stepped c =
-    let p = c.requires in
-    walk_step _ _ c.args.row c.args.col _ c.move_in_direction-place.result c.move_in_direction-place.ensures p.0 p.1 p.2 p.3 p.4
 
 pub returns-in_default : goal.returns-in_default
-returns-in_default c = free_nowhere _ _ _ _ _ (stepped c.before.before) c.in_default.is
+returns-in_default c =
+    let stepped : place_answer c.move_in_direction-place.result ≡ place_if (inside c.args.width c.args.height) (shift (at (pos c.args.row) (pos c.args.col)) (step c.args.code)) = let p = c.requires in
+    walk_step _ _ c.args.row c.args.col _ c.move_in_direction-place.result c.move_in_direction-place.ensures p.0 p.1 p.2 p.3 p.4 in free_nowhere _ _ _ _ _ (stepped) c.in_default.is
 
 pub overflow_mul-r : goal.overflow_mul-r
-overflow_mul-r c = let p = place_placed _ _ _ _ _ _ (stepped c.before.before.before) c.in-At.is in omega arith
+overflow_mul-r c =
+    let stepped : place_answer c.move_in_direction-place.result ≡ place_if (inside c.args.width c.args.height) (shift (at (pos c.args.row) (pos c.args.col)) (step c.args.code)) = let p = c.requires in
+    walk_step _ _ c.args.row c.args.col _ c.move_in_direction-place.result c.move_in_direction-place.ensures p.0 p.1 p.2 p.3 p.4 in let p = place_placed _ _ _ _ _ _ (stepped) c.in-At.is in omega arith
 
 pub overflow_add-r : goal.overflow_add-r
-overflow_add-r c = let p = place_placed _ _ _ _ _ _ (stepped c.before.before.before) c.in-At.is in omega arith
+overflow_add-r c =
+    let stepped : place_answer c.move_in_direction-place.result ≡ place_if (inside c.args.width c.args.height) (shift (at (pos c.args.row) (pos c.args.col)) (step c.args.code)) = let p = c.requires in
+    walk_step _ _ c.args.row c.args.col _ c.move_in_direction-place.result c.move_in_direction-place.ensures p.0 p.1 p.2 p.3 p.4 in let p = place_placed _ _ _ _ _ _ (stepped) c.in-At.is in omega arith
 
 pub returns-then-has_cell : goal.returns-then-has_cell
 returns-then-has_cell c =
-    free_marked _ _ _ _ _ (stepped c.before.before.before.before.before) _ _ c.in-At.is
+    let stepped : place_answer c.move_in_direction-place.result ≡ place_if (inside c.args.width c.args.height) (shift (at (pos c.args.row) (pos c.args.col)) (step c.args.code)) = let p = c.requires in
+    walk_step _ _ c.args.row c.args.col _ c.move_in_direction-place.result c.move_in_direction-place.ensures p.0 p.1 p.2 p.3 p.4 in
+    free_marked _ _ _ _ _ (stepped) _ _ c.in-At.is
     (sym c.has_cell.ensures ∙ c.if-has_cell.true)
 
 pub returns : goal.returns
 returns c =
-    free_open _ _ _ _ _ (stepped c.before.before.before.before.before) _ _ c.in-At.is
+    let stepped : place_answer c.move_in_direction-place.result ≡ place_if (inside c.args.width c.args.height) (shift (at (pos c.args.row) (pos c.args.col)) (step c.args.code)) = let p = c.requires in
+    walk_step _ _ c.args.row c.args.col _ c.move_in_direction-place.result c.move_in_direction-place.ensures p.0 p.1 p.2 p.3 p.4 in
+    free_open _ _ _ _ _ (stepped) _ _ c.in-At.is
     (sym c.has_cell.ensures ∙ c.if-has_cell.false)

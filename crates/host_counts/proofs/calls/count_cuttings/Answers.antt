@@ -5,4 +5,4 @@ use borrow.Author.Rules.{rules}
 use Rattle.host_counts.proofs.calls.count_cuttings.Goals as goal
 
 pub returns : goal.returns
-returns c = count_told_lem _ _ _ _ _ c.count_cuttings-count.ensures.0 c.tell_count.ensures
+returns c = count_told_lem _ _ _ _ _ c.count_cuttings-count.ensures.answer c.tell_count.ensures

@@ -6,8 +6,8 @@ use Rattle.host_counts.proofs.calls.generate_graph.Goals as goal
 
 pub returns-in-Accepted : goal.returns-in-Accepted
 returns-in-Accepted c =
-    graph_told _ _ c.args.nodes.now c.args.counts.now c.args.edges.now _ _ _ _ _ _ c.generate_graph-made.ensures.0 _ c.in-Accepted.is c.accept_graph.ensures
+    graph_told _ _ c.args.nodes.now c.args.counts.now c.args.edges.now _ _ _ _ _ _ c.generate_graph-made.ensures.answer _ c.in-Accepted.is c.accept_graph.ensures
 
 pub returns-in-Refused : goal.returns-in-Refused
 returns-in-Refused c =
-    graph_refused _ _ c.args.nodes.now c.args.counts.now c.args.edges.now _ _ _ _ _ _ c.generate_graph-made.ensures.0 _ _ c.in-Refused.is c.refuse.ensures
+    graph_refused _ _ c.args.nodes.now c.args.counts.now c.args.edges.now _ _ _ _ _ _ c.generate_graph-made.ensures.answer _ _ c.in-Refused.is c.refuse.ensures

@@ -7,13 +7,13 @@ use Rattle.host_tilings.proofs.calls.tiling.Goals as goal
 pub returns-in-Length : goal.returns-in-Length
 returns-in-Length c =
     let list = c.tiling_by_number-list.result in
-    let handed = gives_number c.args.graph c.args.nodes.now c.args.counts.now c.args.edges.now c.args.m.now c.args.out.now _ list _ c.requires c.of_words-number.ensures c.tiling_by_number-list.ensures.0 in
+    let handed = gives_number c.args.graph c.args.nodes.now c.args.counts.now c.args.edges.now c.args.m.now c.args.out.now _ list _ c.requires c.of_words-number.ensures c.tiling_by_number-list.ensures.answer in
     list_told c.args.graph c.args.nodes.now c.args.counts.now c.args.edges.now c.args.m.now c.args.out.now _ _ _ list handed
-    (λ i. (c.type_inv.counts.given i).fits) _ _ c.in-Length.is c.accept.ensures
+    (λ i. (c.type_inv.counts i).fits) _ _ c.in-Length.is c.accept.ensures
 
 pub returns-in-Refused : goal.returns-in-Refused
 returns-in-Refused c =
     let list = c.tiling_by_number-list.result in
-    let handed = gives_number c.args.graph c.args.nodes.now c.args.counts.now c.args.edges.now c.args.m.now c.args.out.now _ list _ c.requires c.of_words-number.ensures c.tiling_by_number-list.ensures.0 in
+    let handed = gives_number c.args.graph c.args.nodes.now c.args.counts.now c.args.edges.now c.args.m.now c.args.out.now _ list _ c.requires c.of_words-number.ensures c.tiling_by_number-list.ensures.answer in
     list_refused c.args.graph c.args.nodes.now c.args.counts.now c.args.edges.now c.args.m.now c.args.out.now _ _ _ list handed
-    (λ i. (c.type_inv.counts.given i).fits) _ _ c.in-Refused.is c.refuse.ensures
+    (λ i. (c.type_inv.counts i).fits) _ _ c.in-Refused.is c.refuse.ensures

@@ -11,13 +11,6 @@ use Rattle.layers.proofs.LayerLaws.{room_kept}
 use Rattle.layers.proofs.StartLaws.{positive, start_no_room, start_full, start_ready, start_run}
 use borrow.Author.Rules.{rules}
 use Rattle.layers.proofs.counting.count_accepted.Goals as goal
-use Rattle.layers.proofs.counting.count_accepted.Goals.{Start}
-
-small_fixed : (c : Start) → number c.args.board.fixed < 2 ^ 256
-small_fixed c = number_lt _ (record { s0 = search rules; s1 = search rules; s2 = search rules; s3 = search rules })
-
-small_laid : (c : Start) → number c.args.board.laid < 2 ^ 256
-small_laid c = number_lt _ (record { s0 = search rules; s1 = search rules; s2 = search rules; s3 = search rules })
 
 pub returns-then-room-eq0 : goal.returns-then-room-eq0
 returns-then-room-eq0 c = start_no_room _ _ _ _ c.layer_room-room.ensures c.if-room-eq0.true
@@ -25,7 +18,9 @@ returns-then-room-eq0 c = start_no_room _ _ _ _ c.layer_room-room.ensures c.if-r
 -- s is what is known at the start, f after `free_cells`, m after `start`, r after `run`; w is that the room is lent
 pub returns-then-free-eq0 : goal.returns-then-free-eq0
 returns-then-free-eq0 c =
-    start_full _ _ c.requires.0 (small_fixed c.before.before.before.before.before.before.before.before.before) (small_laid c.before.before.before.before.before.before.before.before.before) _ c.free_cells-free.ensures _ _ c.layer_room-room.ensures c.if-room-eq0.false
+    let small_fixed : number c.args.board.fixed < 2 ^ 256 = number_lt _ (record { s0 = search rules; s1 = search rules; s2 = search rules; s3 = search rules }) in
+    let small_laid : number c.args.board.laid < 2 ^ 256 = number_lt _ (record { s0 = search rules; s1 = search rules; s2 = search rules; s3 = search rules }) in
+    start_full _ _ c.requires.0 (small_fixed) (small_laid) _ c.free_cells-free.ensures _ _ c.layer_room-room.ensures c.if-room-eq0.false
     _ (word_count 0 (lit< tt) _ c.of_words.ensures) c.if-free-eq0.true
 
 pub start-requires : goal.start-requires
@@ -36,15 +31,19 @@ start-requires c =
 
 pub run-requires : goal.run-requires
 run-requires c =
+    let small_fixed : number c.args.board.fixed < 2 ^ 256 = number_lt _ (record { s0 = search rules; s1 = search rules; s2 = search rules; s3 = search rules }) in
+    let small_laid : number c.args.board.laid < 2 ^ 256 = number_lt _ (record { s0 = search rules; s1 = search rules; s2 = search rules; s3 = search rules }) in
     let w = layer_room_lem _ _ _ _ _ c.layer_room-room.ensures in (
       (c.requires.0, c.requires.1),
       (omega (arith, w.0, c.start.auto.1.0), room_kept _ _ _ w.1 c.start.auto.1.1.0),
       (w.2, w.3),
-      start_ready _ _ c.requires.0 (small_fixed c.before.before.before.before.before.before.before.before.before.before.before.before.before.before.before.before.before.before.before) (small_laid c.before.before.before.before.before.before.before.before.before.before.before.before.before.before.before.before.before.before.before) _ c.free_cells-free.ensures _ _ c.layer_room-room.ensures c.if-room-eq0.false
+      start_ready _ _ c.requires.0 (small_fixed) (small_laid) _ c.free_cells-free.ensures _ _ c.layer_room-room.ensures c.if-room-eq0.false
           _ c.start.ensures,
     )
 
 pub returns : goal.returns
 returns c =
-    start_run _ _ c.requires.0 (small_fixed c.before.before.before.before.before.before.before.before.before.before.before.before.before.before.before.before.before.before.before.before.before.before.before.before.before.before.before.before) (small_laid c.before.before.before.before.before.before.before.before.before.before.before.before.before.before.before.before.before.before.before.before.before.before.before.before.before.before.before.before) _ c.free_cells-free.ensures _ _ c.layer_room-room.ensures c.if-room-eq0.false
+    let small_fixed : number c.args.board.fixed < 2 ^ 256 = number_lt _ (record { s0 = search rules; s1 = search rules; s2 = search rules; s3 = search rules }) in
+    let small_laid : number c.args.board.laid < 2 ^ 256 = number_lt _ (record { s0 = search rules; s1 = search rules; s2 = search rules; s3 = search rules }) in
+    start_run _ _ c.requires.0 (small_fixed) (small_laid) _ c.free_cells-free.ensures _ _ c.layer_room-room.ensures c.if-room-eq0.false
     _ c.start.ensures c.if-free-eq0.false _ c.run.ensures

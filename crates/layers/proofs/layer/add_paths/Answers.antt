@@ -11,13 +11,6 @@ use borrow.Author.Rules.{rules}
 use Rattle.path_count.specs.PathCountLaws.{count_small}
 use Rattle.path_count.specs.PathCounts.{count_limit, count_value}
 use Rattle.layers.proofs.layer.add_paths.Goals as goal
-use Rattle.layers.proofs.layer.add_paths.Goals.{Start}
-
-small : (c : Start) → number c.args.board < 2 ^ 256
-small c = number_lt _ (record { s0 = search rules; s1 = search rules; s2 = search rules; s3 = search rules })
-
-count_fits : (c : Start) → count_value c.args.paths < count_limit
-count_fits c = count_small c.args.paths (search rules)
 
 pub returns-in_default : goal.returns-in_default
 returns-in_default c = (omega arith, λ es h. add_no_room _ _ _ _ _ h _ _ c.in_default.is)
@@ -28,11 +21,13 @@ returns-then-room-n c =
 
 pub returns-in_default-found : goal.returns-in_default-found
 returns-in_default-found c =
+    let small : number c.args.board < 2 ^ 256 = number_lt _ (record { s0 = search rules; s1 = search rules; s2 = search rules; s3 = search rules }) in
+    let count_fits : count_value c.args.paths < count_limit = count_small c.args.paths (search rules) in
     (
       omega arith,
       λ es h.
           add_new _ _ _ _ _ h _ _ _ _ c.in-Boards.is c.requires.1.0 _ c.find-found.ensures
-          c.in_default-found.is c.if-room-n.false _ c.put.ensures _ c.put-in_default-found.ensures c.requires.1.1 (small c.before.before.before.before.before.before.before.before.before.before.before.before.before.before.before.before.before) (count_fits c.before.before.before.before.before.before.before.before.before.before.before.before.before.before.before.before.before),
+          c.in_default-found.is c.if-room-n.false _ c.put.ensures _ c.put-in_default-found.ensures c.requires.1.1 (small) (count_fits),
     )
 
 pub returns-then-over : goal.returns-then-over

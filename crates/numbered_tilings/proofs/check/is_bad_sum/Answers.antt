@@ -17,7 +17,7 @@ loop-i-init c =
 pub returns-in_default : goal.returns-in_default
 returns-in_default c =
     sum_passes c.args.counts.now c.args.edges.now _ _ _ _ c.loop-i.invariant.1 c.share_at.ensures
-    (count_in_small c.args.counts.now (λ k. omega (arith, c.type_inv.counts.given k)) _) _ c.requires.1
+    (count_in_small c.args.counts.now (λ k. omega (arith, c.type_inv.counts k)) _) _ c.requires.1
     c.loop-i-test.true (sum_large _ _ c.plus-next.ensures c.in_default.is)
 
 pub loop-i-preserved : goal.loop-i-preserved

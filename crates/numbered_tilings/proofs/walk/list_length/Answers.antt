@@ -9,7 +9,7 @@ use borrow.Author.Rules.{rules}
 use Rattle.numbered_tilings.proofs.walk.list_length.Goals as goal
 use Rattle.numbered_tilings.proofs.walk.list_length.Goals.{After-find_turn-turn}
 
-back : (c : After-find_turn-turn invariant-loop decreases-loop)
+back : (c : After-find_turn-turn)
     → let args = c.args in
     Back (list_of (edge_at args.edges.now) args.count) (count_in args.counts.now) c.loop-v.v (count_value c.loop-v.left)
     c.find_turn-turn.result.parent (count_value c.find_turn-turn.result.left)

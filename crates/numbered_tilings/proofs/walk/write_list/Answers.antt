@@ -11,7 +11,7 @@ use borrow.Author.Rules.{rules}
 use Rattle.numbered_tilings.proofs.walk.write_list.Goals as goal
 use Rattle.numbered_tilings.proofs.walk.write_list.Goals.{After-find_turn-turn, At-loop-v}
 
-back : (c : After-find_turn-turn invariant-loop decreases-loop)
+back : (c : After-find_turn-turn)
     → let args = c.args in
     Back (list_of (edge_at args.edges.now) args.count) (count_in args.counts.now) c.loop-v.v (count_value c.loop-v.left)
     c.find_turn-turn.result.parent (count_value c.find_turn-turn.result.left)
@@ -19,7 +19,7 @@ back c =
     steps_back _ _ _ c.requires.0.1 _ _ _ _ c.loop-v-test.true c.loop-v.invariant.node c.loop-v.invariant.below
     c.find_turn-turn.ensures
 
-lent : (c : At-loop-v invariant-loop decreases-loop) → c.loop-v.at < length c.loop-v.out
+lent : (c : At-loop-v) → c.loop-v.at < length c.loop-v.out
 lent c = let pre = c.requires in place_lent _ _ _ pre.0.1 _ _ _ _ pre.2 _ _ _ _ c.loop-v.invariant
 
 pub overflow_sub-at : goal.overflow_sub-at

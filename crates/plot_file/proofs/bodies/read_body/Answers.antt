@@ -10,7 +10,7 @@ pub returns-then-file-at : goal.returns-then-file-at
 returns-then-file-at c = body_refused _ _ _ _ _ c.requires (read_body_none _ _ c.if-file-at.true) c.no_body.ensures
 
 pub overflow_cast-k : goal.overflow_cast-k
-overflow_cast-k c = omega (arith, c.type_inv.file.given c.args.at)
+overflow_cast-k c = omega (arith, c.type_inv.file c.args.at)
 
 pub returns-then-k-gt32 : goal.returns-then-k-gt32
 returns-then-k-gt32 c =

@@ -18,10 +18,10 @@ returns-then-file-at-lt2 c =
     reads_refused _ _ _ _ _ (hole_body_cut (plot_of c.args.plot) c.args.file.now c.args.at (no_paths c.args.plot.tiles c.if-tiles-gt0.false) c.if-file-at-lt2.true) c.refuse-then-file-at-lt2.ensures
 
 pub overflow_cast-file : goal.overflow_cast-file
-overflow_cast-file c = omega (arith, c.type_inv.file.given c.args.at)
+overflow_cast-file c = omega (arith, c.type_inv.file c.args.at)
 
 pub overflow_cast-file-2 : goal.overflow_cast-file-2
-overflow_cast-file-2 c = omega (arith, c.type_inv.file.given (c.args.at + 1))
+overflow_cast-file-2 c = omega (arith, c.type_inv.file (c.args.at + 1))
 
 pub returns : goal.returns
 returns c =

@@ -10,27 +10,25 @@ use Rattle.plot_file.specs.ReadLaws.{board_body_other, board_body_cut}
 use Rattle.plot_file.proofs.StepLaws.{reads_refused, reads_board}
 use borrow.Author.Rules.{rules}
 use Rattle.plot_file.proofs.records.board_record.Goals as goal
-use Rattle.plot_file.proofs.records.board_record.Goals.{Then-is_board}
-
-is : (c : Then-is_board) → is_board c.args.mark ≡ true
-is c = sym c.is_board.ensures ∙ c.if-is_board.true
 
 pub returns-then-file-at-lt2 : goal.returns-then-file-at-lt2
 unfolding map_answer
 returns-then-file-at-lt2 c =
-    reads_refused _ _ _ _ _ (ap (map_answer start_at) (board_body_cut _ c.args.file.now c.args.at (is c.before.before) c.if-file-at-lt2.true)) c.refuse.ensures
+    let is : is_board c.args.mark ≡ true = sym c.is_board.ensures ∙ c.if-is_board.true in
+    reads_refused _ _ _ _ _ (ap (map_answer start_at) (board_body_cut _ c.args.file.now c.args.at (is) c.if-file-at-lt2.true)) c.refuse.ensures
 
 pub overflow_cast-file : goal.overflow_cast-file
-overflow_cast-file c = omega (arith, c.type_inv.file.given c.args.at)
+overflow_cast-file c = omega (arith, c.type_inv.file c.args.at)
 
 pub overflow_cast-file-then-is_board : goal.overflow_cast-file-then-is_board
-overflow_cast-file-then-is_board c = omega (arith, c.type_inv.file.given (c.args.at + 1))
+overflow_cast-file-then-is_board c = omega (arith, c.type_inv.file (c.args.at + 1))
 
 pub returns-then-is_board : goal.returns-then-is_board
 returns-then-is_board c =
+    let is : is_board c.args.mark ≡ true = sym c.is_board.ensures ∙ c.if-is_board.true in
     let first = c.requires in
     let both = c.if-file-at-lt2.false in
-    reads_board _ _ _ _ _ (is c.before.before.before.before.before) (omega arith) c.board_for-made.ensures c.started.ensures
+    reads_board _ _ _ _ _ (is) (omega arith) c.board_for-made.ensures c.started.ensures
 
 pub returns : goal.returns
 unfolding map_answer

@@ -9,10 +9,6 @@ use Rattle.tile.specs.StoredLaws.{check_accepted, check_refused, read_tile_given
 use native.Mathlib.Omega.{arith}
 use borrow.Author.Rules.{rules}
 use Rattle.tile.proofs.Tile.count_cells.Goals as goal
-use Rattle.tile.proofs.Tile.count_cells.Goals.{Start}
-
-long : (c : Start) → length c.args.self.codes ≡ 32
-long c = search rules
 
 pub returns-in_default : goal.returns-in_default
 unfolding map_answer
@@ -20,19 +16,22 @@ returns-in_default c = sym (ap (map_answer cell_count) (check_refused _ _ c.chec
 
 pub slice_bounds-codes-end : goal.slice_bounds-codes-end
 slice_bounds-codes-end c =
-    let h = long c.before.before.before.before in
+    let long : length c.args.self.codes ≡ 32 = search rules in
+    let h = long in
     let short = (check_accepted _ _ c.check.ensures c.in-Accepted.is).0 in
     omega arith
 
 pub slice_bounds-count-end : goal.slice_bounds-count-end
 slice_bounds-count-end c =
-    let h = long c.before.before.before.before.before in
+    let long : length c.args.self.codes ≡ 32 = search rules in
+    let h = long in
     let short = (check_accepted _ _ c.check.ensures c.in-Accepted.is).0 in
     sym (length-take-le _ _ (omega arith))
 
 pub count-requires : goal.count-requires
 count-requires c =
-    let h = long c.before.before.before.before.before in
+    let long : length c.args.self.codes ≡ 32 = search rules in
+    let h = long in
     let ok = check_accepted _ _ c.check.ensures c.in-Accepted.is in
     let short = ok.0 in
     let whole : length (path_in c.args.self) ≡ c.args.self.len = length-take-le _ _ (omega arith) in

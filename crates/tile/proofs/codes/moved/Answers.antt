@@ -12,7 +12,7 @@ use borrow.Author.Rules.{rules}
 use Rattle.tile.proofs.codes.moved.Goals as goal
 use Rattle.tile.proofs.codes.moved.Goals.{Start}
 
-long : (c : Start invariant-loop decreases-loop) → c.args.tile.len ≤ length c.args.tile.codes
+long : (c : Start) → c.args.tile.len ≤ length c.args.tile.codes
 long c = let h : length c.args.tile.codes ≡ 32 = search rules in omega arith
 
 pub loop-i-init : goal.loop-i-init

@@ -8,10 +8,6 @@ use Rattle.tiler.proofs.BuildLaws.{child_no_room, child_old, child_over, child_p
 use native.Mathlib.Omega.{arith}
 use borrow.Author.Rules.{rules}
 use Rattle.tiler.proofs.building.add_child.Goals as goal
-use Rattle.tiler.proofs.building.add_child.Goals.{Start}
-
-small : (c : Start) → number c.args.child < 2 ^ 256
-small c = number_lt _ (record { s0 = search rules; s1 = search rules; s2 = search rules; s3 = search rules })
 
 pub returns-in_default : goal.returns-in_default
 returns-in_default c = (omega arith, λ g k. child_no_room _ _ _ _ _ _ k _ _ c.in_default.is)
@@ -25,11 +21,12 @@ returns-then-node_room-n c =
 
 pub returns-in_default-found : goal.returns-in_default-found
 returns-in_default-found c =
+    let small : number c.args.child < 2 ^ 256 = number_lt _ (record { s0 = search rules; s1 = search rules; s2 = search rules; s3 = search rules }) in
     (
       search rules,
       λ g k.
           child_put _ _ _ _ _ _ k _ _ _ _ c.in-Size.is c.requires.1 _ c.find-found.ensures c.in_default-found.is c.if-node_room-n.false
-          (small c.before.before.before.before.before.before.before.before.before.before.before.before.before.before.before.before.before) _ c.put.ensures _ _ c.add_edge.ensures,
+          (small) _ c.put.ensures _ _ c.add_edge.ensures,
     )
 
 pub returns : goal.returns

@@ -14,10 +14,10 @@ use borrow.Author.Rules.{rules}
 use Rattle.tiler.proofs.building.build.Goals as goal
 use Rattle.tiler.proofs.building.build.Goals.{Start}
 
-fixed_small : (c : Start invariant-loop decreases-loop) → number c.args.board.fixed < 2 ^ 256
+fixed_small : (c : Start) → number c.args.board.fixed < 2 ^ 256
 fixed_small c = number_lt _ (record { s0 = search rules; s1 = search rules; s2 = search rules; s3 = search rules })
 
-laid_small : (c : Start invariant-loop decreases-loop) → number c.args.board.laid < 2 ^ 256
+laid_small : (c : Start) → number c.args.board.laid < 2 ^ 256
 laid_small c = number_lt _ (record { s0 = search rules; s1 = search rules; s2 = search rules; s3 = search rules })
 
 pub loop-i-init : goal.loop-i-init

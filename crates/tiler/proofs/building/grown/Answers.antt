@@ -9,17 +9,12 @@ use Rattle.tiler.proofs.BuildLaws.{start_put, build_no_room}
 use native.Mathlib.Omega.{arith}
 use borrow.Author.Rules.{rules}
 use Rattle.tiler.proofs.building.grown.Goals as goal
-use Rattle.tiler.proofs.building.grown.Goals.{Start}
-
-fixed_small : (c : Start) → number c.args.board.fixed < 2 ^ 256
-fixed_small c = number_lt _ (record { s0 = search rules; s1 = search rules; s2 = search rules; s3 = search rules })
-
-laid_small : (c : Start) → number c.args.board.laid < 2 ^ 256
-laid_small c = number_lt _ (record { s0 = search rules; s1 = search rules; s2 = search rules; s3 = search rules })
 
 pub returns-then-node_room-eq0 : goal.returns-then-node_room-eq0
 returns-then-node_room-eq0 c =
-    (omega arith, build_no_room c.args.board c.args.tiles c.requires.0 (fixed_small c.before.before.before) (laid_small c.before.before.before) _ _ _ _ c.if-node_room-eq0.true)
+    let fixed_small : number c.args.board.fixed < 2 ^ 256 = number_lt _ (record { s0 = search rules; s1 = search rules; s2 = search rules; s3 = search rules }) in
+    let laid_small : number c.args.board.laid < 2 ^ 256 = number_lt _ (record { s0 = search rules; s1 = search rules; s2 = search rules; s3 = search rules }) in
+    (omega arith, build_no_room c.args.board c.args.tiles c.requires.0 (fixed_small) (laid_small) _ _ _ _ c.if-node_room-eq0.true)
 
 -- w is what is known after `child_words`, s at the start
 pub slice_bounds-children-end : goal.slice_bounds-children-end

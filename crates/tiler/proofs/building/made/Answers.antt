@@ -7,13 +7,6 @@ use Rattle.graph.specs.RoomLaws.{node_room_lem, edge_room_lem}
 use Rattle.tiler.proofs.FinishLaws.{count_asks, finish_asks, made_no_room, made_no_room_for_edges, made_large, made_finished}
 use borrow.Author.Rules.{rules}
 use Rattle.tiler.proofs.building.made.Goals as goal
-use Rattle.tiler.proofs.building.made.Goals.{Start}
-
-fixed : (c : Start) → Sound c.args.board.fixed
-fixed c = record { s0 = search rules; s1 = search rules; s2 = search rules; s3 = search rules }
-
-laid : (c : Start) → Sound c.args.board.laid
-laid c = record { s0 = search rules; s1 = search rules; s2 = search rules; s3 = search rules }
 
 pub grown-growth-requires : goal.grown-growth-requires
 grown-growth-requires c =
@@ -23,39 +16,51 @@ grown-growth-requires c =
 
 pub returns-in_default : goal.returns-in_default
 returns-in_default c =
-    made_no_room _ _ c.requires (fixed c.before.before.before.before.before.before.before.before.before.before.before.before.before.before.before.before.before.before.before.before.before.before.before.before) (laid c.before.before.before.before.before.before.before.before.before.before.before.before.before.before.before.before.before.before.before.before.before.before.before.before) _ _ _ _ _ c.node_room-node_room.ensures
+    let fixed : Sound c.args.board.fixed = record { s0 = search rules; s1 = search rules; s2 = search rules; s3 = search rules } in
+    let laid : Sound c.args.board.laid = record { s0 = search rules; s1 = search rules; s2 = search rules; s3 = search rules } in
+    made_no_room _ _ c.requires (fixed) (laid) _ _ _ _ _ c.node_room-node_room.ensures
     c.edge_room-edge_room.ensures _ _ _ c.grown-growth.ensures.1 c.grown-growth.auto.1.1.0 c.grown-growth.auto.1.1.1.0
     _ _ _ _ c.in_default.is c.refused.ensures
 
 pub returns-then-edge_room-e : goal.returns-then-edge_room-e
 returns-then-edge_room-e c =
-    made_no_room_for_edges _ _ c.requires (fixed c.before.before.before.before.before.before.before.before.before.before.before.before.before.before.before.before.before.before.before.before.before.before.before.before.before.before) (laid c.before.before.before.before.before.before.before.before.before.before.before.before.before.before.before.before.before.before.before.before.before.before.before.before.before.before) _ _ _ _ _ c.node_room-node_room.ensures
+    let fixed : Sound c.args.board.fixed = record { s0 = search rules; s1 = search rules; s2 = search rules; s3 = search rules } in
+    let laid : Sound c.args.board.laid = record { s0 = search rules; s1 = search rules; s2 = search rules; s3 = search rules } in
+    made_no_room_for_edges _ _ c.requires (fixed) (laid) _ _ _ _ _ c.node_room-node_room.ensures
     c.edge_room-edge_room.ensures _ _ _ c.grown-growth.ensures.1 c.grown-growth.auto.1.1.0 c.grown-growth.auto.1.1.1.0
     _ _ c.in-Size.is _ _ _ _ c.if-edge_room-e.true c.refused-then-edge_room-e.ensures
 
 pub count_paths-requires : goal.count_paths-requires
 count_paths-requires c =
-    count_asks _ _ c.requires (fixed c.before.before.before.before.before.before.before.before.before.before.before.before.before.before.before.before.before) (laid c.before.before.before.before.before.before.before.before.before.before.before.before.before.before.before.before.before) _ _ _ _ _ c.node_room-node_room.ensures
+    let fixed : Sound c.args.board.fixed = record { s0 = search rules; s1 = search rules; s2 = search rules; s3 = search rules } in
+    let laid : Sound c.args.board.laid = record { s0 = search rules; s1 = search rules; s2 = search rules; s3 = search rules } in
+    count_asks _ _ c.requires (fixed) (laid) _ _ _ _ _ c.node_room-node_room.ensures
     c.edge_room-edge_room.ensures _ _ _ c.grown-growth.ensures.1 c.grown-growth.auto.1.1.0 c.grown-growth.auto.1.1.1.0
     _ _ c.in-Size.is c.if-edge_room-e.false
 
 pub returns-then-not-count_paths : goal.returns-then-not-count_paths
 returns-then-not-count_paths c =
-    made_large _ _ c.requires (fixed c.before.before.before.before.before.before.before.before.before.before.before.before.before.before.before.before.before.before.before.before.before.before.before.before.before.before.before.before.before.before.before) (laid c.before.before.before.before.before.before.before.before.before.before.before.before.before.before.before.before.before.before.before.before.before.before.before.before.before.before.before.before.before.before.before) _ _ _ _ _ c.node_room-node_room.ensures
+    let fixed : Sound c.args.board.fixed = record { s0 = search rules; s1 = search rules; s2 = search rules; s3 = search rules } in
+    let laid : Sound c.args.board.laid = record { s0 = search rules; s1 = search rules; s2 = search rules; s3 = search rules } in
+    made_large _ _ c.requires (fixed) (laid) _ _ _ _ _ c.node_room-node_room.ensures
     c.edge_room-edge_room.ensures _ _ _ c.grown-growth.ensures.1 c.grown-growth.auto.1.1.0 c.grown-growth.auto.1.1.1.0
     _ _ c.in-Size.is c.if-edge_room-e.false _ _ c.count_paths.auto.1.1.0 c.count_paths.ensures
-    _ _ _ _ (not-true _ c.if-not-count_paths.true) c.refused-then-not-count_paths.ensures
+    _ _ _ _ c.if-not-count_paths.true c.refused-then-not-count_paths.ensures
 
 pub finished-requires : goal.finished-requires
 finished-requires c =
-    finish_asks _ _ c.requires (fixed c.before.before.before.before.before.before.before.before.before.before.before.before.before.before.before.before.before.before.before.before.before.before.before) (laid c.before.before.before.before.before.before.before.before.before.before.before.before.before.before.before.before.before.before.before.before.before.before.before) _ _ _ _ _ c.node_room-node_room.ensures
+    let fixed : Sound c.args.board.fixed = record { s0 = search rules; s1 = search rules; s2 = search rules; s3 = search rules } in
+    let laid : Sound c.args.board.laid = record { s0 = search rules; s1 = search rules; s2 = search rules; s3 = search rules } in
+    finish_asks _ _ c.requires (fixed) (laid) _ _ _ _ _ c.node_room-node_room.ensures
     c.edge_room-edge_room.ensures _ _ _ c.grown-growth.ensures.1 c.grown-growth.auto.1.1.0 c.grown-growth.auto.1.1.1.0
     _ _ c.in-Size.is c.if-edge_room-e.false
 
 pub returns : goal.returns
 returns c =
-    made_finished _ _ c.requires (fixed c.before.before.before.before.before.before.before.before.before.before.before.before.before.before.before.before.before.before.before.before.before.before.before.before.before.before.before.before) (laid c.before.before.before.before.before.before.before.before.before.before.before.before.before.before.before.before.before.before.before.before.before.before.before.before.before.before.before.before) _ _ _ _ _ c.node_room-node_room.ensures
+    let fixed : Sound c.args.board.fixed = record { s0 = search rules; s1 = search rules; s2 = search rules; s3 = search rules } in
+    let laid : Sound c.args.board.laid = record { s0 = search rules; s1 = search rules; s2 = search rules; s3 = search rules } in
+    made_finished _ _ c.requires (fixed) (laid) _ _ _ _ _ c.node_room-node_room.ensures
     c.edge_room-edge_room.ensures _ _ _ c.grown-growth.ensures.1 c.grown-growth.auto.1.1.0 c.grown-growth.auto.1.1.1.0
     _ _ c.in-Size.is c.if-edge_room-e.false _ _ c.count_paths.auto.1.1.0 c.count_paths.ensures
-    _ _ _ (λ i. (c.type_inv.nodes.given i).fits)
-    (not-false _ c.if-not-count_paths.false) c.finished.ensures
+    _ _ _ (λ i. (c.type_inv.nodes i).fits)
+    c.if-not-count_paths.false c.finished.ensures

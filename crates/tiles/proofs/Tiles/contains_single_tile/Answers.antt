@@ -9,18 +9,16 @@ use Rattle.refusal.specs.RefusalLaws.{refused_of}
 use Rattle.tiles.specs.ReadLaws.{read_tiles_accepted}
 use borrow.Author.Rules.{rules}
 use Rattle.tiles.proofs.Tiles.contains_single_tile.Goals as goal
-use Rattle.tiles.proofs.Tiles.contains_single_tile.Goals.{After-check-verdict}
-
-accepted : (c : After-check-verdict) → c.check-verdict.result ≡ Verdicts.Accepted → (c.args.self.count ≤ 64) × (read_tiles c.args.self ≡ given (paths_in c.args.self))
-accepted c e = read_tiles_accepted c.args.self (sym (ap verdict_number e) ∙ c.check-verdict.ensures)
 
 pub has_single-requires : goal.has_single-requires
-has_single-requires c = (accepted c.before.before c.in-Accepted.is).0
+has_single-requires c =
+    let accepted : c.check-verdict.result ≡ Verdicts.Accepted → (c.args.self.count ≤ 64) × (read_tiles c.args.self ≡ given (paths_in c.args.self)) = λ e. read_tiles_accepted c.args.self (sym (ap verdict_number e) ∙ c.check-verdict.ensures) in (accepted c.in-Accepted.is).0
 
 pub returns-in-Accepted : goal.returns-in-Accepted
 unfolding map_answer
 returns-in-Accepted c =
-    let ok = accepted c.before.before.before c.in-Accepted.is in
+    let accepted : c.check-verdict.result ≡ Verdicts.Accepted → (c.args.self.count ≤ 64) × (read_tiles c.args.self ≡ given (paths_in c.args.self)) = λ e. read_tiles_accepted c.args.self (sym (ap verdict_number e) ∙ c.check-verdict.ensures) in
+    let ok = accepted c.in-Accepted.is in
     ap given c.has_single.ensures ∙ sym (ap (map_answer contains_single) ok.1)
 
 pub returns-in-Refused : goal.returns-in-Refused

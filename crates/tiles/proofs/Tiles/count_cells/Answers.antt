@@ -9,21 +9,20 @@ use Rattle.tiles.specs.ReadLaws.{read_tiles_accepted}
 use Rattle.tiles.specs.EqualLaws.{read_equal_tiles_refused, read_equal_tiles_equal, read_equal_tiles_unequal}
 use borrow.Author.Rules.{rules}
 use Rattle.tiles.proofs.Tiles.count_cells.Goals as goal
-use Rattle.tiles.proofs.Tiles.count_cells.Goals.{After-check-verdict}
-
-accepted : (c : After-check-verdict) → c.check-verdict.result ≡ Verdicts.Accepted → read_tiles c.args.self ≡ given (paths_in c.args.self)
-accepted c e = (read_tiles_accepted c.args.self (sym (ap verdict_number e) ∙ c.check-verdict.ensures)).1
 
 pub first_count-cells-requires : goal.first_count-cells-requires
-first_count-cells-requires c = accepted c.before.before c.in-Accepted.is
+first_count-cells-requires c =
+    let accepted : c.check-verdict.result ≡ Verdicts.Accepted → read_tiles c.args.self ≡ given (paths_in c.args.self) = λ e. (read_tiles_accepted c.args.self (sym (ap verdict_number e) ∙ c.check-verdict.ensures)).1 in accepted c.in-Accepted.is
 
 pub all_cover-requires : goal.all_cover-requires
-all_cover-requires c = (accepted c.before.before.before c.in-Accepted.is, c.first_count-cells.ensures)
+all_cover-requires c =
+    let accepted : c.check-verdict.result ≡ Verdicts.Accepted → read_tiles c.args.self ≡ given (paths_in c.args.self) = λ e. (read_tiles_accepted c.args.self (sym (ap verdict_number e) ∙ c.check-verdict.ensures)).1 in (accepted c.in-Accepted.is, c.first_count-cells.ensures)
 
 pub returns-then-all_cover : goal.returns-then-all_cover
 unfolding map_answer
 returns-then-all_cover c =
-    let read = accepted c.before.before.before.before.before c.in-Accepted.is in
+    let accepted : c.check-verdict.result ≡ Verdicts.Accepted → read_tiles c.args.self ≡ given (paths_in c.args.self) = λ e. (read_tiles_accepted c.args.self (sym (ap verdict_number e) ∙ c.check-verdict.ensures)).1 in
+    let read = accepted c.in-Accepted.is in
     let equal = sym c.all_cover.ensures ∙ c.if-all_cover.true in
     ap given c.first_count-cells.ensures
     ∙ sym (ap (map_answer shared_count) (read_equal_tiles_equal c.args.self _ read equal))
@@ -31,7 +30,8 @@ returns-then-all_cover c =
 pub returns-else-all_cover : goal.returns-else-all_cover
 unfolding map_answer
 returns-else-all_cover c =
-    let read = accepted c.before.before.before.before.before c.in-Accepted.is in
+    let accepted : c.check-verdict.result ≡ Verdicts.Accepted → read_tiles c.args.self ≡ given (paths_in c.args.self) = λ e. (read_tiles_accepted c.args.self (sym (ap verdict_number e) ∙ c.check-verdict.ensures)).1 in
+    let read = accepted c.in-Accepted.is in
     let unequal = sym c.all_cover.ensures ∙ c.if-all_cover.false in
     sym (ap (map_answer shared_count) (read_equal_tiles_unequal c.args.self _ read unequal))
 

@@ -24,12 +24,12 @@ sound-requires c =
 pub returns-then-not-sound : goal.returns-then-not-sound
 unfolding sound_at
 returns-then-not-sound c =
-    sym (all_below_fails _ _ _ c.loop-i-test.true (sym c.sound.ensures ∙ not-true _ c.if-not-sound.true))
+    sym (all_below_fails _ _ _ c.loop-i-test.true (sym c.sound.ensures ∙ c.if-not-sound.true))
 
 pub loop-i-preserved : goal.loop-i-preserved
 unfolding sound_at
 loop-i-preserved c =
-    (search rules, all_below_more _ _ c.loop-i.invariant.1 (sym c.sound.ensures ∙ not-false _ c.if-not-sound.false))
+    (search rules, all_below_more _ _ c.loop-i.invariant.1 (sym c.sound.ensures ∙ c.if-not-sound.false))
 
 pub returns : goal.returns
 returns c =

@@ -5,15 +5,13 @@ use lib.ListN.{length}
 use Rattle.tiles.specs.ReadLaws.{tile_count_is, tile_count_refused}
 use borrow.Author.Rules.{rules}
 use Rattle.tiles.proofs.collection.count_at.Goals as goal
-use Rattle.tiles.proofs.collection.count_at.Goals.{Start}
-
-long : (c : Start) → length c.args.tiles.codes ≡ 2048
-long c = search rules
 
 pub returns-in-Is : goal.returns-in-Is
 returns-in-Is c =
-    tile_count_is _ (long c.before.before.before.before.before) c.requires.0 _ c.requires.1 _ c.get-tile.ensures _ c.count_cells.ensures _ c.in-Is.is
+    let long : length c.args.tiles.codes ≡ 2048 = search rules in
+    tile_count_is _ (long) c.requires.0 _ c.requires.1 _ c.get-tile.ensures _ c.count_cells.ensures _ c.in-Is.is
 
 pub returns-in-Refused : goal.returns-in-Refused
 returns-in-Refused c =
-    absurd (tile_count_refused _ (long c.before.before.before.before) c.requires.0 _ c.requires.1 _ c.get-tile.ensures _ c.count_cells.ensures _ c.in-Refused.is)
+    let long : length c.args.tiles.codes ≡ 2048 = search rules in
+    absurd (tile_count_refused _ (long) c.requires.0 _ c.requires.1 _ c.get-tile.ensures _ c.count_cells.ensures _ c.in-Refused.is)
