@@ -16,7 +16,7 @@ returns-then-not-size_ok c = sym (chosen_for_refused _ _ _ _ (sym c.size_ok.ensu
 
 -- the size is right
 sized : (c : Else-not-size_ok) → size_ok c.args.width c.args.height ≡ true
-sized c = sym c.size_ok.ensures ∙ not-false _ c.if-not-size_ok.false
+sized c = sym c.size_ok.ensures ∙ c.if-not-size_ok.false
 
 pub neighbour_counts-counts-requires : goal.neighbour_counts-counts-requires
 neighbour_counts-counts-requires c = size_ok_le _ _ (sized c)

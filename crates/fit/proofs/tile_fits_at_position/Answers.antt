@@ -27,13 +27,13 @@ returns-then-not-is_path c = sym (fit_in_path _ _ _ _ _ _ (sym c.is_path.ensures
 
 -- what the tests told of the size, the cell and the codes
 size : (c : Else-not-is_path) → size_ok c.args.width c.args.height ≡ true
-size c = sym c.size_ok.ensures ∙ not-false _ c.if-not-size_ok.false
+size c = sym c.size_ok.ensures ∙ c.if-not-size_ok.false
 
 within : (c : Else-not-is_path) → inside c.args.width c.args.height (position_of c.args.cell) ≡ true
-within c = sym c.is_inside.ensures ∙ not-false _ c.if-not-is_inside.false
+within c = sym c.is_inside.ensures ∙ c.if-not-is_inside.false
 
 sound : (c : Else-not-is_path) → is_path c.args.path.now ≡ true
-sound c = sym c.is_path.ensures ∙ not-false _ c.if-not-is_path.false
+sound c = sym c.is_path.ensures ∙ c.if-not-is_path.false
 
 pub tile_fits_at_position-requires : goal.tile_fits_at_position-requires
 tile_fits_at_position-requires c =

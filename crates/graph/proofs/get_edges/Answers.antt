@@ -12,4 +12,4 @@ returns-then-out-count c =
 pub returns : goal.returns
 returns c =
     gets_number _ _ _ _ _ c.count_edges-count.ensures c.if-out-count.false _ _
-    c.write_edges.auto.1.1.1.0 c.write_edges.ensures c.clear_from-2.ensures
+    c.write_edges.auto.out c.write_edges.ensures c.clear_from-2.ensures

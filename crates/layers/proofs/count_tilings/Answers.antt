@@ -5,19 +5,14 @@ use Rattle.layers.specs.CountLaws.{counts_cuttings}
 use Rattle.layers.proofs.StartLaws.{cleared_zeros}
 use borrow.Author.Rules.{rules}
 use Rattle.layers.proofs.count_tilings.Goals as goal
-use Rattle.layers.proofs.count_tilings.Goals.{Start}
-
-fixed : (c : Start) → Sound c.args.board.fixed
-fixed c = record { s0 = search rules; s1 = search rules; s2 = search rules; s3 = search rules }
-
-laid : (c : Start) → Sound c.args.board.laid
-laid c = record { s0 = search rules; s1 = search rules; s2 = search rules; s3 = search rules }
 
 -- w, x, y and z are what is known after the four calls of `clear_from`
 pub returns : goal.returns
 returns c =
+    let fixed : Sound c.args.board.fixed = record { s0 = search rules; s1 = search rules; s2 = search rules; s3 = search rules } in
+    let laid : Sound c.args.board.laid = record { s0 = search rules; s1 = search rules; s2 = search rules; s3 = search rules } in
     let d = c.counted-count in
-    both (counts_cuttings _ (fixed c.before.before.before.before.before.before.before.before.before.before.before.before.before.before.before.before.before.before.before.before.before.before.before.before.before.before.before.before.before.before.before.before.before) (laid c.before.before.before.before.before.before.before.before.before.before.before.before.before.before.before.before.before.before.before.before.before.before.before.before.before.before.before.before.before.before.before.before.before) _ _ _ _ _ _ _ _ _ _) record {
+    both (counts_cuttings _ (fixed) (laid) _ _ _ _ _ _ _ _ _ _) record {
       answer = d.ensures;
       zero_boards_a = cleared_zeros _ _ _ c.clear_from.ensures d.auto.1.1.0;
       zero_counts_a = cleared_zeros _ _ _ c.clear_from-2.ensures d.auto.1.1.1.0;

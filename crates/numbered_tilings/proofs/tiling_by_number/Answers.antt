@@ -20,4 +20,4 @@ pub returns : goal.returns
 returns c =
     let args = c.args in
     gives_list args.graph args.nodes.now args.counts.now args.edges.now (count_value args.m) args.output.now _ c.judged-answer.ensures _ c.in-Length.is _ c.last_node-last.ensures _ _
-    c.write_list.auto.1.1.1.1.1.1.0 c.write_list.ensures c.clear_from-2.ensures
+    c.write_list.auto.out c.write_list.ensures c.clear_from-2.ensures

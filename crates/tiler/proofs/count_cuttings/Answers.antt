@@ -6,14 +6,9 @@ use Rattle.cuttings.specs.CuttingLaws.{figure_left}
 use Rattle.cuttings.specs.Theorems.{call_counts_cuttings}
 use borrow.Author.Rules.{rules}
 use Rattle.tiler.proofs.count_cuttings.Goals as goal
-use Rattle.tiler.proofs.count_cuttings.Goals.{Start}
-
-fixed : (c : Start) → Sound c.args.board.fixed
-fixed c = record { s0 = search rules; s1 = search rules; s2 = search rules; s3 = search rules }
-
-laid : (c : Start) → Sound c.args.board.laid
-laid c = record { s0 = search rules; s1 = search rules; s2 = search rules; s3 = search rules }
 
 pub returns : goal.returns
 returns c =
-    both (call_counts_cuttings _ _ (fixed c.before.before.before.before.before.before.before.before.before.before.before.before.before.before.before.before.before.before) (laid c.before.before.before.before.before.before.before.before.before.before.before.before.before.before.before.before.before.before) _ _ _ _ _ _ _ _ _) (figure_left _ _ _ c.count_tilings-count.ensures.answer c.count_cuttings_from_layers.ensures)
+    let fixed : Sound c.args.board.fixed = record { s0 = search rules; s1 = search rules; s2 = search rules; s3 = search rules } in
+    let laid : Sound c.args.board.laid = record { s0 = search rules; s1 = search rules; s2 = search rules; s3 = search rules } in
+    both (call_counts_cuttings _ _ (fixed) (laid) _ _ _ _ _ _ _ _ _) (figure_left _ _ _ c.count_tilings-count.ensures.answer c.count_cuttings_from_layers.ensures)

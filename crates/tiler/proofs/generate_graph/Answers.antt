@@ -6,13 +6,6 @@ use Rattle.expansion.specs.ExpansionLaws.{judged_size, judged_refused, both}
 use Rattle.tiler.proofs.FinishLaws.{generates_made, generates_refused}
 use borrow.Author.Rules.{rules}
 use Rattle.tiler.proofs.generate_graph.Goals as goal
-use Rattle.tiler.proofs.generate_graph.Goals.{Start}
-
-fixed : (c : Start) → Sound c.args.board.fixed
-fixed c = record { s0 = search rules; s1 = search rules; s2 = search rules; s3 = search rules }
-
-laid : (c : Start) → Sound c.args.board.laid
-laid c = record { s0 = search rules; s1 = search rules; s2 = search rules; s3 = search rules }
 
 pub made-requires : goal.made-requires
 made-requires c =
@@ -20,11 +13,15 @@ made-requires c =
 
 pub returns-in-Size : goal.returns-in-Size
 returns-in-Size c =
-    both (graph_numbers_cuttings _ (fixed c.before.before.before.before.before.before.before.before.before.before.before.before.before.before.before.before) (laid c.before.before.before.before.before.before.before.before.before.before.before.before.before.before.before.before) _ c.args.nodes.now c.args.counts.now c.args.edges.now _ _ _ _)
+    let fixed : Sound c.args.board.fixed = record { s0 = search rules; s1 = search rules; s2 = search rules; s3 = search rules } in
+    let laid : Sound c.args.board.laid = record { s0 = search rules; s1 = search rules; s2 = search rules; s3 = search rules } in
+    both (graph_numbers_cuttings _ (fixed) (laid) _ c.args.nodes.now c.args.counts.now c.args.edges.now _ _ _ _)
     (generates_made _ _ _ _ _ _ _ _ _ (judged_size _ _ _ _ c.judge-judged.ensures c.in-Size.is).2 c.made.ensures)
 
 pub returns-in-Refused : goal.returns-in-Refused
 returns-in-Refused c =
-    both (graph_numbers_cuttings _ (fixed c.before.before.before.before.before.before.before.before.before.before.before.before.before.before.before.before.before) (laid c.before.before.before.before.before.before.before.before.before.before.before.before.before.before.before.before.before) _ c.args.nodes.now c.args.counts.now c.args.edges.now _ _ _ _)
+    let fixed : Sound c.args.board.fixed = record { s0 = search rules; s1 = search rules; s2 = search rules; s3 = search rules } in
+    let laid : Sound c.args.board.laid = record { s0 = search rules; s1 = search rules; s2 = search rules; s3 = search rules } in
+    both (graph_numbers_cuttings _ (fixed) (laid) _ c.args.nodes.now c.args.counts.now c.args.edges.now _ _ _ _)
     (generates_refused _ _ _ _ _ _ _ _ _ _ (judged_refused _ _ _ _ c.judge-judged.ensures c.in-Refused.is)
     c.refused.ensures)

@@ -35,7 +35,7 @@ run-requires c =
     let small_laid : number c.args.board.laid < 2 ^ 256 = number_lt _ (record { s0 = search rules; s1 = search rules; s2 = search rules; s3 = search rules }) in
     let w = layer_room_lem _ _ _ _ _ c.layer_room-room.ensures in (
       (c.requires.0, c.requires.1),
-      (omega (arith, w.0, c.start.auto.1.0), room_kept _ _ _ w.1 c.start.auto.1.1.0),
+      (omega (arith, w.0, c.start.auto.boards), room_kept _ _ _ w.1 c.start.auto.counts),
       (w.2, w.3),
       start_ready _ _ c.requires.0 (small_fixed) (small_laid) _ c.free_cells-free.ensures _ _ c.layer_room-room.ensures c.if-room-eq0.false
           _ c.start.ensures,

@@ -43,16 +43,16 @@ loop-free-preserved c =
     )
 
 pub shape_of-boards-in-Refused : goal.shape_of-boards-in-Refused
-shape_of-boards-in-Refused c = c.grow_twice-grown.auto.1.0 ∙ c.loop-free.invariant.0
+shape_of-boards-in-Refused c = c.grow_twice-grown.auto.boards ∙ c.loop-free.invariant.0
 
 pub shape_of-counts-in-Refused : goal.shape_of-counts-in-Refused
-shape_of-counts-in-Refused c = c.grow_twice-grown.auto.1.1.0 ∙ c.loop-free.invariant.1
+shape_of-counts-in-Refused c = c.grow_twice-grown.auto.counts ∙ c.loop-free.invariant.1
 
 pub shape_of-next_boards-in-Refused : goal.shape_of-next_boards-in-Refused
-shape_of-next_boards-in-Refused c = c.grow_twice-grown.auto.1.1.1.0 ∙ c.loop-free.invariant.2
+shape_of-next_boards-in-Refused c = c.grow_twice-grown.auto.next_boards ∙ c.loop-free.invariant.2
 
 pub shape_of-next_counts-in-Refused : goal.shape_of-next_counts-in-Refused
-shape_of-next_counts-in-Refused c = c.grow_twice-grown.auto.1.1.1.1.0 ∙ c.loop-free.invariant.3
+shape_of-next_counts-in-Refused c = c.grow_twice-grown.auto.next_counts ∙ c.loop-free.invariant.3
 
 pub returns-in-Refused : goal.returns-in-Refused
 returns-in-Refused c =
@@ -71,10 +71,10 @@ pub shape_of-counts : goal.shape_of-counts
 shape_of-counts c = c.loop-free.invariant.1
 
 pub shape_of-next_boards : goal.shape_of-next_boards
-shape_of-next_boards c = c.finish.auto.1.1.1.0 ∙ c.loop-free.invariant.2
+shape_of-next_boards c = c.finish.auto.next_boards ∙ c.loop-free.invariant.2
 
 pub shape_of-next_counts : goal.shape_of-next_counts
-shape_of-next_counts c = c.finish.auto.1.1.1.1.0 ∙ c.loop-free.invariant.3
+shape_of-next_counts c = c.finish.auto.next_counts ∙ c.loop-free.invariant.3
 
 pub returns : goal.returns
 returns c = c.loop-free.invariant.5 _ c.finish.ensures

@@ -7,15 +7,6 @@ use Rattle.numbered_tilings.proofs.WalkLoops.{Back, Measured, steps_back, measur
 use native.Mathlib.Omega.{arith}
 use borrow.Author.Rules.{rules}
 use Rattle.numbered_tilings.proofs.walk.list_length.Goals as goal
-use Rattle.numbered_tilings.proofs.walk.list_length.Goals.{After-find_turn-turn}
-
-back : (c : After-find_turn-turn)
-    → let args = c.args in
-    Back (list_of (edge_at args.edges.now) args.count) (count_in args.counts.now) c.loop-v.v (count_value c.loop-v.left)
-    c.find_turn-turn.result.parent (count_value c.find_turn-turn.result.left)
-back c =
-    steps_back _ _ _ c.requires.1 _ _ _ _ c.loop-v-test.true c.loop-v.invariant.node c.loop-v.invariant.below
-    c.find_turn-turn.ensures
 
 pub loop-v-init : goal.loop-v-init
 loop-v-init c = let pre = c.requires in measured_start _ _ _ pre.1 _ _ pre.2 pre.3
@@ -24,11 +15,19 @@ pub overflow_add-size : goal.overflow_add-size
 overflow_add-size c = omega (arith, c.loop-v.invariant.few)
 
 pub loop-v-smaller : goal.loop-v-smaller
-loop-v-smaller c = (back c.before).lower
+loop-v-smaller c =
+    let back : let args = c.args in
+    Back (list_of (edge_at args.edges.now) args.count) (count_in args.counts.now) c.loop-v.v (count_value c.loop-v.left)
+    c.find_turn-turn.result.parent (count_value c.find_turn-turn.result.left) = steps_back _ _ _ c.requires.1 _ _ _ _ c.loop-v-test.true c.loop-v.invariant.node c.loop-v.invariant.below
+    c.find_turn-turn.ensures in (back).lower
 
 pub loop-v-preserved : goal.loop-v-preserved
 loop-v-preserved c =
-    measured_next _ _ _ c.requires.1 _ _ _ _ _ c.loop-v.invariant _ _ (back c.before)
+    let back : let args = c.args in
+    Back (list_of (edge_at args.edges.now) args.count) (count_in args.counts.now) c.loop-v.v (count_value c.loop-v.left)
+    c.find_turn-turn.result.parent (count_value c.find_turn-turn.result.left) = steps_back _ _ _ c.requires.1 _ _ _ _ c.loop-v-test.true c.loop-v.invariant.node c.loop-v.invariant.below
+    c.find_turn-turn.ensures in
+    measured_next _ _ _ c.requires.1 _ _ _ _ _ c.loop-v.invariant _ _ (back)
 
 pub returns : goal.returns
 returns c =

@@ -9,18 +9,6 @@ use Rattle.numbered_tilings.proofs.WalkLoops.{Back, Backfilled, tiling_some, ste
 use native.Mathlib.Omega.{arith}
 use borrow.Author.Rules.{rules}
 use Rattle.numbered_tilings.proofs.walk.write_list.Goals as goal
-use Rattle.numbered_tilings.proofs.walk.write_list.Goals.{After-find_turn-turn, At-loop-v}
-
-back : (c : After-find_turn-turn)
-    → let args = c.args in
-    Back (list_of (edge_at args.edges.now) args.count) (count_in args.counts.now) c.loop-v.v (count_value c.loop-v.left)
-    c.find_turn-turn.result.parent (count_value c.find_turn-turn.result.left)
-back c =
-    steps_back _ _ _ c.requires.0.1 _ _ _ _ c.loop-v-test.true c.loop-v.invariant.node c.loop-v.invariant.below
-    c.find_turn-turn.ensures
-
-lent : (c : At-loop-v) → c.loop-v.at < length c.loop-v.out
-lent c = let pre = c.requires in place_lent _ _ _ pre.0.1 _ _ _ _ pre.2 _ _ _ _ c.loop-v.invariant
 
 pub overflow_sub-at : goal.overflow_sub-at
 overflow_sub-at c = let pre = c.requires in omega (arith, pre.1, tiling_some _ _ _ pre.0.1 _ _ pre.0.2 pre.0.3)
@@ -29,29 +17,45 @@ pub loop-v-init : goal.loop-v-init
 loop-v-init c = let pre = c.requires in backfilled_start _ _ _ pre.0.1 _ _ _ _ pre.2 pre.0.2 pre.0.3 pre.1
 
 pub offset_bounds-out-at : goal.offset_bounds-out-at
-offset_bounds-out-at c = let l = lent c.before in search rules
+offset_bounds-out-at c =
+    let lent : c.loop-v.at < length c.loop-v.out = let pre = c.requires in place_lent _ _ _ pre.0.1 _ _ _ _ pre.2 _ _ _ _ c.loop-v.invariant in let l = lent in search rules
 
 pub bounds-out-at : goal.bounds-out-at
-bounds-out-at c = lent c.before
+bounds-out-at c =
+    let lent : c.loop-v.at < length c.loop-v.out = let pre = c.requires in place_lent _ _ _ pre.0.1 _ _ _ _ pre.2 _ _ _ _ c.loop-v.invariant in lent
 
 pub overflow_sub-at-in-loop-v : goal.overflow_sub-at-in-loop-v
 overflow_sub-at-in-loop-v c =
+    let back : let args = c.args in
+    Back (list_of (edge_at args.edges.now) args.count) (count_in args.counts.now) c.loop-v.v (count_value c.loop-v.left)
+    c.find_turn-turn.result.parent (count_value c.find_turn-turn.result.left) = steps_back _ _ _ c.requires.0.1 _ _ _ _ c.loop-v-test.true c.loop-v.invariant.node c.loop-v.invariant.below
+    c.find_turn-turn.ensures in
     let pre = c.requires in
-    place_later _ _ _ pre.0.1 _ _ _ _ pre.2 _ _ _ _ c.loop-v.invariant _ _ (back c.before)
+    place_later _ _ _ pre.0.1 _ _ _ _ pre.2 _ _ _ _ c.loop-v.invariant _ _ (back)
 
 pub loop-v-smaller : goal.loop-v-smaller
-loop-v-smaller c = (back c.before).lower
+loop-v-smaller c =
+    let back : let args = c.args in
+    Back (list_of (edge_at args.edges.now) args.count) (count_in args.counts.now) c.loop-v.v (count_value c.loop-v.left)
+    c.find_turn-turn.result.parent (count_value c.find_turn-turn.result.left) = steps_back _ _ _ c.requires.0.1 _ _ _ _ c.loop-v-test.true c.loop-v.invariant.node c.loop-v.invariant.below
+    c.find_turn-turn.ensures in (back).lower
 
 pub loop-v-preserved : goal.loop-v-preserved
 loop-v-preserved c =
+    let back : let args = c.args in
+    Back (list_of (edge_at args.edges.now) args.count) (count_in args.counts.now) c.loop-v.v (count_value c.loop-v.left)
+    c.find_turn-turn.result.parent (count_value c.find_turn-turn.result.left) = steps_back _ _ _ c.requires.0.1 _ _ _ _ c.loop-v-test.true c.loop-v.invariant.node c.loop-v.invariant.below
+    c.find_turn-turn.ensures in
     let pre = c.requires in
-    backfilled_next _ _ _ pre.0.1 _ _ _ _ pre.2 _ _ _ _ c.loop-v.invariant _ _ (back c.before)
+    backfilled_next _ _ _ pre.0.1 _ _ _ _ pre.2 _ _ _ _ c.loop-v.invariant _ _ (back)
 
 pub offset_bounds-out-at-2 : goal.offset_bounds-out-at-2
-offset_bounds-out-at-2 c = let l = lent c.before in search rules
+offset_bounds-out-at-2 c =
+    let lent : c.loop-v.at < length c.loop-v.out = let pre = c.requires in place_lent _ _ _ pre.0.1 _ _ _ _ pre.2 _ _ _ _ c.loop-v.invariant in let l = lent in search rules
 
 pub bounds-out-at-2 : goal.bounds-out-at-2
-bounds-out-at-2 c = lent c.before
+bounds-out-at-2 c =
+    let lent : c.loop-v.at < length c.loop-v.out = let pre = c.requires in place_lent _ _ _ pre.0.1 _ _ _ _ pre.2 _ _ _ _ c.loop-v.invariant in lent
 
 pub shape_of-out : goal.shape_of-out
 shape_of-out c = simp length-set c.loop-v.invariant.long

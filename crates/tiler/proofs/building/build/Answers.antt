@@ -12,16 +12,11 @@ use Rattle.tiler.proofs.BuildLaws.{found_graph, build_start, build_node, build_m
 use native.Mathlib.Omega.{arith}
 use borrow.Author.Rules.{rules}
 use Rattle.tiler.proofs.building.build.Goals as goal
-use Rattle.tiler.proofs.building.build.Goals.{Start}
-
-fixed_small : (c : Start) → number c.args.board.fixed < 2 ^ 256
-fixed_small c = number_lt _ (record { s0 = search rules; s1 = search rules; s2 = search rules; s3 = search rules })
-
-laid_small : (c : Start) → number c.args.board.laid < 2 ^ 256
-laid_small c = number_lt _ (record { s0 = search rules; s1 = search rules; s2 = search rules; s3 = search rules })
 
 pub loop-i-init : goal.loop-i-init
 loop-i-init c =
+    let fixed_small : number c.args.board.fixed < 2 ^ 256 = number_lt _ (record { s0 = search rules; s1 = search rules; s2 = search rules; s3 = search rules }) in
+    let laid_small : number c.args.board.laid < 2 ^ 256 = number_lt _ (record { s0 = search rules; s1 = search rules; s2 = search rules; s3 = search rules }) in
     (
       refl,
       omega (arith, c.requires.2),
@@ -29,14 +24,16 @@ loop-i-init c =
       refl,
       refl,
       omega arith,
-      build_start c.args.board c.args.tiles c.requires.0 (fixed_small c.before.before.before) (laid_small c.before.before.before) _ _ _ _ c.requires.2 c.requires.5,
+      build_start c.args.board c.args.tiles c.requires.0 (fixed_small) (laid_small) _ _ _ _ c.requires.2 c.requires.5,
     )
 
 pub expand_node-growth-requires : goal.expand_node-growth-requires
 expand_node-growth-requires c =
+    let fixed_small : number c.args.board.fixed < 2 ^ 256 = number_lt _ (record { s0 = search rules; s1 = search rules; s2 = search rules; s3 = search rules }) in
+    let laid_small : number c.args.board.laid < 2 ^ 256 = number_lt _ (record { s0 = search rules; s1 = search rules; s2 = search rules; s3 = search rules }) in
     (
       c.requires.0,
-      build_node c.args.board c.args.tiles c.requires.0 (fixed_small c.before.before.before.before.before.before.before.before) (laid_small c.before.before.before.before.before.before.before.before)
+      build_node c.args.board c.args.tiles c.requires.0 (fixed_small) (laid_small)
           _ _ _ _ _ _ c.loop-i.invariant.6 _ c.loop-i.invariant.0 c.loop-i-test.true,
       omega (arith, c.requires.1, c.loop-i.invariant.4),
       c.loop-i.invariant.1,
@@ -46,15 +43,17 @@ expand_node-growth-requires c =
 
 pub loop-i-preserved : goal.loop-i-preserved
 loop-i-preserved c =
+    let fixed_small : number c.args.board.fixed < 2 ^ 256 = number_lt _ (record { s0 = search rules; s1 = search rules; s2 = search rules; s3 = search rules }) in
+    let laid_small : number c.args.board.laid < 2 ^ 256 = number_lt _ (record { s0 = search rules; s1 = search rules; s2 = search rules; s3 = search rules }) in
     (
       c.node_count-n.ensures,
       c.expand_node-growth.ensures.0,
       search rules,
       search rules,
       search rules,
-      build_below c.args.board c.args.tiles c.requires.0 (fixed_small c.before.before.before.before.before.before.before.before.before.before.before.before.before.before.before.before) (laid_small c.before.before.before.before.before.before.before.before.before.before.before.before.before.before.before.before)
+      build_below c.args.board c.args.tiles c.requires.0 (fixed_small) (laid_small)
           _ _ _ _ _ _ c.loop-i.invariant.6 _ c.loop-i.invariant.0 c.loop-i-test.true,
-      build_more c.args.board c.args.tiles c.requires.0 (fixed_small c.before.before.before.before.before.before.before.before.before.before.before.before.before.before.before.before) (laid_small c.before.before.before.before.before.before.before.before.before.before.before.before.before.before.before.before)
+      build_more c.args.board c.args.tiles c.requires.0 (fixed_small) (laid_small)
           _ _ _ _ _ _ c.loop-i.invariant.6 _ c.loop-i.invariant.0 c.loop-i-test.true
           _ _ _ (c.expand_node-growth.ensures.1 _ c.loop-i.invariant.6),
     )
@@ -70,8 +69,10 @@ shape_of-children c = c.loop-i.invariant.4
 
 pub returns : goal.returns
 returns c =
+    let fixed_small : number c.args.board.fixed < 2 ^ 256 = number_lt _ (record { s0 = search rules; s1 = search rules; s2 = search rules; s3 = search rules }) in
+    let laid_small : number c.args.board.laid < 2 ^ 256 = number_lt _ (record { s0 = search rules; s1 = search rules; s2 = search rules; s3 = search rules }) in
     (
       c.loop-i.invariant.1,
-      build_end c.args.board c.args.tiles c.requires.0 (fixed_small c.before.before.before.before.before) (laid_small c.before.before.before.before.before)
+      build_end c.args.board c.args.tiles c.requires.0 (fixed_small) (laid_small)
           _ _ _ _ _ _ c.loop-i.invariant.6 _ c.loop-i.invariant.0 c.loop-i.invariant.5 c.loop-i-test.false,
     )

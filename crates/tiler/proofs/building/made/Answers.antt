@@ -19,7 +19,7 @@ returns-in_default c =
     let fixed : Sound c.args.board.fixed = record { s0 = search rules; s1 = search rules; s2 = search rules; s3 = search rules } in
     let laid : Sound c.args.board.laid = record { s0 = search rules; s1 = search rules; s2 = search rules; s3 = search rules } in
     made_no_room _ _ c.requires (fixed) (laid) _ _ _ _ _ c.node_room-node_room.ensures
-    c.edge_room-edge_room.ensures _ _ _ c.grown-growth.ensures.1 c.grown-growth.auto.1.1.0 c.grown-growth.auto.1.1.1.0
+    c.edge_room-edge_room.ensures _ _ _ c.grown-growth.ensures.1 c.grown-growth.auto.nodes c.grown-growth.auto.edges
     _ _ _ _ c.in_default.is c.refused.ensures
 
 pub returns-then-edge_room-e : goal.returns-then-edge_room-e
@@ -27,7 +27,7 @@ returns-then-edge_room-e c =
     let fixed : Sound c.args.board.fixed = record { s0 = search rules; s1 = search rules; s2 = search rules; s3 = search rules } in
     let laid : Sound c.args.board.laid = record { s0 = search rules; s1 = search rules; s2 = search rules; s3 = search rules } in
     made_no_room_for_edges _ _ c.requires (fixed) (laid) _ _ _ _ _ c.node_room-node_room.ensures
-    c.edge_room-edge_room.ensures _ _ _ c.grown-growth.ensures.1 c.grown-growth.auto.1.1.0 c.grown-growth.auto.1.1.1.0
+    c.edge_room-edge_room.ensures _ _ _ c.grown-growth.ensures.1 c.grown-growth.auto.nodes c.grown-growth.auto.edges
     _ _ c.in-Size.is _ _ _ _ c.if-edge_room-e.true c.refused-then-edge_room-e.ensures
 
 pub count_paths-requires : goal.count_paths-requires
@@ -35,7 +35,7 @@ count_paths-requires c =
     let fixed : Sound c.args.board.fixed = record { s0 = search rules; s1 = search rules; s2 = search rules; s3 = search rules } in
     let laid : Sound c.args.board.laid = record { s0 = search rules; s1 = search rules; s2 = search rules; s3 = search rules } in
     count_asks _ _ c.requires (fixed) (laid) _ _ _ _ _ c.node_room-node_room.ensures
-    c.edge_room-edge_room.ensures _ _ _ c.grown-growth.ensures.1 c.grown-growth.auto.1.1.0 c.grown-growth.auto.1.1.1.0
+    c.edge_room-edge_room.ensures _ _ _ c.grown-growth.ensures.1 c.grown-growth.auto.nodes c.grown-growth.auto.edges
     _ _ c.in-Size.is c.if-edge_room-e.false
 
 pub returns-then-not-count_paths : goal.returns-then-not-count_paths
@@ -43,8 +43,8 @@ returns-then-not-count_paths c =
     let fixed : Sound c.args.board.fixed = record { s0 = search rules; s1 = search rules; s2 = search rules; s3 = search rules } in
     let laid : Sound c.args.board.laid = record { s0 = search rules; s1 = search rules; s2 = search rules; s3 = search rules } in
     made_large _ _ c.requires (fixed) (laid) _ _ _ _ _ c.node_room-node_room.ensures
-    c.edge_room-edge_room.ensures _ _ _ c.grown-growth.ensures.1 c.grown-growth.auto.1.1.0 c.grown-growth.auto.1.1.1.0
-    _ _ c.in-Size.is c.if-edge_room-e.false _ _ c.count_paths.auto.1.1.0 c.count_paths.ensures
+    c.edge_room-edge_room.ensures _ _ _ c.grown-growth.ensures.1 c.grown-growth.auto.nodes c.grown-growth.auto.edges
+    _ _ c.in-Size.is c.if-edge_room-e.false _ _ c.count_paths.auto.counts c.count_paths.ensures
     _ _ _ _ c.if-not-count_paths.true c.refused-then-not-count_paths.ensures
 
 pub finished-requires : goal.finished-requires
@@ -52,7 +52,7 @@ finished-requires c =
     let fixed : Sound c.args.board.fixed = record { s0 = search rules; s1 = search rules; s2 = search rules; s3 = search rules } in
     let laid : Sound c.args.board.laid = record { s0 = search rules; s1 = search rules; s2 = search rules; s3 = search rules } in
     finish_asks _ _ c.requires (fixed) (laid) _ _ _ _ _ c.node_room-node_room.ensures
-    c.edge_room-edge_room.ensures _ _ _ c.grown-growth.ensures.1 c.grown-growth.auto.1.1.0 c.grown-growth.auto.1.1.1.0
+    c.edge_room-edge_room.ensures _ _ _ c.grown-growth.ensures.1 c.grown-growth.auto.nodes c.grown-growth.auto.edges
     _ _ c.in-Size.is c.if-edge_room-e.false
 
 pub returns : goal.returns
@@ -60,7 +60,7 @@ returns c =
     let fixed : Sound c.args.board.fixed = record { s0 = search rules; s1 = search rules; s2 = search rules; s3 = search rules } in
     let laid : Sound c.args.board.laid = record { s0 = search rules; s1 = search rules; s2 = search rules; s3 = search rules } in
     made_finished _ _ c.requires (fixed) (laid) _ _ _ _ _ c.node_room-node_room.ensures
-    c.edge_room-edge_room.ensures _ _ _ c.grown-growth.ensures.1 c.grown-growth.auto.1.1.0 c.grown-growth.auto.1.1.1.0
-    _ _ c.in-Size.is c.if-edge_room-e.false _ _ c.count_paths.auto.1.1.0 c.count_paths.ensures
+    c.edge_room-edge_room.ensures _ _ _ c.grown-growth.ensures.1 c.grown-growth.auto.nodes c.grown-growth.auto.edges
+    _ _ c.in-Size.is c.if-edge_room-e.false _ _ c.count_paths.auto.counts c.count_paths.ensures
     _ _ _ (λ i. (c.type_inv.nodes i).fits)
     c.if-not-count_paths.false c.finished.ensures
