@@ -1,5 +1,6 @@
 -- Laws of fits: a list of positions is covered position by position; which cells the set has; lists of the same positions give the same set; so the
--- walk from point j of a path, back and on, covers what the tile's cells do; and what a fit is, whose tile's moved cells are all free. Rests on cells' `SetLaws` and `FirstsLaws` and tile's `PathLaws`. Assumes nothing.
+-- walk from point j of a path, back and on, covers what the tile's cells do; and what a fit is, whose tile's moved cells are all free. Rests on cells'
+-- `SetLaws` and `FirstsLaws` and tile's `PathLaws`. Assumes nothing.
 use Rattle.std.specs.Prelude.{◌≡◌, ◌⊎◌, ◌↔◌, Bool, not, cond, ℕ, zero, suc, ◌^◌, ◌≤◌, ◌<◌, length, get_or, drop, ℤ, ◌+ℤ◌, neg_ℤ}
 use Rattle.std.proofs.Math.Path.{refl, sym, ap}
 use Rattle.std.proofs.Common.{ap₂, ◌∙◌, subst, inl, inr, ⊎_elim, arith, pow_pos, drop-cons}
