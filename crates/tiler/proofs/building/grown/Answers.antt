@@ -12,8 +12,8 @@ use Rattle.tiler.proofs.building.grown.Goals as goal
 
 pub returns-then-node_room-eq0 : goal.returns-then-node_room-eq0
 returns-then-node_room-eq0 c =
-    let fixed_small : number c.args.board.fixed < 2 ^ 256 = number_lt _ (record { s0 = search rules; s1 = search rules; s2 = search rules; s3 = search rules }) in
-    let laid_small : number c.args.board.laid < 2 ^ 256 = number_lt _ (record { s0 = search rules; s1 = search rules; s2 = search rules; s3 = search rules }) in
+    let fixed_small : number c.args.board.fixed < 2 ^ 256 = number_lt _ (record { s0 = search (rules, c.well_formed); s1 = search (rules, c.well_formed); s2 = search (rules, c.well_formed); s3 = search (rules, c.well_formed) }) in
+    let laid_small : number c.args.board.laid < 2 ^ 256 = number_lt _ (record { s0 = search (rules, c.well_formed); s1 = search (rules, c.well_formed); s2 = search (rules, c.well_formed); s3 = search (rules, c.well_formed) }) in
     (omega arith, build_no_room c.args.board c.args.tiles c.requires.0 (fixed_small) (laid_small) _ _ _ _ c.if-node_room-eq0.true)
 
 -- w is what is known after `child_words`, s at the start
