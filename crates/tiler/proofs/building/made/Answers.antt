@@ -62,5 +62,5 @@ returns c =
     made_finished _ _ c.requires (fixed) (laid) _ _ _ _ _ c.node_room-node_room.ensures
     c.edge_room-edge_room.ensures _ _ _ c.grown-growth.ensures.1 c.grown-growth.auto.nodes c.grown-growth.auto.edges
     _ _ c.in-Size.is c.if-edge_room-e.false _ _ c.count_paths.auto.counts c.count_paths.ensures
-    _ _ _ (λ i. (c.type_inv.nodes i).fits)
+    _ _ _ (λ i. search rules)
     c.if-not-count_paths.false c.finished.ensures
