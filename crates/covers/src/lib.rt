@@ -1,3 +1,3 @@
-// The mathematics of cuttings. This crate has no code: what it says and proves stands in specs/.
+// The mathematics of cuttings. This crate has no code: what it says stands in specs/, and what it proves in proofs/.
 
 #![tactic(auto)]

@@ -17,7 +17,7 @@ use Rattle.choice.specs.Choice.{chosen}
 use Rattle.choice.specs.ChosenLaws.{chosen_best, full_iff}
 use Rattle.children.specs.Children.{free_count_at}
 use Rattle.covers.specs.Counts.{Numbering}
-use Rattle.covers.specs.Theorems.{full_has_one, numbering_carried}
+use Rattle.covers.proofs.Theorems.{full_has_one, numbering_carried}
 use Rattle.expansion.specs.Boards.{setting}
 use Rattle.expansion.specs.Plots.{IsCutting, HasFreeCell}
 use Rattle.expansion.specs.SettingLaws.{setting_laws, start_at_lem, start_ok}

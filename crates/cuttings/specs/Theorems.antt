@@ -15,8 +15,8 @@ use Rattle.board.specs.declared.RectangularBoard.{RectangularBoard}
 use Rattle.rectangle.specs.Board.{Board, is_full, valid}
 use Rattle.board.specs.Board.{board_of}
 use Rattle.covers.specs.Counts.{Numbering, Exactly}
-use Rattle.covers.specs.NumberingLaws.{product_of, OneOfEach}
-use Rattle.covers.specs.Theorems.{number_of_pairs, number_of_lists}
+use Rattle.covers.proofs.NumberingLaws.{product_of, OneOfEach}
+use Rattle.covers.proofs.Theorems.{number_of_pairs, number_of_lists}
 use Rattle.path_count.specs.PathCounts.{count_limit}
 use Rattle.graph.specs.Graph.{layer_room}
 use Rattle.expansion.specs.Plots.{accept_plot, IsCutting, HasFreeCell, AllEdgeJoined}

@@ -26,9 +26,9 @@ use Rattle.children.specs.PruneLaws.{pruned_none}
 use Rattle.fit.specs.PieceLaws.{piece_cell, mem_pieces}
 use Rattle.covers.specs.Setting.{FitsOn, CuttingOf, SoundPruning, Setting, graphCount, cuttingAt}
 use Rattle.covers.specs.Counts.{Numbering}
-use Rattle.covers.specs.Theorems.{numbering_carried, tilings_are_cuttings}
-use Rattle.covers.specs.SequenceLaws.{free_not_full}
-use Rattle.covers.specs.NumberingLaws.{one_is}
+use Rattle.covers.proofs.Theorems.{numbering_carried, tilings_are_cuttings}
+use Rattle.covers.proofs.SequenceLaws.{free_not_full}
+use Rattle.covers.proofs.NumberingLaws.{one_is}
 use Rattle.fit.specs.LayLaws.{piece_some}
 use Rattle.expansion.specs.SettingLaws.{fits_piece, start_at_lem, start_ok}
 use Rattle.expansion.specs.Boards.{cell_or, pieces_on, setting, setting_of, start_of, Accepted}

@@ -11,7 +11,7 @@ use Rattle.tiles.specs.Paths.{paths_in}
 use Rattle.board.specs.Board.{board_of}
 use Rattle.rectangle.specs.Board.{is_full}
 use Rattle.covers.specs.Counts.{Exactly}
-use Rattle.covers.specs.Theorems.{number_of_pairs}
+use Rattle.covers.proofs.Theorems.{number_of_pairs}
 use Rattle.graph.specs.Graph.{layer_room}
 use Rattle.expansion.specs.Plots.{IsCutting, HasFreeCell, AllEdgeJoined}
 use Rattle.cuttings.specs.Cuttings.{count_cuttings}

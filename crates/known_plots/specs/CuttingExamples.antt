@@ -20,7 +20,7 @@ use Rattle.board.specs.declared.RectangularBoard.{RectangularBoard}
 use Rattle.rectangle.specs.Board.{Board, is_free, is_full, valid}
 use Rattle.board.specs.Board.{board_of, of_marks, new_board}
 use Rattle.covers.specs.Counts.{Exactly}
-use Rattle.covers.specs.Theorems.{number_unique}
+use Rattle.covers.proofs.Theorems.{number_unique}
 use Rattle.graph.specs.declared.Complete.TheVariants as N
 use Rattle.numbered_tilings.specs.declared.Tiling.{Tiling}
 use Rattle.numbered_tilings.specs.declared.Tiling.TheVariants as T

@@ -12,7 +12,7 @@ use Rattle.tiles.specs.Paths.{paths_in, tiles_of}
 use Rattle.board.specs.declared.RectangularBoard.{RectangularBoard}
 use Rattle.board.specs.Board.{board_of}
 use Rattle.covers.specs.Counts.{Exactly}
-use Rattle.covers.specs.NumberingLaws.{OneOfEach}
+use Rattle.covers.proofs.NumberingLaws.{OneOfEach}
 use Rattle.graph.specs.Graph.{layer_room, plot_boards}
 use Rattle.path_count.specs.declared.PathCount.{PathCount}
 use Rattle.path_count.specs.PathCounts.{count_value}

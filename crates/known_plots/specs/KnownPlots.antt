@@ -32,8 +32,8 @@ use Rattle.fit.specs.PieceLaws.{mem_pieces}
 use Rattle.fit.specs.LayLaws.{piece_free, piece_iff, piece_some}
 use Rattle.covers.specs.Counts.{Exactly}
 use Rattle.covers.specs.Setting.{CuttingOf}
-use Rattle.covers.specs.NumberingLaws.{exactly_one, one_is, one_only}
-use Rattle.covers.specs.SequenceLaws.{cutting_add, sequence_cutting}
+use Rattle.covers.proofs.NumberingLaws.{exactly_one, one_is, one_only}
+use Rattle.covers.proofs.SequenceLaws.{cutting_add, sequence_cutting}
 use Rattle.path_count.specs.Inner.{count_span}
 use Rattle.graph.specs.RoomLaws.{node_room_plot}
 use Rattle.graph.specs.Graph.{node_room, edge_room, plot_boards, plot_nodes, plot_edges}

@@ -20,8 +20,9 @@ use Rattle.tile.specs.Path.{Path}
 use Rattle.rectangle.specs.Board.{Board}
 use Rattle.covers.specs.Setting.{childBoards}
 use Rattle.covers.specs.Counts.{Entry, boards, counts, number_in}
-use Rattle.covers.specs.GatherLaws.{addPaths, boards_add_paths}
-use Rattle.covers.specs.NodeLaws.{number_lt}
+use Rattle.covers.specs.Inner.{addPaths}
+use Rattle.covers.proofs.GatherLaws.{boards_add_paths}
+use Rattle.covers.proofs.NodeLaws.{number_lt}
 use Rattle.cells.specs.declared.list.Found.{Found}
 use Rattle.cells.specs.declared.list.Found.TheVariants as F
 use Rattle.path_count.specs.PathCounts.{count_limit, count_room, count_in}

@@ -16,7 +16,8 @@ use Rattle.tile.specs.Path.{Path}
 use Rattle.rectangle.specs.Board.{Board}
 use Rattle.covers.specs.Setting.{childBoards}
 use Rattle.covers.specs.Counts.{Entry, boards, counts, shares, gather, number_in}
-use Rattle.covers.specs.GatherLaws.{addPaths, gather_snoc}
+use Rattle.covers.specs.Inner.{addPaths}
+use Rattle.covers.proofs.GatherLaws.{gather_snoc}
 use Rattle.path_count.specs.PathCounts.{count_limit, count_in}
 use Rattle.expansion.specs.Boards.{setting}
 use Rattle.layers.specs.LayerCounts.{too_large}

@@ -22,7 +22,7 @@ use Rattle.board.specs.Board.{board_of}
 use Rattle.children.specs.Children.{full_at, free_count_at}
 use Rattle.covers.specs.Setting.{Setting, childBoards, layerOf, layerCountOf, entriesOf, nodesOf, pathCountOf, graphCount, cuttingAt}
 use Rattle.covers.specs.Counts.{Exactly, Entry, counts, layer, layers, layerCount, fullNode, at_node}
-use Rattle.covers.specs.Theorems.{counts_are_equal}
+use Rattle.covers.proofs.Theorems.{counts_are_equal}
 use Rattle.path_count.specs.PathCounts.{count_limit}
 use Rattle.graph.specs.Graph.{layer_room}
 use Rattle.expansion.specs.Boards.{setting, setting_of, start_of, Accepted}

@@ -7,7 +7,7 @@ use Rattle.cells.specs.Lists.{list_of, set_at}
 use Rattle.refusal.specs.Refusal.{Answer, refused, given, map_answer, bind_answer, refusal_number}
 use Rattle.covers.specs.Setting.{Setting, childBoards, layerOf, layerCountOf}
 use Rattle.covers.specs.Counts.{Entry, boards, counts, fullCount, shares, gather, layer, layerCount}
-use Rattle.covers.specs.GatherLaws.{addPaths}
+use Rattle.covers.specs.Inner.{addPaths}
 use Rattle.path_count.specs.PathCounts.{count_room, count_in}
 use Rattle.tiles.specs.Paths.{paths_in}
 use Rattle.expansion.specs.Boards.{setting_of, Accepted}

@@ -18,10 +18,10 @@ use Rattle.refusal.specs.Refusal.{Answer, refused, given, map_answer, bind_answe
 use Rattle.refusal.specs.RefusalLaws.{refused_given}
 use Rattle.covers.specs.Setting.{Setting, childBoards, Laws, EqualSteps, layerOf, layerCountTo, layerCountOf}
 use Rattle.covers.specs.Counts.{Entry, boards, counts, sum_of, shares, gather, layer, fullCount, layerCount}
-use Rattle.covers.specs.SumLaws.{sum_zero}
-use Rattle.covers.specs.GatherLaws.{mem_boards, once_gather, mem_gather}
-use Rattle.covers.specs.LayerLaws.{boards_shares}
-use Rattle.covers.specs.ChildLaws.{child_ok, child_equal}
+use Rattle.covers.proofs.SumLaws.{sum_zero}
+use Rattle.covers.proofs.GatherLaws.{mem_boards, once_gather, mem_gather}
+use Rattle.covers.proofs.LayerLaws.{boards_shares}
+use Rattle.covers.proofs.ChildLaws.{child_ok, child_equal}
 use Rattle.layers.specs.LayerCounts.{too_large, judge_layer, judge_layers}
 use Rattle.layers.specs.Inner.{layers_answer, next_of, count_from, Ready}
 

@@ -8,7 +8,7 @@ ghost use Rattle.fit.specs.Parts.{most_children};
 ghost use Rattle.board.specs.Board.{board_of};
 ghost use Rattle.path_count.specs.PathCounts.{count_value, count_in};
 ghost use Rattle.covers.specs.Setting.{childBoards};
-ghost use Rattle.covers.specs.GatherLaws.{addPaths};
+ghost use Rattle.covers.specs.Inner.{addPaths};
 ghost use Rattle.expansion.specs.Boards.{From, setting_of, Accepted};
 ghost use Rattle.layers.specs.Inner.{entries_in, boards_in, HoldsLayer, AddsToLayer, LayerLent, add_each, next_of};
 

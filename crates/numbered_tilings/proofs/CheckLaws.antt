@@ -12,8 +12,9 @@ use lib.ListN.{length}
 use Rattle.cells.specs.Lists.{any, list_from, list_of}
 use Rattle.cells.specs.ArrayLaws.{list_of_snoc}
 use Rattle.covers.specs.Counts.{sum_of}
-use Rattle.covers.specs.SumLaws.{sum_append}
-use Rattle.covers.specs.WalkLaws.{share, share_same, share_other, sum_parents_of}
+use Rattle.covers.proofs.SumLaws.{sum_append}
+use Rattle.covers.specs.Inner.{share}
+use Rattle.covers.proofs.WalkLaws.{share_same, share_other, sum_parents_of}
 use Rattle.path_count.specs.PathCounts.{count_limit, count_in}
 use Rattle.graph.specs.declared.GraphResult.{GraphResult}
 use Rattle.graph.specs.Graph.{node_room, edge_room, edge_at, complete_node}

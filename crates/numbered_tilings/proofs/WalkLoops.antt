@@ -21,7 +21,8 @@ use Rattle.refusal.specs.RefusalLaws.{refused_value}
 use Rattle.refusal.specs.declared.Refusal.{Refusal}
 use Rattle.covers.specs.Counts.{parents_of, turn, node_list_to, at_node}
 use Rattle.covers.specs.Setting.{SumRule}
-use Rattle.covers.specs.WalkLaws.{share, turn_pass, turn_hit, walk_first, tiling_next, back_in}
+use Rattle.covers.specs.Inner.{share}
+use Rattle.covers.proofs.WalkLaws.{turn_pass, turn_hit, walk_first, tiling_next, back_in}
 use Rattle.path_count.specs.PathCounts.{count_in}
 use Rattle.graph.specs.declared.GraphResult.{GraphResult}
 use Rattle.numbered_tilings.specs.declared.Tiling.{Tiling}

@@ -20,7 +20,7 @@ use Rattle.refusal.specs.Refusal.{Answer, refused, given, map_answer, value_or}
 use Rattle.refusal.specs.RefusalLaws.{refused_given, given_inj}
 use Rattle.covers.specs.Setting.{SumRule}
 use Rattle.covers.specs.Counts.{Chain, sum_of, parents_of, node_list_to, at_node}
-use Rattle.covers.specs.WalkLaws.{tiling_chain}
+use Rattle.covers.proofs.WalkLaws.{tiling_chain}
 use Rattle.path_count.specs.PathCounts.{count_limit, count_in}
 use Rattle.path_count.specs.PathCountLaws.{count_in_small}
 use Rattle.graph.specs.declared.GraphResult.{GraphResult}

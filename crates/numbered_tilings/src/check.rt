@@ -3,7 +3,7 @@
 // edges are lent.
 ghost use Rattle.std.specs.Prelude.{◌≡◌, ◌+◌, ◌*◌, ◌≤◌, length};
 ghost use Rattle.cells.specs.Lists.{any, list_of};
-ghost use Rattle.covers.specs.WalkLaws.{share};
+ghost use Rattle.covers.specs.Inner.{share};
 ghost use Rattle.path_count.specs.PathCounts.{count_value, count_in};
 ghost use Rattle.graph.specs.Graph.{edge_at, complete_node};
 ghost use Rattle.numbered_tilings.specs.Tilings.{is_past, bad_edge, bad_count, bad_graph};

@@ -10,8 +10,8 @@ use Rattle.cells.specs.Lists.{holds}
 use Rattle.tile.specs.Path.{Path, codes_ok}
 use Rattle.rectangle.specs.Board.{Board, marks, is_free, is_full, valid}
 use Rattle.covers.specs.Counts.{ChildSequence, pieces_of}
-use Rattle.covers.specs.ChildLaws.{sequence_children, children_sequence}
-use Rattle.covers.specs.SequenceLaws.{free_not_full, sequence_cutting, cutting_sequence}
+use Rattle.covers.proofs.ChildLaws.{sequence_children, children_sequence}
+use Rattle.covers.proofs.SequenceLaws.{free_not_full, sequence_cutting, cutting_sequence}
 use Rattle.graph.specs.Graph.{step_piece, marked_pieces}
 use Rattle.expansion.specs.Boards.{setting}
 use Rattle.expansion.specs.Plots.{IsCutting, HasFreeCell, AllEdgeJoined}

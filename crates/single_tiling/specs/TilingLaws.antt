@@ -29,7 +29,7 @@ use Rattle.rectangle.specs.BoardLaws.{none_full, free_inside}
 use Rattle.children.specs.ChildLaws.{child_piece, full_children}
 use Rattle.fit.specs.LayLaws.{piece_iff, piece_size, lay_count}
 use Rattle.covers.specs.Counts.{Steps, ChildSequence}
-use Rattle.covers.specs.NodeLaws.{chain_good}
+use Rattle.covers.proofs.NodeLaws.{chain_good}
 use Rattle.expansion.specs.Boards.{From}
 use Rattle.expansion.specs.SettingLaws.{marks_at, lay_at, lay_from, start_at_lem, start_ok}
 use Rattle.expansion.specs.ExpansionLaws.{small_at}

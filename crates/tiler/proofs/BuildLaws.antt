@@ -24,9 +24,10 @@ use Rattle.board.specs.Board.{board_of}
 use Rattle.rectangle.specs.BoardLaws.{marks_lt}
 use Rattle.covers.specs.Setting.{Setting, childBoards, Laws, EqualSteps, nodesOf, graphEdges}
 use Rattle.covers.specs.Counts.{number_in}
-use Rattle.covers.specs.NodeLaws.{number_right}
-use Rattle.covers.specs.SettingLaws.{node_ok, some_node}
-use Rattle.covers.specs.FindingLaws.{addChild, addChildren, add_children_snoc, add_children_longer, found_at, edges_at, found_zero, found_prefix, found_at_lem, found_end, edges_zero, edges_all, expanded}
+use Rattle.covers.proofs.NodeLaws.{number_right}
+use Rattle.covers.proofs.SettingLaws.{node_ok, some_node}
+use Rattle.covers.specs.Inner.{addChild, addChildren}
+use Rattle.covers.proofs.FindingLaws.{add_children_snoc, add_children_longer, found_at, edges_at, found_zero, found_prefix, found_at_lem, found_end, edges_zero, edges_all, expanded}
 use Rattle.cells.specs.declared.list.Found.{Found}
 use Rattle.cells.specs.declared.list.Found.TheVariants as F
 use Rattle.graph.specs.Graph.{edge_at}

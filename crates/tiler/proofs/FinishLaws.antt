@@ -28,8 +28,8 @@ use Rattle.rectangle.specs.Board.{Board, board_at, is_full, valid}
 use Rattle.board.specs.Board.{board_of, read_board, all_marked_answer}
 use Rattle.covers.specs.Setting.{Setting, Laws, EqualSteps, entriesOf, nodesOf, graphEdges}
 use Rattle.covers.specs.Counts.{counts, fullFrom, fullNode}
-use Rattle.covers.specs.SettingLaws.{node_ok}
-use Rattle.covers.specs.PassLaws.{edge_in}
+use Rattle.covers.proofs.SettingLaws.{node_ok}
+use Rattle.covers.proofs.PassLaws.{edge_in}
 use Rattle.graph.specs.Graph.{edge_at, edges_for, node_room, edge_room, complete_node}
 use Rattle.cells.specs.SearchLaws.{first_from_found, first_from_missed}
 use Rattle.graph.specs.GraphLaws.{cleared_edges}

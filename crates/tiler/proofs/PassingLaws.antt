@@ -17,7 +17,7 @@ use Rattle.cells.specs.MemberLaws.{mem_place}
 use Rattle.cells.specs.ArrayLaws.{length_list_of, get_d_list_of}
 use Rattle.covers.specs.Setting.{Setting, Laws, EqualSteps, entriesOf, pathCountOf, graphEdges}
 use Rattle.covers.specs.Counts.{counts}
-use Rattle.covers.specs.PassLaws.{passed, passed_zero, passed_suc, passed_all, passed_le}
+use Rattle.covers.proofs.PassLaws.{passed, passed_zero, passed_suc, passed_all, passed_le}
 use Rattle.path_count.specs.PathCounts.{count_limit, count_room, count_in, counts_for}
 use Rattle.path_count.specs.Parts.{with_count, AddsCount}
 use Rattle.path_count.specs.Inner.{count_words}

@@ -22,7 +22,7 @@ use Rattle.board.specs.declared.RectangularBoard.{RectangularBoard}
 use Rattle.rectangle.specs.Board.{Board}
 use Rattle.covers.specs.Counts.{Entry, boards, counts, fullFrom, fullNode}
 use Rattle.covers.specs.Setting.{SumRule}
-use Rattle.covers.specs.CountLaws.{full_node_some, full_node_none}
+use Rattle.covers.proofs.CountLaws.{full_node_some, full_node_none}
 use Rattle.graph.specs.Graph.{edges_in, node_room, edge_room}
 use Rattle.tiler.specs.declared.MadeGraph.{MadeGraph}
 use Rattle.graph.specs.RoomLaws.{node_room_lem, edge_room_lem}

@@ -15,8 +15,8 @@ use Rattle.board.specs.Board.{board_of}
 use Rattle.children.specs.Children.{full_at, free_count_at}
 use Rattle.covers.specs.Setting.{Laws, EqualSteps, SumRule, entriesOf, graphCount, nodesOf}
 use Rattle.covers.specs.Counts.{at_node, boards, counts, layers, edgesOf, fullNode}
-use Rattle.covers.specs.Theorems.{graph_sum_rule}
-use Rattle.covers.specs.SettingLaws.{some_node, node_ok}
+use Rattle.covers.proofs.Theorems.{graph_sum_rule}
+use Rattle.covers.proofs.SettingLaws.{some_node, node_ok}
 use Rattle.graph.specs.Graph.{node_room, edge_room, complete_node, count_from_graph}
 use Rattle.tiler.specs.declared.MadeGraph.{MadeGraph}
 use Rattle.expansion.specs.Boards.{setting, setting_of, start_of, Accepted}

@@ -24,10 +24,10 @@ use Rattle.board.specs.Board.{board_of}
 use Rattle.rectangle.specs.Board.{free_count}
 use Rattle.covers.specs.Counts.{Numbering, Chain, node_list_to, fullNode, at_node, node_list}
 use Rattle.covers.specs.Setting.{Setting, nodesOf, pathCountOf, graphEdges, graphCount, tiling_of, cuttingAt}
-use Rattle.covers.specs.Theorems.{full_counts_none}
-use Rattle.covers.specs.NumberingLaws.{renumber}
-use Rattle.covers.specs.CountLaws.{tiling_length}
-use Rattle.covers.specs.WalkLaws.{tiling_below, tiling_chain}
+use Rattle.covers.proofs.Theorems.{full_counts_none}
+use Rattle.covers.proofs.NumberingLaws.{renumber}
+use Rattle.covers.proofs.CountLaws.{tiling_length}
+use Rattle.covers.proofs.WalkLaws.{tiling_below, tiling_chain}
 use Rattle.path_count.specs.PathCounts.{count_limit}
 use Rattle.graph.specs.Graph.{complete_node, count_from_graph, marked_pieces, marked_pieces_in}
 use Rattle.numbered_tilings.specs.Tilings.{node_list_in}

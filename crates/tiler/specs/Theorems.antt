@@ -26,8 +26,8 @@ use Rattle.rectangle.specs.Board.{board_at, is_full}
 use Rattle.children.specs.Children.{children_at}
 use Rattle.covers.specs.Counts.{Exactly, ChildSequence, counts}
 use Rattle.covers.specs.Setting.{childBoards, Laws, EqualSteps, graphCount, graphEdges, nodesOf, pathCountOf}
-use Rattle.covers.specs.Theorems.{nodes_are_reached, nodes_by_first_finding, graph_edges_are_children, graph_edges_once, graph_tilings, full_counts_none, none_reached_counts_none, count_is_child_sequences}
-use Rattle.covers.specs.SettingLaws.{start_node}
+use Rattle.covers.proofs.Theorems.{nodes_are_reached, nodes_by_first_finding, graph_edges_are_children, graph_edges_once, graph_tilings, full_counts_none, none_reached_counts_none, count_is_child_sequences}
+use Rattle.covers.proofs.SettingLaws.{start_node}
 use Rattle.tiler.specs.declared.MadeGraph.{MadeGraph}
 use Rattle.expansion.specs.Boards.{setting, setting_of, start_of, Accepted}
 use Rattle.path_count.specs.PathCounts.{count_in, count_limit}

@@ -10,7 +10,7 @@ ghost use Rattle.fit.specs.Parts.{most_children};
 ghost use Rattle.board.specs.Board.{board_of};
 ghost use Rattle.rectangle.specs.Board.{board_at, is_full};
 ghost use Rattle.covers.specs.Setting.{childBoards, nodesOf, graphEdges};
-ghost use Rattle.covers.specs.FindingLaws.{addChild, addChildren};
+ghost use Rattle.covers.specs.Inner.{addChild, addChildren};
 ghost use Rattle.path_count.specs.PathCounts.{count_room, count_in};
 ghost use Rattle.path_count.specs.Parts.{AddsCount};
 ghost use Rattle.path_count.specs.Inner.{count_words};

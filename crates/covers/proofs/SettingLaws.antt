@@ -5,7 +5,7 @@
 use Rattle.std.specs.Prelude.{◌≡◌, refl, ◌↔◌, length, get_or, Bool}
 use Rattle.std.proofs.Math.Path.{sym, ap, subst}
 use Rattle.std.proofs.Common.{◌∙◌}
-use Rattle.covers.specs.WalkLaws.{chain_snoc}
+use Rattle.covers.proofs.WalkLaws.{chain_snoc}
 use mathlib.Core.List.Memᴰ.{eq_of_singleton}
 use mathlib.Core.List.{List, [], ◌∷◌, ◌++◌, flat_map, append-nil, Memᴰ as Mem}
 use Prim.Native.Nat.{ℕ, zero, suc, ◌+◌, ◌*◌, ◌≤◌, ◌<◌}
@@ -17,10 +17,10 @@ use Rattle.cells.specs.Lists.{any, holds, addNew, addFirsts, firsts}
 use Rattle.cells.specs.MemberLaws.{no_member, mem_flat_map, flat_map_append, once_append}
 use Rattle.covers.specs.Setting.{Setting, childBoards, Laws, EqualSteps, nodesOf, pathCountOf, layerOf}
 use Rattle.covers.specs.Counts.{counts, ChildSequence, Entry, boards, layer, layers, number_in}
-use Rattle.covers.specs.NodeLaws.{chain_end_good, number_lt, number_left, number_right}
-use Rattle.covers.specs.GatherLaws.{mem_boards}
-use Rattle.covers.specs.LayerLaws.{layers_first, once_layer, mem_layer, boards_suc, mem_layers, layer_found, start_entry}
-use Rattle.covers.specs.ChildLaws.{child_ok, child_cell, child_equal}
+use Rattle.covers.proofs.NodeLaws.{chain_end_good, number_lt, number_left, number_right}
+use Rattle.covers.proofs.GatherLaws.{mem_boards}
+use Rattle.covers.proofs.LayerLaws.{layers_first, once_layer, mem_layer, boards_suc, mem_layers, layer_found, start_entry}
+use Rattle.covers.proofs.ChildLaws.{child_ok, child_cell, child_equal}
 
 -- ---- the layers of a setting
 

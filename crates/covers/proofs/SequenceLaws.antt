@@ -14,7 +14,7 @@ use Rattle.cells.specs.Lists.{holds}
 use Rattle.cells.specs.MemberLaws.{no_member}
 use Rattle.covers.specs.Counts.{Numbering, Exactly}
 use Rattle.covers.specs.Setting.{Setting, Laws, FitsOn, CuttingOf, PlacingSequence, SoundPruning}
-use Rattle.covers.specs.NumberingLaws.{exactly_le, carry, exactly_one, one_is, one_only}
+use Rattle.covers.proofs.NumberingLaws.{exactly_le, carry, exactly_one, one_is, one_only}
 
 -- ---- sets of pieces
 

@@ -23,9 +23,9 @@ use Rattle.cells.specs.FirstsLaws.{Once, any_some, holds_iff, mem_firsts, once_f
 use Rattle.cells.specs.ArrayLaws.{all_below_at}
 use Rattle.cells.specs.MemberLaws.{eqb_tells}
 use Rattle.covers.specs.Setting.{Setting, FitsOn, CuttingOf, Laws, SoundPruning, EqualSteps}
-use Rattle.covers.specs.SequenceLaws.{sequence_cutting, cutting_add}
+use Rattle.covers.proofs.SequenceLaws.{sequence_cutting, cutting_add}
 use Rattle.covers.specs.CellSets.{Between, cell_setting, CellLaws}
-use Rattle.covers.specs.CellSetLaws.{bit_region, none_free, cell_laws, cell_steps}
+use Rattle.covers.proofs.CellSetLaws.{bit_region, none_free, cell_laws, cell_steps}
 
 -- ---- definitions
 

@@ -21,10 +21,11 @@ use Rattle.std.proofs.Math.ListN.{get_or-eq_default}
 use Rattle.cells.specs.FirstsLaws.{mem_get_d}
 use Rattle.covers.specs.Setting.{Setting, childBoards, Laws, EqualSteps, entriesOf, nodesOf, pathCountOf, graphEdges}
 use Rattle.covers.specs.Counts.{Entry, counts, sum_of, parents_of, number_in}
-use Rattle.covers.specs.SumLaws.{sum_append, sum_zero}
-use Rattle.covers.specs.WalkLaws.{share, share_same, share_other, sum_parents_of, mem_parents_of}
-use Rattle.covers.specs.GraphLaws.{edge_rises, sum_rule}
-use Rattle.covers.specs.FindingLaws.{edges_at, edges_zero, edges_suc, edges_all}
+use Rattle.covers.proofs.SumLaws.{sum_append, sum_zero}
+use Rattle.covers.specs.Inner.{share}
+use Rattle.covers.proofs.WalkLaws.{share_same, share_other, sum_parents_of, mem_parents_of}
+use Rattle.covers.proofs.GraphLaws.{edge_rises, sum_rule}
+use Rattle.covers.proofs.FindingLaws.{edges_at, edges_zero, edges_suc, edges_all}
 
 -- ---- edges in the order of their parents
 

@@ -17,13 +17,10 @@ use borrow.Author.Tests.{eqb-true, eqb-false, eq-eqb, ne_eqb, ltb-true, ltb-fals
 use Rattle.cells.specs.FirstsLaws.{Once}
 use Rattle.covers.specs.Counts.{Numbering, Steps, Chain, sum_of, parents_of, turn, walk, node_list_to}
 use Rattle.covers.specs.Setting.{SumRule}
-use Rattle.covers.specs.NumberingLaws.{carry, renumber}
+use Rattle.covers.specs.Inner.{share}
+use Rattle.covers.proofs.NumberingLaws.{carry, renumber}
 
 -- ---- parents
-
--- an edge's share: what it adds to the count of node v
-unfoldable pub share : (ℕ → ℕ) → ℕ → ℕ × ℕ → ℕ
-share count v e = cond (eqb e.1 v) (count e.0) 0
 
 module _ (count : ℕ → ℕ) (v : ℕ) (e : ℕ × ℕ) where
   pub share_same : v ≡ e.1 → share count v e ≡ count e.0

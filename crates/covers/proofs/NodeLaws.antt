@@ -17,8 +17,8 @@ use Prim.Native.Nat.{ℕ, zero, suc, ◌+◌, ◌<◌}
 use Rattle.cells.specs.FirstsLaws.{Once, mem_get_d, so_eq, same_false, same_cases, Tells}
 use Rattle.cells.specs.MemberLaws.{mem_rest, eqb_tells, mem_flat_map, once_map, once_flat_map}
 use Rattle.covers.specs.Counts.{Steps, Chain, Entry, boards, counts, sum_of, shares, weight, number_in, edgesOf}
-use Rattle.covers.specs.GatherLaws.{mem_boards}
-use Rattle.covers.specs.SumLaws.{sum_ext, sum_map, sum_flat_map}
+use Rattle.covers.proofs.GatherLaws.{mem_boards}
+use Rattle.covers.proofs.SumLaws.{sum_ext, sum_map, sum_flat_map}
 
 -- ---- chains carried along a map that takes steps to steps, on elements that a step does not leave
 

@@ -12,9 +12,9 @@ use Rattle.cells.specs.FirstsLaws.{holds_iff}
 use Rattle.cells.specs.MemberLaws.{eqb_tells}
 use Rattle.covers.specs.Counts.{Exactly, counts, sum_of, layers, edgesOf, number_in, parents_of, turn, node_list_to, fullNode, at_node, layerCount}
 use Rattle.covers.specs.Setting.{CuttingOf, Laws, SoundPruning, EqualSteps, SumRule, entriesOf, nodesOf, graphEdges, layerCountOf, graphCount, tiling_of}
-use Rattle.covers.specs.Theorems.{number_unique, layer_count_is_cuttings}
+use Rattle.covers.proofs.Theorems.{number_unique, layer_count_is_cuttings}
 use Rattle.covers.specs.CellSets.{cell_setting}
-use Rattle.covers.specs.ExamplePlots.{Plot, all, is_within, setting_of, is_plot, cuts, plot_laws, plot_steps, plot_pruning, plot_ok, plot_cutting}
+use Rattle.covers.proofs.ExamplePlots.{Plot, all, is_within, setting_of, is_plot, cuts, plot_laws, plot_steps, plot_pruning, plot_ok, plot_cutting}
 
 -- ---- 2 by 2 with dominoes: the cells 0 and 1 above 2 and 3, the lowest free cell is chosen
 

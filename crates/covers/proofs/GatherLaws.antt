@@ -16,7 +16,8 @@ use Rattle.cells.specs.FirstsLaws.{Once, same_false, mem_cases, add_firsts_appen
 use Rattle.cells.specs.Lists.{holds, addNew, firsts}
 use Rattle.cells.specs.MemberLaws.{mem_split, map_ext}
 use Rattle.covers.specs.Counts.{Entry, boards, weight, gather}
-use Rattle.covers.specs.SumLaws.{sum_append, sum_zero}
+use Rattle.covers.specs.Inner.{addPaths}
+use Rattle.covers.proofs.SumLaws.{sum_append, sum_zero}
 
 -- ---- an entry and its board
 
@@ -34,11 +35,6 @@ abbrev pub Nonzero : {B : Type 0} → List (Entry B) → Type 0
 Nonzero {B} es = (e : Entry B) → Mem e es → 0 < e.1
 
 module _ {B : Type 0} (same : B → B → Bool) where
-  -- k more paths to c: added to its entry, or a new entry behind the others
-  unfoldable pub addPaths : B → ℕ → List (Entry B) → List (Entry B)
-  addPaths c k [] = (c, k) ∷ []
-  addPaths c k (e ∷ es) = cond (same e.0 c) ((e.0, e.1 + k) ∷ es) (e ∷ addPaths c k es)
-
   pub weight_append : (t : B) (es ds : List (Entry B)) → weight same t (es ++ ds) ≡ weight same t es + weight same t ds
   unfolding weight
   weight_append t es ds = sum_append (λ e. cond (same e.0 t) e.1 0) es ds
@@ -48,13 +44,13 @@ module _ {B : Type 0} (same : B → B → Bool) where
   boards_gather es =
       map-map (λ (e : Entry B). e.0) _ (firsts same (boards es)) ∙ map-id (firsts same (boards es))
 
-  pub boards_add_paths : (c : B) (k : ℕ) (es : List (Entry B)) → boards (addPaths c k es) ≡ addNew same (boards es) c
+  pub boards_add_paths : (c : B) (k : ℕ) (es : List (Entry B)) → boards (addPaths same c k es) ≡ addNew same (boards es) c
   unfolding addPaths addNew
   boards_add_paths c k [] = refl
   boards_add_paths c k (e ∷ es) = go (same e.0 c) (holds same (boards es) c) (boards_add_paths c k es)
     where
-      go : (b h : Bool) → boards (addPaths c k es) ≡ cond h (boards es) (boards es ++ c ∷ [])
-          → boards (cond b ((e.0, e.1 + k) ∷ es) (e ∷ addPaths c k es)) ≡ cond (b || h) (e.0 ∷ boards es) (e.0 ∷ boards es ++ c ∷ [])
+      go : (b h : Bool) → boards (addPaths same c k es) ≡ cond h (boards es) (boards es ++ c ∷ [])
+          → boards (cond b ((e.0, e.1 + k) ∷ es) (e ∷ addPaths same c k es)) ≡ cond (b || h) (e.0 ∷ boards es) (e.0 ∷ boards es ++ c ∷ [])
       go true h ih = refl
       go false true ih = ap (λ (l : List B). e.0 ∷ l) ih
       go false false ih = ap (λ (l : List B). e.0 ∷ l) ih
@@ -120,7 +116,7 @@ module _ {B : Type 0} (same : B → B → Bool) where
 
     -- ---- one child more
 
-    pub weight_add_paths : (t c : B) (k : ℕ) (es : List (Entry B)) → weight same t (addPaths c k es) ≡ weight same t es + cond (same c t) k 0
+    pub weight_add_paths : (t c : B) (k : ℕ) (es : List (Entry B)) → weight same t (addPaths same c k es) ≡ weight same t es + cond (same c t) k 0
     unfolding addPaths weight
     weight_add_paths t c k [] = omega arith
     weight_add_paths t c k (e ∷ es) = go (same e.0 c) refl (weight_add_paths t c k es)
@@ -129,8 +125,8 @@ module _ {B : Type 0} (same : B → B → Bool) where
         plus true = refl
         plus false = refl
 
-        go : (b : Bool) → same e.0 c ≡ b → weight same t (addPaths c k es) ≡ weight same t es + cond (same c t) k 0
-            → weight same t (cond b ((e.0, e.1 + k) ∷ es) (e ∷ addPaths c k es)) ≡ weight same t (e ∷ es) + cond (same c t) k 0
+        go : (b : Bool) → same e.0 c ≡ b → weight same t (addPaths same c k es) ≡ weight same t es + cond (same c t) k 0
+            → weight same t (cond b ((e.0, e.1 + k) ∷ es) (e ∷ addPaths same c k es)) ≡ weight same t (e ∷ es) + cond (same c t) k 0
         go true q ih = omega (arith, plus (same e.0 t), ap (λ (s : B). cond (same s t) k 0) ((tells e.0 c).0 q))
         go false q ih = omega arith
 
@@ -162,9 +158,9 @@ module _ {B : Type 0} (same : B → B → Bool) where
         ∙ ap (λ (l : List B). addNew same l c) (sym (boards_gather es))
 
     -- what is built of the shares one by one is what is built of all
-    pub gather_snoc : (es : List (Entry B)) (c : B) (k : ℕ) → gather same (es ++ (c, k) ∷ []) ≡ addPaths c k (gather same es)
+    pub gather_snoc : (es : List (Entry B)) (c : B) (k : ℕ) → gather same (es ++ (c, k) ∷ []) ≡ addPaths same c k (gather same es)
     gather_snoc es c k =
-        entries_ext (gather same (es ++ (c, k) ∷ [])) (addPaths c k (gather same es))
+        entries_ext (gather same (es ++ (c, k) ∷ [])) (addPaths same c k (gather same es))
         (boards_snoc es c k ∙ sym (boards_add_paths c k (gather same es)))
         (once_gather (es ++ (c, k) ∷ []))
         (λ t. omega (arith, weight_gather t (es ++ (c, k) ∷ []), weight_snoc t es c k, weight_add_paths t c k (gather same es), weight_gather t es))

@@ -19,15 +19,15 @@ use Rattle.cells.specs.Lists.{addFirsts, firsts}
 use Rattle.cells.specs.FirstsLaws.{mem_get_d, so_eq}
 use Rattle.covers.specs.Counts.{Numbering, Exactly, ChildSequence, Entry, boards, sum_of, shares, gather, weight, layer, layers, number_in, node_list_to, fullCount, fullFrom, fullNode, at_node, pieces_of, layerCount}
 use Rattle.covers.specs.Setting.{Setting, CuttingOf, PlacingSequence, childBoards, Laws, SoundPruning, EqualSteps, layerOf, entriesOf, nodesOf, pathCountOf, graphEdges, layerCountTo, layerCountOf, graphCount, tiling_of, cuttingAt}
-use Rattle.covers.specs.NumberingLaws.{numbering_none}
-use Rattle.covers.specs.SumLaws.{sum_append, sum_ext, sum_zero}
-use Rattle.covers.specs.SequenceLaws.{full_pieces, sequence_length, cuttings_numbered}
-use Rattle.covers.specs.ChildLaws.{length_pieces_of, sequence_children, sequences_numbered}
-use Rattle.covers.specs.GatherLaws.{mem_boards, mem_entry, weight_entry}
-use Rattle.covers.specs.LayerLaws.{layers_first}
-use Rattle.covers.specs.SettingLaws.{node_ok, node_reached}
-use Rattle.covers.specs.GraphLaws.{once_nodes, tilings_numbered}
-use Rattle.covers.specs.NodeLaws.{count_number, number_get_d}
+use Rattle.covers.proofs.NumberingLaws.{numbering_none}
+use Rattle.covers.proofs.SumLaws.{sum_append, sum_ext, sum_zero}
+use Rattle.covers.proofs.SequenceLaws.{full_pieces, sequence_length, cuttings_numbered}
+use Rattle.covers.proofs.ChildLaws.{length_pieces_of, sequence_children, sequences_numbered}
+use Rattle.covers.proofs.GatherLaws.{mem_boards, mem_entry, weight_entry}
+use Rattle.covers.proofs.LayerLaws.{layers_first}
+use Rattle.covers.proofs.SettingLaws.{node_ok, node_reached}
+use Rattle.covers.proofs.GraphLaws.{once_nodes, tilings_numbered}
+use Rattle.covers.proofs.NodeLaws.{count_number, number_get_d}
 
 -- ---- the full node
 

@@ -8,16 +8,16 @@ use Rattle.cells.specs.FirstsLaws.{Once, Tells}
 use Rattle.cells.specs.Lists.{holds, firsts}
 use Rattle.covers.specs.Counts.{Numbering, Exactly, fullCount, Chain, ChildSequence, Entry, boards, sum_of, shares, weight, gather, node_list_to, pieces_of}
 use Rattle.covers.specs.Setting.{Setting, CuttingOf, PlacingSequence, childBoards, Laws, SoundPruning, EqualSteps, layerOf, SumRule, nodesOf, pathCountOf, graphEdges, layerCountOf, graphCount, tiling_of, cuttingAt}
-use Rattle.covers.specs.NumberingLaws.{exactly_unique, carry, exactly_pairs, product_of, OneOfEach, exactly_lists}
-use Rattle.covers.specs.SequenceLaws.{sequence_cutting, sequence_unique, sequences_at_most, one_sequence, full_cutting}
-use Rattle.covers.specs.ChildLaws.{child_once}
-use Rattle.covers.specs.LayerLaws.{recurrence}
-use Rattle.covers.specs.OrderLaws.{alike_order, alike_next, alike_next_length, alike_full_count}
-use Rattle.covers.specs.WalkLaws.{tiling_numbers, tiling_chain, chain_tiling}
-use Rattle.covers.specs.SettingLaws.{child_node, node_reached, layer_ok, layer_empty, layers_disjoint, reached_layer}
-use Rattle.covers.specs.GraphLaws.{once_nodes, nodes_found, sum_rule, once_graph, tilings_numbered, path_count_lem}
-use Rattle.covers.specs.NodeLaws.{edge_iff}
-use Rattle.covers.specs.CountLaws.{full_layer_count, full_graph_count, counts_agree, sequences_by_number, cuttings_by_number, full_sequences, none_reached}
+use Rattle.covers.proofs.NumberingLaws.{exactly_unique, carry, exactly_pairs, product_of, OneOfEach, exactly_lists}
+use Rattle.covers.proofs.SequenceLaws.{sequence_cutting, sequence_unique, sequences_at_most, one_sequence, full_cutting}
+use Rattle.covers.proofs.ChildLaws.{child_once}
+use Rattle.covers.proofs.LayerLaws.{recurrence}
+use Rattle.covers.proofs.OrderLaws.{alike_order, alike_next, alike_next_length, alike_full_count}
+use Rattle.covers.proofs.WalkLaws.{tiling_numbers, tiling_chain, chain_tiling}
+use Rattle.covers.proofs.SettingLaws.{child_node, node_reached, layer_ok, layer_empty, layers_disjoint, reached_layer}
+use Rattle.covers.proofs.GraphLaws.{once_nodes, nodes_found, sum_rule, once_graph, tilings_numbered, path_count_lem}
+use Rattle.covers.proofs.NodeLaws.{edge_iff}
+use Rattle.covers.proofs.CountLaws.{full_layer_count, full_graph_count, counts_agree, sequences_by_number, cuttings_by_number, full_sequences, none_reached}
 
 -- ---- 1. Numberings
 

@@ -11,7 +11,7 @@ use Rattle.cells.specs.FirstsLaws.{Once}
 use Rattle.cells.specs.MemberLaws.{once_map}
 use Rattle.covers.specs.Counts.{Numbering, Steps, ChildSequence, piecesFrom, pieces_of}
 use Rattle.covers.specs.Setting.{Setting, Laws, FitsOn, childBoards, PlacingSequence, EqualSteps}
-use Rattle.covers.specs.NumberingLaws.{carry}
+use Rattle.covers.proofs.NumberingLaws.{carry}
 
 -- a list of boards has one board more than steps
 length_pieces_from : {B P : Type 0} (step : B → B → P) (t : B) (us : List B) → length (piecesFrom step t us) ≡ length us

@@ -13,13 +13,14 @@ use Rattle.cells.specs.Lists.{firsts}
 use Rattle.cells.specs.MemberLaws.{map_back}
 use Rattle.covers.specs.Counts.{Numbering, Exactly, Chain, ChildSequence, Entry, boards, sum_of, weight, layers, number_in, parents_of, node_list_to}
 use Rattle.covers.specs.Setting.{Setting, childBoards, Laws, EqualSteps, SumRule, layerOf, nodesOf, pathCountOf, graphEdges}
-use Rattle.covers.specs.NumberingLaws.{carry}
-use Rattle.covers.specs.NodeLaws.{chain_good, chain_map, number_lt, get_d_number, number_get_d, count_number, mem_edges, edge_mem, once_edges, sum_edges}
-use Rattle.covers.specs.GatherLaws.{mem_boards, mem_entry, weight_entry, weight_none}
-use Rattle.covers.specs.LayerLaws.{shares_layers, mem_layer, boards_suc, layer_entry, start_layer}
-use Rattle.covers.specs.ChildLaws.{child_once}
-use Rattle.covers.specs.WalkLaws.{share, sum_parents_of, tiling_numbers}
-use Rattle.covers.specs.SettingLaws.{node_layer, layer_fewer, layer_empty, layer_node, node_ok, child_node, start_node, start_mem, some_node, first_count, once_layers, found_layers, number_layers}
+use Rattle.covers.proofs.NumberingLaws.{carry}
+use Rattle.covers.proofs.NodeLaws.{chain_good, chain_map, number_lt, get_d_number, number_get_d, count_number, mem_edges, edge_mem, once_edges, sum_edges}
+use Rattle.covers.proofs.GatherLaws.{mem_boards, mem_entry, weight_entry, weight_none}
+use Rattle.covers.proofs.LayerLaws.{shares_layers, mem_layer, boards_suc, layer_entry, start_layer}
+use Rattle.covers.proofs.ChildLaws.{child_once}
+use Rattle.covers.specs.Inner.{share}
+use Rattle.covers.proofs.WalkLaws.{sum_parents_of, tiling_numbers}
+use Rattle.covers.proofs.SettingLaws.{node_layer, layer_fewer, layer_empty, layer_node, node_ok, child_node, start_node, start_mem, some_node, first_count, once_layers, found_layers, number_layers}
 
 module _ {B P : Type 0} (G : Setting B P) (L : Laws G) (a : ℕ) (E : EqualSteps G a) (s : B) (ok : G.Ok s) where
   abbrev same : B → B → Bool

@@ -18,49 +18,39 @@ use Rattle.cells.specs.Lists.{holds, addNew, addFirsts, firsts}
 use Rattle.cells.specs.MemberLaws.{mem_flat_map, flat_map_append, flat_map_snoc}
 use Rattle.covers.specs.Setting.{Setting, childBoards, Laws, EqualSteps, nodesOf, graphEdges}
 use Rattle.covers.specs.Counts.{number_in, edgesOf}
-use Rattle.covers.specs.NodeLaws.{number_lt, get_d_number, number_get_d, number_left, edge_mem}
-use Rattle.covers.specs.GraphLaws.{once_nodes, nodes_found, edge_rises}
+use Rattle.covers.specs.Inner.{addChild, addChildren}
+use Rattle.covers.proofs.NodeLaws.{number_lt, get_d_number, number_get_d, number_left, edge_mem}
+use Rattle.covers.proofs.GraphLaws.{once_nodes, nodes_found, edge_rises}
 
 -- ---- one child after another
 
 module _ {B : Type 0} (same : B → B → Bool) where
-  -- one more child of the parent p: a node if it is new, and an edge
-  unfoldable pub addChild : ℕ → B → List B × List (ℕ × ℕ) → List B × List (ℕ × ℕ)
-  unfolding addNew number_in
-  addChild p c g = (addNew same g.0 c, g.1 ++ (p, number_in same (addNew same g.0 c) c) ∷ [])
-
-  -- more children of the parent p, in order
-  unfoldable pub addChildren : ℕ → List B → List B × List (ℕ × ℕ) → List B × List (ℕ × ℕ)
-  unfolding addChild
-  addChildren p [] g = g
-  addChildren p (c ∷ cs) g = addChildren p cs (addChild p c g)
-
   pub add_children_snoc : (p : ℕ) (cs : List B) (c : B) (g : List B × List (ℕ × ℕ))
-      → addChildren p (cs ++ c ∷ []) g ≡ addChild p c (addChildren p cs g)
+      → addChildren same p (cs ++ c ∷ []) g ≡ addChild same p c (addChildren same p cs g)
   unfolding addChildren
   add_children_snoc p [] c g = refl
-  add_children_snoc p (d ∷ cs) c g = add_children_snoc p cs c (addChild p d g)
+  add_children_snoc p (d ∷ cs) c g = add_children_snoc p cs c (addChild same p d g)
 
   -- the nodes: the new children, each where it is first found
-  pub add_children_nodes : (p : ℕ) (cs : List B) (g : List B × List (ℕ × ℕ)) → (addChildren p cs g).0 ≡ addFirsts same g.0 cs
+  pub add_children_nodes : (p : ℕ) (cs : List B) (g : List B × List (ℕ × ℕ)) → (addChildren same p cs g).0 ≡ addFirsts same g.0 cs
   unfolding addChildren addChild addFirsts
   add_children_nodes p [] g = refl
-  add_children_nodes p (c ∷ cs) g = add_children_nodes p cs (addChild p c g)
+  add_children_nodes p (c ∷ cs) g = add_children_nodes p cs (addChild same p c g)
 
   -- the edges: one more for each child
-  pub add_children_count : (p : ℕ) (cs : List B) (g : List B × List (ℕ × ℕ)) → length (addChildren p cs g).1 ≡ length g.1 + length cs
+  pub add_children_count : (p : ℕ) (cs : List B) (g : List B × List (ℕ × ℕ)) → length (addChildren same p cs g).1 ≡ length g.1 + length cs
   unfolding addChildren addChild
   add_children_count p [] g = omega arith
   add_children_count p (c ∷ cs) g =
       omega (
         arith,
         length-append g.1 ((p, number_in same (addNew same g.0 c) c) ∷ []),
-        add_children_count p cs (addChild p c g),
+        add_children_count p cs (addChild same p c g),
       )
 
   -- nothing is lost
   pub add_children_longer : (p : ℕ) (cs : List B) (g : List B × List (ℕ × ℕ))
-      → (length g.0 ≤ length (addChildren p cs g).0) × (length g.1 ≤ length (addChildren p cs g).1)
+      → (length g.0 ≤ length (addChildren same p cs g).0) × (length g.1 ≤ length (addChildren same p cs g).1)
   add_children_longer p cs g = (
     omega (arith, ap length (add_children_nodes p cs g), (length_add_firsts same g.0 cs).0),
     omega (arith, add_children_count p cs g),
@@ -85,11 +75,11 @@ module _ {B : Type 0} (same : B → B → Bool) where
 
   -- where the nodes are the first of a list, the numbers of the edges are those of that list
   pub add_children_edges : Tells same → (ns : List B) (p : ℕ) (cs : List B) (g : List B × List (ℕ × ℕ)) (ss : List B)
-      → ns ≡ addFirsts same g.0 cs ++ ss → (addChildren p cs g).1 ≡ g.1 ++ map (λ c. (p, number_in same ns c)) cs
+      → ns ≡ addFirsts same g.0 cs ++ ss → (addChildren same p cs g).1 ≡ g.1 ++ map (λ c. (p, number_in same ns c)) cs
   unfolding addChildren addChild addFirsts
   add_children_edges tells ns p [] g ss e = sym (append-nil g.1)
   add_children_edges tells ns p (c ∷ cs) g ss e =
-      add_children_edges tells ns p cs (addChild p c g) ss e
+      add_children_edges tells ns p cs (addChild same p c g) ss e
       ∙ append_assoc g.1 ((p, number_in same (addNew same g.0 c) c) ∷ []) (map (λ c. (p, number_in same ns c)) cs)
       ∙ ap (λ (k : ℕ). g.1 ++ (p, k) ∷ map (λ c. (p, number_in same ns c)) cs) (sym number)
     where

@@ -22,9 +22,9 @@ use native.Mathlib.Omega.{arith}
 use Rattle.cells.specs.FirstsLaws.{Once, holds_iff, Tells}
 use Rattle.cells.specs.Lists.{holds, firsts}
 use Rattle.cells.specs.MemberLaws.{map_back, flat_map_append, mem_flat_map}
-use Rattle.covers.specs.GatherLaws.{Nonzero, mem_boards, mem_entry, weight_append, boards_gather, cond_same, cond_other, once_gather, mem_gather, weight_gather, gather_positive}
+use Rattle.covers.proofs.GatherLaws.{Nonzero, mem_boards, mem_entry, weight_append, boards_gather, cond_same, cond_other, once_gather, mem_gather, weight_gather, gather_positive}
 use Rattle.covers.specs.Counts.{layers, Entry, boards, sum_of, shares, weight, layer}
-use Rattle.covers.specs.SumLaws.{sum_single, sum_ext, sum_zero, sum_map, sum_flat_map}
+use Rattle.covers.proofs.SumLaws.{sum_single, sum_ext, sum_zero, sum_map, sum_flat_map}
 
 -- ---- the children of a layer
 

@@ -18,9 +18,9 @@ use Rattle.cells.specs.FirstsLaws.{Once, mem_cases, mem_firsts, once_firsts, Tel
 use Rattle.cells.specs.Lists.{firsts}
 use Rattle.cells.specs.MemberLaws.{once_length}
 use Rattle.covers.specs.Counts.{fullCount, Entry, boards, sum_of, shares, weight, gather}
-use Rattle.covers.specs.SumLaws.{sum_ext, sum_zero, sum_single, sum_plus, sum_times}
-use Rattle.covers.specs.GatherLaws.{Nonzero, mem_boards, mem_entry, once_gather, gather_positive, cond_same, cond_other, weight_none, weight_entry, weight_least, weight_gather}
-use Rattle.covers.specs.LayerLaws.{weight_shares, shares_positive}
+use Rattle.covers.proofs.SumLaws.{sum_ext, sum_zero, sum_single, sum_plus, sum_times}
+use Rattle.covers.proofs.GatherLaws.{Nonzero, mem_boards, mem_entry, once_gather, gather_positive, cond_same, cond_other, weight_none, weight_entry, weight_least, weight_gather}
+use Rattle.covers.proofs.LayerLaws.{weight_shares, shares_positive}
 
 cond_times : (b : Bool) (k : ℕ) → cond b k 0 ≡ k * cond b 1 0
 cond_times true k = sym (mul-one k)

@@ -1,0 +1,19 @@
+-- `Theorems` is what is proved; the rest are laws, among them that sets of cells meet the laws of a setting (`CellSetLaws`), and examples.
+pub mod Theorems
+pub mod NumberingLaws
+pub mod SequenceLaws
+pub mod ChildLaws
+pub mod SumLaws
+pub mod GatherLaws
+pub mod NodeLaws
+pub mod LayerLaws
+pub mod OrderLaws
+pub mod WalkLaws
+pub mod SettingLaws
+pub mod GraphLaws
+pub mod FindingLaws
+pub mod PassLaws
+pub mod CountLaws
+pub mod CellSetLaws
+pub mod ExamplePlots
+pub mod Examples
