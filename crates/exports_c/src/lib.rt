@@ -1,6 +1,7 @@
 // The static library for hosts in C or Rust: the functions of the crate `exports` under their names, with
 // their clauses. A crate is a library or a static library, so this one only hands on.
 #![tactic(auto)]
+
 ghost use Rattle.std.specs.Prelude.{length};
 ghost use Rattle.graph.specs.Graph.{layer_room};
 ghost use Rattle.host_plots.specs.Calls.{placed, orbit_for, read_file, AnswersPlot};
@@ -46,7 +47,9 @@ pub extern "C" fn cuttings_count_tilings(
         boards_a.old counts_a.old boards_b.old counts_b.old answer.old
         boards_a.new counts_a.new boards_b.new counts_b.new answer.new result }
 {
-    exports::cuttings_count_tilings(width, height, marks, tiles, boards_a, counts_a, boards_b, counts_b, answer)
+    exports::cuttings_count_tilings(
+        width, height, marks, tiles, boards_a, counts_a, boards_b, counts_b, answer,
+    )
 }
 
 // The figure called cuttings: 1 for a board with no free cell, otherwise the layer count. The lent
@@ -68,7 +71,9 @@ pub extern "C" fn cuttings_count_cuttings(
         boards_a.old counts_a.old boards_b.old counts_b.old answer.old
         boards_a.new counts_a.new boards_b.new counts_b.new answer.new result }
 {
-    exports::cuttings_count_cuttings(width, height, marks, tiles, boards_a, counts_a, boards_b, counts_b, answer)
+    exports::cuttings_count_cuttings(
+        width, height, marks, tiles, boards_a, counts_a, boards_b, counts_b, answer,
+    )
 }
 
 // The graph: nodes, four words each, a count beside each, and edges, two words each; zeros behind.
