@@ -1,4 +1,3 @@
 -- Laws that only the proofs of this crate's code cite.
 pub mod StepLaws
 pub mod TilesLaws
-pub mod ReaderLaws
