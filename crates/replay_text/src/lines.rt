@@ -55,12 +55,7 @@ fn place_behind(end: usize, filled: usize) -> usize
 }
 
 // The line whose first bytes stand between two places, with nothing read behind them.
-fn read_next(
-    stdin: &mut Stdin,
-    input: &mut [u8],
-    from: usize,
-    filled: usize,
-) -> io::Result<Line>
+fn read_next(stdin: &mut Stdin, input: &mut [u8], from: usize, filled: usize) -> io::Result<Line>
     requires { (from ≤ filled) × (filled ≤ length input.old) }
 {
     let kept = move_to_front(input, from, filled);

@@ -4,9 +4,9 @@ use crate::write::Output;
 use std::io;
 
 // Says `dirty` if a word from a place on is not zero.
-pub fn tell_dirt(output: &mut Output, words: &[u64], from: usize) -> io::Result<()> {
+pub fn tell_dirt(to: &mut Output, words: &[u64], from: usize) -> io::Result<()> {
     if !is_zero_from(words, from) {
-        write::bytes(output, b" dirty")?;
+        write::bytes(to, b" dirty")?;
     }
     Ok(())
 }

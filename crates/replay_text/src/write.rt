@@ -53,62 +53,62 @@ impl Write for Output {
     }
 }
 
-pub fn bytes(output: &mut Output, text: &[u8]) -> io::Result<()> {
-    output.write_all(text)
+pub fn bytes(to: &mut Output, text: &[u8]) -> io::Result<()> {
+    to.write_all(text)
 }
 
 // The end of a line, with which all that was kept is written.
-pub fn end_line(output: &mut Output) -> io::Result<()> {
-    bytes(output, b"\n")?;
-    output.flush()
+pub fn end_line(to: &mut Output) -> io::Result<()> {
+    bytes(to, b"\n")?;
+    to.flush()
 }
 
-pub fn number(output: &mut Output, n: usize) -> io::Result<()> {
-    write!(output, "{n}")
+pub fn number(to: &mut Output, n: usize) -> io::Result<()> {
+    write!(to, "{n}")
 }
 
 // A number of tilings.
-pub fn count(output: &mut Output, n: PathCount) -> io::Result<()> {
+pub fn count(to: &mut Output, n: PathCount) -> io::Result<()> {
     let low = n.low();
-    write!(output, "{low}")
+    write!(to, "{low}")
 }
 
-pub fn refused(output: &mut Output, refusal: Refusal) -> io::Result<()> {
-    bytes(output, b"refused ")?;
-    number(output, refusal.number() as usize)
+pub fn refused(to: &mut Output, refusal: Refusal) -> io::Result<()> {
+    bytes(to, b"refused ")?;
+    number(to, refusal.number() as usize)
 }
 
 // A word in hexadecimal digits, with zeros in front up to a width of 16, or with none.
-fn hex(output: &mut Output, value: u64, width: usize) -> io::Result<()> {
+fn hex(to: &mut Output, value: u64, width: usize) -> io::Result<()> {
     if width == 0 {
-        return write!(output, "{value:x}");
+        return write!(to, "{value:x}");
     }
-    write!(output, "{value:016x}")
+    write!(to, "{value:016x}")
 }
 
 // A word of a number whose higher words are written, in 16 digits; a width of 0 says that all of them
 // were 0, and then a 0 is not written and no other word has zeros in front. Gives the width of the
 // next word.
-fn word(output: &mut Output, value: u64, width: usize) -> io::Result<usize> {
+fn word(to: &mut Output, value: u64, width: usize) -> io::Result<usize> {
     if width == 0 {
         if value == 0 {
             return Ok(0);
         }
     }
-    hex(output, value, width)?;
+    hex(to, value, width)?;
     Ok(16)
 }
 
 // A set of cells as a hexadecimal number with no zeros in front.
-pub fn marks(output: &mut Output, set: Cells) -> io::Result<()> {
-    let second = word(output, set.w3, 0)?;
-    let third = word(output, set.w2, second)?;
-    let last = word(output, set.w1, third)?;
-    hex(output, set.w0, last)
+pub fn marks(to: &mut Output, set: Cells) -> io::Result<()> {
+    let second = word(to, set.w3, 0)?;
+    let third = word(to, set.w2, second)?;
+    let last = word(to, set.w1, third)?;
+    hex(to, set.w0, last)
 }
 
 // The marks of one of some boards, behind a blank.
-pub fn board_at(output: &mut Output, words: &[u64], i: usize) -> io::Result<()> {
-    bytes(output, b" ")?;
-    marks(output, list::get(words, i))
+pub fn board_at(to: &mut Output, words: &[u64], i: usize) -> io::Result<()> {
+    bytes(to, b" ")?;
+    marks(to, list::get(words, i))
 }
