@@ -10,6 +10,7 @@
 // `-` for the empty one; tiles are paths joined by commas, `.` for none. Marks are a hexadecimal
 // number with no zeros in front, cell (row, column) being bit 16 * row + column.
 #![tactic(auto)]
+
 pub mod lines;
 mod places;
 pub mod text;
