@@ -15,7 +15,7 @@ use borrow.Author.Tests.{eq-eqb, ne_eqb, lt-leb, le-leb}
 use Rattle.cells.specs.Lists.{ascii}
 use Rattle.archive.specs.declared.Record.{Record}
 use Rattle.archive.specs.Archive.{number_at, record_in, is_whole}
-use Rattle.archive.specs.ByteLaws.{number_at_drop}
+use Rattle.archive.proofs.ByteLaws.{number_at_drop}
 
 -- ---- whether a record is whole
 

@@ -12,7 +12,7 @@ use borrow.Author.Tests.{le-leb, lt-leb}
 use Rattle.cells.specs.Lists.{padded, ascii}
 use Rattle.archive.specs.declared.Record.{Record}
 use Rattle.archive.specs.Archive.{big_endian, count_held, record_bytes, Outcome, answered, refused_by, outcome_number, handed_back, LeavesOutcome, write_record}
-use Rattle.archive.specs.ByteLaws.{length_big_endian, get_d_big_endian, count_bytes}
+use Rattle.archive.proofs.ByteLaws.{length_big_endian, get_d_big_endian, count_bytes}
 
 -- ---- the mark and the fields of two bytes
 

@@ -18,10 +18,10 @@ use Rattle.archive.specs.declared.candidate.Candidate.{Candidate}
 use Rattle.archive.specs.declared.candidate.Candidate.TheVariants as Candidates
 use Rattle.archive.specs.Inner.{candidate_of}
 use Rattle.archive.specs.Archive.{Outcome, answered, refused_at, refused_by, map_outcome, bind_outcome, or_absent, record_in, is_whole, records_of, replaces, current_of, current_among, count_records, record_at, current_record, record_count_answer}
-use Rattle.archive.specs.FileLaws.{read_cons}
-use Rattle.archive.specs.BrokenLaws.{count_answers, record_answers, count_refused, record_refused, record_absent}
-use Rattle.archive.specs.CurrentLaws.{other_kept}
-use Rattle.archive.specs.StepLaws.{read_from, whole_long, read_none, read_broken, read_whole}
+use Rattle.archive.proofs.FileLaws.{read_cons}
+use Rattle.archive.proofs.BrokenLaws.{count_answers, record_answers, count_refused, record_refused, record_absent}
+use Rattle.archive.proofs.CurrentLaws.{other_kept}
+use Rattle.archive.proofs.StepLaws.{read_from, whole_long, read_none, read_broken, read_whole}
 
 -- ---- which record counts
 

@@ -4,8 +4,9 @@
 // over them once, copies nothing and writes nothing.
 //
 // What each call answers is a definition of specs/Archive.antt; what that means is on the page
-// specs/Theorems.antt.
+// proofs/Theorems.antt.
 #![tactic(auto)]
+
 ghost use Rattle.std.specs.Prelude.{◌≡◌, length};
 ghost use Rattle.refusal.specs.Refusal.{verdict_number};
 ghost use Rattle.archive.specs.Archive.{count_records, record_at, current_record, write_record, record_count_answer, record_answer, LeavesOutcome};

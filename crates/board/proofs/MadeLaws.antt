@@ -13,7 +13,7 @@ use Rattle.direction.specs.Direction.{Position, at}
 use Rattle.refusal.specs.declared.Verdict.TheVariants as Verdicts
 use Rattle.refusal.specs.Refusal.{Answer, refused, refusal_of, value_or, verdict_number}
 use Rattle.rectangle.specs.Board.{board_at, Board, no_board, cell_of, below, inside, marks, free_at, size_ok, valid, lay}
-use Rattle.rectangle.specs.BoardLaws.{size_ok_wide, size_ok_high, inside_iff, is_marked_marks, valid_width, valid_height}
+use Rattle.rectangle.proofs.BoardLaws.{size_ok_wide, size_ok_high, inside_iff, is_marked_marks, valid_width, valid_height}
 use Rattle.board.specs.Board.{of_marks, board_of, shape_mark, shaped, l_board, t_board, fix_at, with_hole, MakesBoard}
 use Rattle.board.specs.HoleLaws.{with_hole_given}
 use Rattle.board.specs.declared.RectangularBoard.{RectangularBoard}

@@ -13,7 +13,7 @@ use Rattle.cells.specs.Lists.{all_below}
 use Rattle.cells.specs.BitLaws.{bit_high, bit_from_bits, from_bits_lt}
 use Rattle.cells.specs.SetLaws.{digit}
 use Rattle.rectangle.specs.Board.{Board, position_of, inside, is_marked, free_at, is_free, free_set, free_count, size_ok, mark_ok, valid}
-use Rattle.rectangle.specs.BoardLaws.{cell_of_position_of}
+use Rattle.rectangle.proofs.BoardLaws.{cell_of_position_of}
 use Rattle.board.specs.Board.{shape_mark}
 
 -- ---- the marks of a shape

@@ -16,7 +16,7 @@ use Rattle.refusal.specs.declared.Refusal.{Refusal}
 use Rattle.refusal.specs.declared.Verdict.{Verdict}
 use Rattle.refusal.specs.declared.Verdict.TheVariants as Verdicts
 use Rattle.rectangle.specs.Board.{board_at, Board, position_of, inside, is_marked, size_ok, mark_ok, valid}
-use Rattle.rectangle.specs.BoardLaws.{accept_board_given, accept_board_refused, accept_board_accepted, accept_board_is, accept_board_positive}
+use Rattle.rectangle.proofs.BoardLaws.{accept_board_given, accept_board_refused, accept_board_accepted, accept_board_is, accept_board_positive}
 use Rattle.board.specs.declared.RectangularBoard.{RectangularBoard}
 use Rattle.board.specs.Board.{board_of, of_marks, read_board, shape_mark, shaped}
 

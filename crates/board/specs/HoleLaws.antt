@@ -14,7 +14,7 @@ use Rattle.direction.specs.Direction.{Position, at}
 use Rattle.refusal.specs.Refusal.{refused, given, bind_answer}
 use Rattle.refusal.specs.RefusalLaws.{refused_given, refused_inj, given_inj}
 use Rattle.rectangle.specs.Board.{Board, cell_of, position_of, inside, is_marked, free_at, is_free, free_set, free_count, mark_ok, valid, accept_board}
-use Rattle.rectangle.specs.BoardLaws.{accept_board_given, accept_board_refused, cell_of_lt, cell_of_position_of, position_of_cell_of, free_at_inside, valid_size, valid_mark, valid_width, valid_height, has_cell_free_set, free_set_lt}
+use Rattle.rectangle.proofs.BoardLaws.{accept_board_given, accept_board_refused, cell_of_lt, cell_of_position_of, position_of_cell_of, free_at_inside, valid_size, valid_mark, valid_width, valid_height, has_cell_free_set, free_set_lt}
 use Rattle.choice.specs.Choice.{count_of}
 use Rattle.board.specs.Board.{fix_at, with_hole}
 

@@ -21,7 +21,7 @@ use Rattle.tile.specs.Path.{Path}
 use Rattle.tiles.specs.Paths.{paths_in, read_tiles}
 use Rattle.tiles.specs.ReadLaws.{read_tiles_accepted}
 use Rattle.rectangle.specs.Board.{Board, valid, accept_board}
-use Rattle.rectangle.specs.BoardLaws.{accept_board_given, accept_board_is, accept_board_positive}
+use Rattle.rectangle.proofs.BoardLaws.{accept_board_given, accept_board_is, accept_board_positive}
 use Rattle.board.specs.declared.RectangularBoard.{RectangularBoard}
 use Rattle.board.specs.Board.{board_of, read_board}
 use Rattle.children.specs.declared.Children.TheVariants as C

@@ -25,10 +25,10 @@ use Rattle.tiles.specs.declared.Contains.{Contains}
 use Rattle.tiles.specs.declared.Contains.TheVariants as Contained
 use Rattle.tiles.specs.ReadLaws.{sound_tile}
 use Rattle.rectangle.specs.Board.{valid, marks, Board}
-use Rattle.rectangle.specs.BoardLaws.{valid_width, valid_size}
+use Rattle.rectangle.proofs.BoardLaws.{valid_width, valid_size}
 use Rattle.fit.specs.Parts.{fit_in}
 use Rattle.fit.specs.Fit.{fit_at, fits_of}
-use Rattle.fit.specs.FitForLaws.{fit_in_is_fit_for, fit_for_fit}
+use Rattle.fit.proofs.FitForLaws.{fit_in_is_fit_for, fit_for_fit}
 use Rattle.choice.specs.Choice.{chosen_answer, chosen_count, chosen, count_of}
 use Rattle.choice.specs.Parts.{chosen_for}
 use Rattle.choice.specs.declared.ChosenCell.{ChosenCell}

@@ -19,11 +19,11 @@ use Rattle.cells.specs.Lists.{firsts}
 use Rattle.cells.specs.MemberLaws.{map_ext, once_map}
 use Rattle.tile.specs.Path.{Path, cell_count}
 use Rattle.rectangle.specs.Board.{Board, marks, is_full, valid, lay}
-use Rattle.rectangle.specs.BoardLaws.{marks_lt, valid_width, valid_height}
+use Rattle.rectangle.proofs.BoardLaws.{marks_lt, valid_width, valid_height}
 use Rattle.fit.specs.Fit.{IsPiece, fits_of, pieces}
 use Rattle.fit.specs.Parts.{most_children}
-use Rattle.fit.specs.PieceLaws.{fits_are_pieces, pieces_are_pieces, mem_pieces, once_pieces, length_pieces}
-use Rattle.fit.specs.LayLaws.{marks_lay, size_child}
+use Rattle.fit.proofs.PieceLaws.{fits_are_pieces, pieces_are_pieces, mem_pieces, once_pieces, length_pieces}
+use Rattle.fit.proofs.LayLaws.{marks_lay, size_child}
 use Rattle.choice.specs.Choice.{chosen}
 use Rattle.choice.specs.ChosenLaws.{full_iff}
 use Rattle.children.specs.Children.{pruned, children}

@@ -18,7 +18,7 @@ use Rattle.rectangle.specs.declared.Place.{Place}
 use Rattle.rectangle.specs.declared.Place.TheVariants as P
 use Rattle.rectangle.specs.Board.{position_of, inside}
 use Rattle.rectangle.specs.Parts.{place_answer, place_if, place_after}
-use Rattle.rectangle.specs.PlaceLaws.{place_false, place_placed, placed_cell, place_after_is}
+use Rattle.rectangle.proofs.PlaceLaws.{place_false, place_placed, placed_cell, place_after_is}
 use Rattle.choice.specs.declared.ChosenCell.{ChosenCell}
 use Rattle.choice.specs.declared.ChosenCell.TheVariants as H
 use Rattle.choice.specs.Inner.{array_count, Looked, found_of}

@@ -14,7 +14,7 @@ use Rattle.cells.specs.ArrayLaws.{get_d_list_of}
 use Rattle.refusal.specs.Refusal.{given}
 use Rattle.rectangle.specs.Board.{size_ok, cell_of, position_of}
 use Rattle.rectangle.specs.Parts.{free_in}
-use Rattle.rectangle.specs.BoardLaws.{size_ok_le, inside_iff, cell_of_position_of}
+use Rattle.rectangle.proofs.BoardLaws.{size_ok_le, inside_iff, cell_of_position_of}
 use Rattle.choice.specs.declared.ChosenCell.{ChosenCell}
 use Rattle.choice.specs.Inner.{array_count, open_in, found_of}
 use Rattle.choice.specs.Choice.{neighbour_count, columns, best_of, cell_with_count_by, chosen_answer}

@@ -26,7 +26,7 @@ use Rattle.refusal.specs.Refusal.{Answer, refused, given, refusal_number}
 use Rattle.refusal.specs.declared.Refusal.{Refusal}
 use Rattle.rectangle.specs.Board.{marks, valid, size_ok, Board, position_of, is_free, is_full}
 use Rattle.rectangle.specs.Parts.{free_in}
-use Rattle.rectangle.specs.BoardLaws.{full_none, none_full, valid_width, valid_height, free_inside, free_in_free_at, valid_size}
+use Rattle.rectangle.proofs.BoardLaws.{full_none, none_full, valid_width, valid_height, free_inside, free_in_free_at, valid_size}
 use Rattle.choice.specs.declared.ChosenCell.{ChosenCell}
 use Rattle.choice.specs.declared.ChosenCell.TheVariants as H
 use Rattle.choice.specs.Choice.{chosen_count, cell_with_count, chosen_answer, count_of, columns, higher, best_of, chosen, has_four}

@@ -11,8 +11,8 @@ use borrow.Author.Tests.{eqb-true}
 use Rattle.refusal.specs.Refusal.{refused, given}
 use Rattle.tile.specs.Path.{Path}
 use Rattle.rectangle.specs.Board.{Board, marks, free_count, is_full, valid}
-use Rattle.rectangle.specs.BoardLaws.{full_none, none_full, valid_width, valid_height, free_inside}
-use Rattle.rectangle.specs.FreeLaws.{free_lt}
+use Rattle.rectangle.proofs.BoardLaws.{full_none, none_full, valid_width, valid_height, free_inside}
+use Rattle.rectangle.proofs.FreeLaws.{free_lt}
 use Rattle.choice.specs.Choice.{chosen}
 use Rattle.choice.specs.ChosenLaws.{chosen_best, full_iff}
 use Rattle.children.specs.Children.{free_count_at}
@@ -20,11 +20,11 @@ use Rattle.covers.specs.Counts.{Numbering}
 use Rattle.covers.proofs.Theorems.{full_has_one, numbering_carried}
 use Rattle.expansion.specs.Boards.{setting}
 use Rattle.expansion.specs.Plots.{IsCutting, HasFreeCell}
-use Rattle.expansion.specs.SettingLaws.{setting_laws, start_at_lem, start_ok}
-use Rattle.expansion.specs.CuttingLaws.{cutting_start}
+use Rattle.expansion.proofs.SettingLaws.{setting_laws, start_at_lem, start_ok}
+use Rattle.expansion.proofs.CuttingLaws.{cutting_start}
 use Rattle.layers.specs.LayerCounts.{layer_count_for}
-use Rattle.layers.specs.CountLaws.{layers_setting}
-use Rattle.layers.specs.RunLaws.{layers_full, layers_no_room}
+use Rattle.layers.proofs.CountLaws.{layers_setting}
+use Rattle.layers.proofs.RunLaws.{layers_full, layers_no_room}
 
 -- ---- free cells
 

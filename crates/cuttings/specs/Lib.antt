@@ -1,7 +1,4 @@
--- The specification of `cuttings`. `Cuttings` holds the definitions that the contracts of `count_cuttings_from_layers` and of `tiler::count_cuttings` cite, `Theorems` says what the
--- figure means; the others hold laws, and examples that compute.
+-- The specification of `cuttings`. `Cuttings` holds the definitions that the contracts of `count_cuttings_from_layers` and of `tiler::count_cuttings` cite, `FullLaws` laws.
+-- `Theorems` of proofs/ says what the figure means.
 pub mod Cuttings
 pub mod FullLaws
-pub mod CuttingLaws
-pub mod Theorems
-pub mod Examples

@@ -3,7 +3,7 @@
 // is `tiler::count_cuttings`.
 //
 // What is answered is a definition of specs/Cuttings.antt, and what it means is on
-// specs/Theorems.antt.
+// proofs/Theorems.antt.
 #![tactic(auto)]
 ghost use Rattle.std.specs.Prelude.{◌≡◌, cond};
 ghost use Rattle.path_count.specs.PathCounts.{count_value};

@@ -24,8 +24,8 @@ use Rattle.rectangle.specs.declared.Place.{Place}
 use Rattle.rectangle.specs.declared.Place.TheVariants as P
 use Rattle.rectangle.specs.Board.{cell_of, inside}
 use Rattle.rectangle.specs.Parts.{free_in, place_answer, place_if, place_after}
-use Rattle.rectangle.specs.BoardLaws.{inside_iff}
-use Rattle.rectangle.specs.PlaceLaws.{Placed, place_false, place_placed, place_true, placed, placed_cell, place_after_is}
+use Rattle.rectangle.proofs.BoardLaws.{inside_iff}
+use Rattle.rectangle.proofs.PlaceLaws.{Placed, place_false, place_placed, place_true, placed, placed_cell, place_after_is}
 use Rattle.fit.specs.declared.Fit.{Fit}
 use Rattle.fit.specs.declared.Fit.TheVariants as F
 use Rattle.fit.specs.Fit.{cover, moved, offset, point_at}

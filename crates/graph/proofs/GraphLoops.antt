@@ -15,7 +15,7 @@ use Rattle.refusal.specs.declared.Refusal.TheVariants as R
 use Rattle.graph.specs.declared.Edges.TheVariants as E
 use Rattle.graph.specs.Graph.{node_part, edge_at, edges_in, edges_from, get_edges, GetsEdges}
 use Rattle.graph.specs.Inner.{StandsIn}
-use Rattle.graph.specs.GraphLaws.{edges_from_more, edges_from_other, cleared_numbers}
+use Rattle.graph.proofs.GraphLaws.{edges_from_more, edges_from_other, cleared_numbers}
 
 -- ---- the part of a node
 

@@ -16,7 +16,7 @@ use Rattle.tiles.specs.declared.Tiles.{Tiles}
 use Rattle.board.specs.declared.RectangularBoard.{RectangularBoard}
 use Rattle.path_count.specs.PathCountLaws.{cleared_counts_for}
 use Rattle.graph.specs.Graph.{edges_for}
-use Rattle.graph.specs.GraphLaws.{cleared_edges}
+use Rattle.graph.proofs.GraphLaws.{cleared_edges}
 use Rattle.layers.proofs.StartLaws.{cleared_zeros}
 use Rattle.tiler.specs.Graphs.{Graph, generate_graph}
 use Rattle.host_words.specs.Layout.{board_in, plot_shape, unless, AnswersWords}

@@ -28,7 +28,7 @@ use Rattle.cells.specs.ArrayLaws.{padded_zero}
 use Rattle.cells.specs.Lists.{padded, words_for}
 use Rattle.plot_file.specs.declared.MadePlot.{MadePlot}
 use Rattle.plot_file.specs.PlotFile.{Plot, no_plot, plot_in, ReadsPlot}
-use Rattle.plot_file.specs.Theorems.{accepted_plot}
+use Rattle.plot_file.proofs.Theorems.{accepted_plot}
 use Rattle.host_words.specs.Layout.{board_words, AnswersWords, AnswersList}
 use Rattle.host_words.specs.AnswerLaws.{numbers_one, tells_one, tells_no, tells_struct}
 use Rattle.host_tiles.specs.TileBytes.{bytes_for, struct_bytes}

@@ -23,7 +23,7 @@ use Rattle.cells.specs.Lists.{padded}
 use Rattle.numbered_tilings.specs.declared.Tiling.{Tiling}
 use Rattle.numbered_tilings.specs.declared.Tiling.TheVariants as T
 use Rattle.numbered_tilings.specs.Tilings.{tiling_by_number, tiling_answer, GivesTiling}
-use Rattle.numbered_tilings.specs.TilingLaws.{number_capped}
+use Rattle.numbered_tilings.proofs.TilingLaws.{number_capped}
 use Rattle.single_tiling.specs.declared.SingleTiling.{SingleTiling}
 use Rattle.single_tiling.specs.declared.SingleTiling.TheVariants as S
 use Rattle.single_tiling.specs.SingleTiling.{read_search, number_found, single_answer, GetsSingleTiling}

@@ -11,7 +11,7 @@ use Rattle.refusal.specs.declared.Verdict.{Verdict}
 use Rattle.refusal.specs.declared.Verdict.TheVariants as Verdicts
 use Rattle.refusal.specs.Refusal.{Answer, refused, given, map_answer, refusal_number, refusal_of, value_or, verdict_number}
 use Rattle.refusal.specs.RefusalLaws.{refusal_number_pos, map_given}
-use Rattle.graph.specs.GraphLaws.{cleared_numbers}
+use Rattle.graph.proofs.GraphLaws.{cleared_numbers}
 use Rattle.host_words.specs.Layout.{unless, AnswersWords}
 
 -- ---- words in order

@@ -19,13 +19,13 @@ use Rattle.numbered_tilings.specs.declared.Tiling.TheVariants as T
 use Rattle.cells.specs.Lists.{padded}
 use Rattle.graph.specs.Graph.{layer_room, complete_node, count_from_graph, marked_pieces_in}
 use Rattle.numbered_tilings.specs.Tilings.{bad_graph, node_list_in, tiling_by_number, GivesTiling}
-use Rattle.numbered_tilings.specs.TilingLaws.{tiling_given, list_read}
+use Rattle.numbered_tilings.proofs.TilingLaws.{tiling_given, list_read}
 use Rattle.tiler.specs.declared.MadeGraph.{MadeGraph}
 use Rattle.path_count.specs.PathCounts.{count_limit}
 use Rattle.layers.specs.LayerCounts.{count_tilings}
 use Rattle.tiler.specs.Graphs.{GeneratesGraph}
 use Rattle.expansion.specs.Plots.{IsCutting, HasFreeCell, AllEdgeJoined}
-use Rattle.layers.specs.CountLaws.{layers_small, count_cuttings_lem}
+use Rattle.layers.proofs.CountLaws.{layers_small, count_cuttings_lem}
 use Rattle.tiler.specs.NumberLaws.{words_length}
 use Rattle.tiler.specs.Theorems.{own_graph_is_sound, calls_agree}
 use Rattle.tiler.specs.CuttingTheorems as Demand

@@ -12,7 +12,7 @@ use Rattle.board.specs.Board.{board_of}
 use Rattle.covers.specs.Counts.{Exactly}
 use Rattle.graph.specs.Graph.{layer_room}
 use Rattle.expansion.specs.Plots.{IsCutting}
-use Rattle.cuttings.specs.Theorems.{CutsBoth}
+use Rattle.cuttings.proofs.Theorems.{CutsBoth}
 use Rattle.host_words.specs.Layout.{board_in}
 use Rattle.host_tiles.specs.TileBytes.{tiles_in}
 use Rattle.host_counts.specs.Calls.{cuttings_counted, AnswersCount}

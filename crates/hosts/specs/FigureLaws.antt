@@ -21,8 +21,8 @@ use Rattle.path_count.specs.PathCounts.{count_limit}
 use Rattle.expansion.specs.Plots.{IsCutting, HasFreeCell, AllEdgeJoined}
 use Rattle.layers.specs.LayerCounts.{count_tilings}
 use Rattle.cuttings.specs.Cuttings.{cuttings_of, count_cuttings}
-use Rattle.cuttings.specs.CuttingLaws.{free_of, full_given}
-use Rattle.cuttings.specs.Theorems.{free_is_layer_count, figure_fits, figure_is_cuttings}
+use Rattle.cuttings.proofs.CuttingLaws.{free_of, full_given}
+use Rattle.cuttings.proofs.Theorems.{free_is_layer_count, figure_fits, figure_is_cuttings}
 use Rattle.host_words.specs.Layout.{board_in, plot_shape, unless, AnswersWords}
 use Rattle.host_tiles.specs.TileBytes.{tiles_in}
 use Rattle.host_counts.specs.Calls.{counted, cuttings_counted}

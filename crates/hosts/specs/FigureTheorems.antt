@@ -15,7 +15,7 @@ use Rattle.covers.proofs.Theorems.{number_of_pairs}
 use Rattle.graph.specs.Graph.{layer_room}
 use Rattle.expansion.specs.Plots.{IsCutting, HasFreeCell, AllEdgeJoined}
 use Rattle.cuttings.specs.Cuttings.{count_cuttings}
-use Rattle.cuttings.specs.Theorems.{CutsBoth}
+use Rattle.cuttings.proofs.Theorems.{CutsBoth}
 use Rattle.host_words.specs.Layout.{board_in, plot_shape}
 use Rattle.host_tiles.specs.TileBytes.{tiles_in}
 use Rattle.host_counts.specs.Calls.{counted, cuttings_counted, AnswersCount}

@@ -24,7 +24,7 @@ use Rattle.layers.specs.LayerCounts.{count_tilings}
 use Rattle.tiler.specs.declared.MadeGraph.{MadeGraph}
 use Rattle.tiler.specs.Graphs.{Graph, no_graph, generate_graph, GeneratesGraph}
 use Rattle.plot_file.specs.PlotFile.{Plot, no_plot, plot_in}
-use Rattle.plot_file.specs.Theorems.{accepted_plot, accepted_fixed}
+use Rattle.plot_file.proofs.Theorems.{accepted_plot, accepted_fixed}
 use Rattle.host_words.specs.Layout.{board_in, board_words, result_in, result_words, plot_shape, AnswersWords, AnswersList}
 use Rattle.host_words.specs.LayoutLaws.{plot_right}
 use Rattle.host_tiles.specs.TileBytes.{tile_in, tiles_in, bytes_for}

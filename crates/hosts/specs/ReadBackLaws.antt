@@ -20,7 +20,7 @@ use Rattle.board.specs.Board.{read_board}
 use Rattle.board.specs.BoardLaws.{struct_of, board_struct, read_board_given}
 use Rattle.covers.specs.Counts.{at_node}
 use Rattle.path_count.specs.PathCounts.{count_limit}
-use Rattle.graph.specs.GraphLaws.{take_padded}
+use Rattle.graph.proofs.GraphLaws.{take_padded}
 use Rattle.graph.specs.Graph.{complete_node}
 use Rattle.host_words.specs.Layout.{board_in, board_words, complete_in, result_in, has_node, result_words}
 use Rattle.host_tiles.specs.TileBytes.{tiles_in, bytes_for}

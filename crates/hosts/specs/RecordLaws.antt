@@ -13,9 +13,9 @@ use Rattle.cells.specs.ArrayLaws.{padded_room, padded_empty}
 use Rattle.archive.specs.declared.Record.{Record}
 use Rattle.archive.specs.Archive.{Outcome, answered, refused_at, refused_by, map_outcome, outcome_number, handed_back, LeavesOutcome, record_size, record_bytes, records_of, count_records, record_at, current_among, current_record, write_record}
 use Rattle.archive.specs.Records.{InRange, NotBelow}
-use Rattle.archive.specs.Theorems as Archive
+use Rattle.archive.proofs.Theorems as Archive
 use Rattle.archive.specs.OutcomeLaws.{map_map}
-use Rattle.archive.specs.BrokenLaws.{Kind, value, broken, absent, records_kind, picked_kind, never_absent}
+use Rattle.archive.proofs.BrokenLaws.{Kind, value, broken, absent, records_kind, picked_kind, never_absent}
 use Rattle.host_records.specs.Calls.{record_words, unless_short, records_counted, record_found, current_found}
 use Rattle.host_records.specs.CallLaws.{leaves_as, unless_short_lem, unless_enough}
 

@@ -5,7 +5,7 @@ use Rattle.std.specs.Prelude.{◌≡◌, ◌↔◌, ◌⊎◌, List, [], ◌∷�
 use Rattle.archive.specs.declared.Record.{Record}
 use Rattle.archive.specs.Archive.{answered, refused_at, refused_by, LeavesOutcome, record_size, records_of, record_at, current_record, write_record}
 use Rattle.archive.specs.Records.{InRange}
-use Rattle.archive.specs.Theorems as Archive
+use Rattle.archive.proofs.Theorems as Archive
 use Rattle.host_records.specs.Calls.{record_for, record_words, records_counted, record_found, current_found}
 use Rattle.hosts.specs.RecordLaws as Laws
 

@@ -16,7 +16,7 @@ use Rattle.cells.specs.Lists.{all_below}
 use Rattle.board.specs.declared.RectangularBoard.{RectangularBoard}
 use Rattle.board.specs.Board.{board_of, read_board}
 use Rattle.board.specs.BoardLaws.{read_board_positive}
-use Rattle.rectangle.specs.BoardLaws.{accept_board_positive}
+use Rattle.rectangle.proofs.BoardLaws.{accept_board_positive}
 use Rattle.rectangle.specs.Board.{Board, marks as marksOf, accept_board, free_count}
 use Rattle.children.specs.Children.{children, children_of, place_tile, children_at, free_count_at}
 use Rattle.covers.specs.Counts.{Entry, counts, layer}
@@ -28,7 +28,7 @@ use Rattle.layers.specs.LayerCounts.{too_large, judge_layer, judge_layers, count
 use Rattle.expansion.specs.Plots.{accept_plot}
 use Rattle.single_tiling.specs.SingleTiling.{read_search}
 use Rattle.plot_file.specs.PlotFile.{plot_in}
-use Rattle.plot_file.specs.Theorems.{refusal_positive}
+use Rattle.plot_file.proofs.Theorems.{refusal_positive}
 use Rattle.host_words.specs.Layout.{board_in, result_in, plot_shape, unless, AnswersWords}
 use Rattle.host_words.specs.AnswerLaws.{unless_right}
 use Rattle.host_tiles.specs.TileBytes.{tile_in, tiles_in}

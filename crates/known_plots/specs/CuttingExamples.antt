@@ -34,7 +34,7 @@ use Rattle.tiler.specs.declared.MadeGraph.{MadeGraph}
 use Rattle.expansion.specs.Plots.{accept_plot, IsCutting, HasFreeCell, AllEdgeJoined}
 use Rattle.layers.specs.LayerCounts.{layer_count_for, count_tilings, count_answer, CountsTilings}
 use Rattle.tiler.specs.Graphs.{Graph, graph_for, generate_graph, Makes, GeneratesGraph, count_of_graph}
-use Rattle.layers.specs.CountLaws.{count_cuttings_lem}
+use Rattle.layers.proofs.CountLaws.{count_cuttings_lem}
 use Rattle.cuttings.specs.FullLaws.{full_one_cutting}
 use Rattle.tiler.specs.CuttingTheorems.{number_of_cuttings, gives_a_cutting, different_cuttings, every_cutting_has_its_number}
 use Rattle.known_plots.specs.KnownPlots.{Row, D as dominoes, slanted, rows, map_at, known_tiles_read, known_plots_counted, four_by_two, one_slanted_cutting}

@@ -20,7 +20,7 @@ use Rattle.layers.specs.declared.Count.TheVariants as C
 use Rattle.layers.specs.LayerCounts.{count_tilings}
 use Rattle.expansion.specs.Plots.{accept_plot, IsCutting}
 use Rattle.cuttings.specs.Cuttings.{cuttings_of, count_cuttings, AnswersCuttings}
-use Rattle.cuttings.specs.Theorems.{no_room_is_8, board_and_tiles_first, free_is_layer_count, call_counts_cuttings, CutsBoth, product_is_number_of_pairs, PlotWithFigure, product_is_number_of_lists}
+use Rattle.cuttings.proofs.Theorems.{no_room_is_8, board_and_tiles_first, free_is_layer_count, call_counts_cuttings, CutsBoth, product_is_number_of_pairs, PlotWithFigure, product_is_number_of_lists}
 use Rattle.known_plots.specs.KnownPlots.{D as dominoes, slanted}
 use Rattle.known_plots.specs.Examples.{rectangle, unequal, unequal_tiles_read, two_by_two_counted, no_marks_lem}
 use Rattle.known_plots.specs.CuttingExamples.{has_free_cell, stored_joined, full_board, small_set, full_board_read, full_board_counted, slanted_counted, slanted_free_cell, slanted_not_none}

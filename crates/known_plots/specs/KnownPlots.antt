@@ -26,23 +26,23 @@ use Rattle.board.specs.declared.RectangularBoard.{RectangularBoard}
 use Rattle.rectangle.specs.Board.{Board, board_at, marks, is_full, valid}
 use Rattle.board.specs.Board.{board_of, read_board, new_board, l_board, t_board}
 use Rattle.fit.specs.Fit.{pieces}
-use Rattle.rectangle.specs.BoardLaws.{valid_width, valid_height}
+use Rattle.rectangle.proofs.BoardLaws.{valid_width, valid_height}
 use Rattle.board.specs.BoardLaws.{read_board_given}
-use Rattle.fit.specs.PieceLaws.{mem_pieces}
-use Rattle.fit.specs.LayLaws.{piece_free, piece_iff, piece_some}
+use Rattle.fit.proofs.PieceLaws.{mem_pieces}
+use Rattle.fit.proofs.LayLaws.{piece_free, piece_iff, piece_some}
 use Rattle.covers.specs.Counts.{Exactly}
 use Rattle.covers.specs.Setting.{CuttingOf}
 use Rattle.covers.proofs.NumberingLaws.{exactly_one, one_is, one_only}
 use Rattle.covers.proofs.SequenceLaws.{cutting_add, sequence_cutting}
 use Rattle.path_count.specs.Inner.{count_span}
-use Rattle.graph.specs.RoomLaws.{node_room_plot}
+use Rattle.graph.proofs.RoomLaws.{node_room_plot}
 use Rattle.graph.specs.Graph.{node_room, edge_room, plot_boards, plot_nodes, plot_edges}
 use Rattle.expansion.specs.Boards.{From, setting}
 use Rattle.expansion.specs.Plots.{accept_plot, IsCutting}
 use Rattle.layers.specs.LayerCounts.{layer_count_for, count_tilings}
 use Rattle.tiler.specs.Graphs.{graph_for, generate_graph, count_of_graph}
-use Rattle.expansion.specs.SettingLaws.{fits_piece, lay_adds, lay_from, setting_laws, start_ok}
-use Rattle.expansion.specs.CuttingLaws.{cutting_start}
+use Rattle.expansion.proofs.SettingLaws.{fits_piece, lay_adds, lay_from, setting_laws, start_ok}
+use Rattle.expansion.proofs.CuttingLaws.{cutting_start}
 
 -- ---- the table
 

@@ -28,7 +28,7 @@ use Rattle.cells.specs.declared.list.Found.TheVariants as F
 use Rattle.path_count.specs.PathCounts.{count_limit, count_room, count_in}
 use Rattle.path_count.specs.Parts.{with_count, AddsCount}
 use Rattle.path_count.specs.PathCountLaws.{counts_snoc, counts_set, adds_done}
-use Rattle.graph.specs.GraphLaws.{found_held}
+use Rattle.graph.proofs.GraphLaws.{found_held}
 use Rattle.layers.specs.declared.layer.Layer.{Layer}
 use Rattle.layers.specs.declared.layer.Layer.TheVariants as L
 use Rattle.expansion.specs.Boards.{setting}

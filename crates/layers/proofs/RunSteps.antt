@@ -29,8 +29,8 @@ use Rattle.expansion.specs.Boards.{From, setting, setting_of, Accepted}
 use Rattle.layers.specs.LayerCounts.{judge_layer}
 use Rattle.expansion.specs.Parts.{step_of}
 use Rattle.layers.specs.Inner.{entries_in, HoldsLayer, next_of, count_from, Right, Ready, Grows}
-use Rattle.layers.specs.RunLaws.{count_last, count_short, count_on, ready_next}
-use Rattle.expansion.specs.AcceptedLaws.{step_of_pos, setting_full, accepted_laws, accepted_steps}
+use Rattle.layers.proofs.RunLaws.{count_last, count_short, count_on, ready_next}
+use Rattle.expansion.proofs.AcceptedLaws.{step_of_pos, setting_full, accepted_laws, accepted_steps}
 use Rattle.layers.proofs.LayerLaws.{held_entries, held_large, held_fits, held_no_room}
 
 -- ---- entries in lent words

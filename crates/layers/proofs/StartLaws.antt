@@ -25,7 +25,7 @@ use Rattle.board.specs.declared.FreeCells.{FreeCells}
 use Rattle.board.specs.declared.FreeCells.TheVariants as F
 use Rattle.rectangle.specs.Board.{Board, valid, free_count}
 use Rattle.board.specs.Board.{board_of, read_board, free_cells_answer}
-use Rattle.rectangle.specs.BoardLaws.{marks_lt}
+use Rattle.rectangle.proofs.BoardLaws.{marks_lt}
 use Rattle.board.specs.BoardLaws.{read_board_given}
 use Rattle.covers.specs.Setting.{Setting}
 use Rattle.covers.specs.Counts.{Entry}
@@ -35,10 +35,10 @@ use Rattle.path_count.specs.PathCountLaws.{count_in_same}
 use Rattle.expansion.specs.Boards.{setting, setting_of, start_of, Accepted}
 use Rattle.layers.specs.Inner.{layers_answer, entries_in, count_from, Ready}
 use Rattle.layers.specs.LayerCounts.{count_tilings, layer_count_for}
-use Rattle.layers.specs.CountLaws.{layers_setting}
+use Rattle.layers.proofs.CountLaws.{layers_setting}
 use Rattle.expansion.specs.Plots.{accept_plot}
-use Rattle.layers.specs.RunLaws.{ready_start, layers_from, layers_full, layers_no_room}
-use Rattle.expansion.specs.AcceptedLaws.{setting_full, accepted_laws, accepted_start, accepted_free}
+use Rattle.layers.proofs.RunLaws.{ready_start, layers_from, layers_full, layers_no_room}
+use Rattle.expansion.proofs.AcceptedLaws.{setting_full, accepted_laws, accepted_start, accepted_free}
 
 -- ---- `free_cells`, of an accepted board
 

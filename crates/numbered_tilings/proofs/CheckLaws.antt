@@ -18,10 +18,10 @@ use Rattle.covers.proofs.WalkLaws.{share_same, share_other, sum_parents_of}
 use Rattle.path_count.specs.PathCounts.{count_limit, count_in}
 use Rattle.graph.specs.declared.GraphResult.{GraphResult}
 use Rattle.graph.specs.Graph.{node_room, edge_room, edge_at, complete_node}
-use Rattle.graph.specs.RoomLaws.{edge_room_lem}
-use Rattle.graph.specs.GraphLaws.{edges_in_lent}
+use Rattle.graph.proofs.RoomLaws.{edge_room_lem}
+use Rattle.graph.proofs.GraphLaws.{edges_in_lent}
 use Rattle.numbered_tilings.specs.Tilings.{is_past, bad_edge, sound_count, bad_count, bad_graph}
-use Rattle.numbered_tilings.specs.TilingLaws.{sound_later}
+use Rattle.numbered_tilings.proofs.TilingLaws.{sound_later}
 
 -- ---- one edge, its parent and child read
 

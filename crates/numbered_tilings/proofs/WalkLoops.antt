@@ -27,12 +27,12 @@ use Rattle.path_count.specs.PathCounts.{count_in}
 use Rattle.graph.specs.declared.GraphResult.{GraphResult}
 use Rattle.numbered_tilings.specs.declared.Tiling.{Tiling}
 use Rattle.numbered_tilings.specs.declared.Tiling.TheVariants as T
-use Rattle.graph.specs.RoomLaws.{edge_room_lem}
+use Rattle.graph.proofs.RoomLaws.{edge_room_lem}
 use Rattle.graph.specs.Graph.{edge_at, edges_in, complete_node, count_from_graph}
-use Rattle.graph.specs.GraphLaws.{edges_in_lent, cleared_numbers}
+use Rattle.graph.proofs.GraphLaws.{edges_in_lent, cleared_numbers}
 use Rattle.numbered_tilings.specs.Inner.{walked, Walkable}
 use Rattle.numbered_tilings.specs.Tilings.{bad_graph, node_list_in, tiling_by_number, tiling_answer, GivesTiling, GivesChain}
-use Rattle.numbered_tilings.specs.TilingLaws.{SoundGraph, not_bad_sound, tiling_given, told_tiling, given_chain}
+use Rattle.numbered_tilings.proofs.TilingLaws.{SoundGraph, not_bad_sound, tiling_given, told_tiling, given_chain}
 
 -- ---- the turn among the edges from i on, of n
 

@@ -1,5 +1,3 @@
--- The tiling by number. `Tilings` is what a reader must believe; `Inner` serves private contracts; the rest are laws, and examples.
+-- The tiling by number. `Tilings` is what a reader must believe; `Inner` serves private contracts. Laws and examples stand in proofs/.
 pub mod Tilings
 pub mod Inner
-pub mod TilingLaws
-pub mod Examples

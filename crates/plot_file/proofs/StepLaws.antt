@@ -37,8 +37,8 @@ use Rattle.plot_file.specs.declared.records.Next.TheVariants as N
 use Rattle.plot_file.specs.declared.records.Step.{Step as StepTaken}
 use Rattle.plot_file.specs.PlotFile.{Plot, no_plot, read_mark, read_body, board_body, hole_body, add_tiles, tile_body, Step, more, ended, onward, records, plot_in, ReadsPlot}
 use Rattle.plot_file.specs.Inner.{answer_of, marked_answer, is_board, board_for, tiles_for, ReadsBody, plot_of, Kept, next_answer, Ahead, Reads, board_only, start_at, StepsTo, record_at}
-use Rattle.plot_file.specs.RecordLaws.{read_body_is}
-use Rattle.plot_file.specs.ReadLaws.{read_mark_behind, board_body_at, hole_body_at, tile_body_read, add_tiles_given, add_tiles_many, records_on}
+use Rattle.plot_file.proofs.RecordLaws.{read_body_is}
+use Rattle.plot_file.proofs.ReadLaws.{read_mark_behind, board_body_at, hole_body_at, tile_body_read, add_tiles_given, add_tiles_many, records_on}
 use Rattle.plot_file.proofs.TilesLaws.{count_is, no_paths, none_clean, none_paths, for_paths}
 
 -- ---- answers

@@ -1,3 +1,7 @@
--- Laws that only the proofs of this crate's code cite.
+-- Laws, and examples; `Signed` and `StepLaws` are laws that only the proofs of this crate's code cite.
 pub mod Signed
 pub mod StepLaws
+pub mod BoardLaws
+pub mod FreeLaws
+pub mod PlaceLaws
+pub mod Examples

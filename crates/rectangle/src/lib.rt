@@ -1,6 +1,7 @@
 // The rectangle of a board: sizes, cells, and steps from a place. Nothing is asked of a caller; what
 // each call answers is a definition of specs/: Board.antt for sizes and cells, Parts.antt for steps.
 #![tactic(auto)]
+
 ghost use Rattle.std.specs.Prelude.{◌≡◌};
 ghost use Rattle.direction.specs.Direction.{at};
 ghost use Rattle.rectangle.specs.Board.{position_of, inside, size_ok};

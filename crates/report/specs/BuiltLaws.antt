@@ -7,7 +7,7 @@ use Rattle.tiles.specs.declared.Tiles.{Tiles}
 use Rattle.refusal.specs.Refusal.{given, refusal_of, value_or}
 use Rattle.board.specs.declared.RectangularBoard.{RectangularBoard}
 use Rattle.board.specs.Board.{board_of}
-use Rattle.rectangle.specs.FreeLaws.{free_le}
+use Rattle.rectangle.proofs.FreeLaws.{free_le}
 use Rattle.tiler.specs.declared.MadeGraph.{MadeGraph}
 use Rattle.tiler.specs.Graphs.{Graph, count_of_graph, node_list_of, generate_graph, GeneratesGraph}
 use Rattle.tiler.specs.GivenLaws.{graph_stored}

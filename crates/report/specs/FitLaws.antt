@@ -13,8 +13,8 @@ use Rattle.cells.specs.ArrayLaws.{length_list_of}
 use Rattle.cells.specs.MemberLaws.{mem_list_of}
 use Rattle.refusal.specs.Refusal.{Answer, refused, given}
 use Rattle.rectangle.specs.Board.{free_count}
-use Rattle.rectangle.specs.FreeLaws.{free_le}
-use Rattle.rectangle.specs.BoardLaws.{valid_width, valid_height}
+use Rattle.rectangle.proofs.FreeLaws.{free_le}
+use Rattle.rectangle.proofs.BoardLaws.{valid_width, valid_height}
 use Rattle.tiler.specs.Graphs.{Graph, count_of_graph, node_list_of}
 use Rattle.tiler.specs.NumberLaws.{graph_count_small, list_below}
 use Rattle.path_count.specs.PathCounts.{count_limit}

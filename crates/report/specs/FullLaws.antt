@@ -13,7 +13,7 @@ use Rattle.tiler.specs.Graphs.{Graph, count_of_graph}
 use Rattle.tiler.specs.FullLaws.{only_start, full_graph_given}
 use Rattle.cuttings.specs.Cuttings.{cuttings_of}
 use Rattle.cuttings.specs.FullLaws.{full_layer_count_lem}
-use Rattle.cuttings.specs.CuttingLaws.{full_of}
+use Rattle.cuttings.proofs.CuttingLaws.{full_of}
 use Rattle.covers.specs.Counts.{at_node}
 use Rattle.plot_file.specs.PlotFile.{Plot}
 use Rattle.report.specs.Report.{with_equal_tiles, plot_layers, plot_cuttings, plot_graph, listed, decimal, digits, field, feed, board_line, tiles_line, layers_line, cuttings_line, graph_line, graph_lines, plot_lines}

@@ -19,7 +19,7 @@ use Rattle.board.specs.Board.{board_of, read_board}
 use Rattle.board.specs.BoardLaws.{read_board_is}
 use Rattle.path_count.specs.Inner.{count_span}
 use Rattle.graph.specs.Graph.{layer_room, edge_room, plot_boards, plot_nodes, plot_edges}
-use Rattle.graph.specs.RoomLaws.{layer_room_plot, node_room_plot}
+use Rattle.graph.proofs.RoomLaws.{layer_room_plot, node_room_plot}
 use Rattle.layers.specs.declared.Count.{Count}
 use Rattle.expansion.specs.Plots.{accept_plot}
 use Rattle.layers.specs.LayerCounts.{layer_count_for, count_tilings, count_answer, CountsTilings}

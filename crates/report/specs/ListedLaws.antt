@@ -14,7 +14,7 @@ use Rattle.graph.specs.declared.GraphResult.{GraphResult}
 use Rattle.numbered_tilings.specs.declared.Tiling.{Tiling}
 use Rattle.numbered_tilings.specs.declared.Tiling.TheVariants as T
 use Rattle.numbered_tilings.specs.Tilings.{node_list_in, tiling_answer, GivesTiling}
-use Rattle.numbered_tilings.specs.TilingLaws.{told_tiling, list_read}
+use Rattle.numbered_tilings.proofs.TilingLaws.{told_tiling, list_read}
 use Rattle.tiler.specs.Graphs.{Graph, count_of_graph, node_list_of}
 use Rattle.report.specs.Report.{listed, tiling_line}
 use Rattle.report.specs.Inner.{Puts, Built}

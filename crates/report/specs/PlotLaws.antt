@@ -18,12 +18,12 @@ use Rattle.board.specs.Board.{board_of}
 use Rattle.board.specs.BoardLaws.{struct_of, board_struct, read_board_given}
 use Rattle.covers.specs.Counts.{Exactly, Numbering}
 use Rattle.graph.specs.Graph.{edge_room, plot_boards, plot_nodes, plot_edges}
-use Rattle.layers.specs.CountLaws.{layers_small, count_cuttings_lem}
+use Rattle.layers.proofs.CountLaws.{layers_small, count_cuttings_lem}
 use Rattle.path_count.specs.PathCounts.{count_limit}
 use Rattle.path_count.specs.Inner.{count_span}
 use Rattle.layers.specs.LayerCounts.{count_tilings}
 use Rattle.cuttings.specs.Cuttings.{count_cuttings}
-use Rattle.cuttings.specs.Theorems.{free_is_layer_count, differs_of_full, figure_fits, figure_is_cuttings}
+use Rattle.cuttings.proofs.Theorems.{free_is_layer_count, differs_of_full, figure_fits, figure_is_cuttings}
 use Rattle.tiler.specs.Graphs.{Graph, count_of_graph, generate_graph}
 use Rattle.tiler.specs.Inner.{marked_pieces_of}
 use Rattle.expansion.specs.Plots.{IsCutting, HasFreeCell, AllEdgeJoined}
@@ -33,7 +33,7 @@ use Rattle.tiler.specs.Theorems.{counts_agree}
 use Rattle.plot_file.specs.PlotFile.{Plot}
 use Rattle.report.specs.Report.{plot_layers, plot_cuttings, plot_graph}
 use Rattle.report.specs.Inner.{HoldsPlot}
-use Rattle.graph.specs.RoomLaws.{node_room_plot}
+use Rattle.graph.proofs.RoomLaws.{node_room_plot}
 use Rattle.report.specs.HoldsLaws.{held_board, held_tiles, held_layers, held_cuttings, held_graph}
 
 -- what is known of the plot of an accepted file: its board is accepted and has no laid marks, its fixed marks are a set of 256 cells, and its tiles, at most

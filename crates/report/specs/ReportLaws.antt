@@ -9,7 +9,7 @@ use Rattle.refusal.specs.Refusal.{Answer, refused, given, refusal_number, refusa
 use Rattle.refusal.specs.RefusalLaws.{refused_of}
 use Rattle.plot_file.specs.declared.MadePlot.{MadePlot}
 use Rattle.plot_file.specs.PlotFile.{Plot, plot_in, ReadsPlot}
-use Rattle.plot_file.specs.Theorems.{refusal_positive, read_accepted}
+use Rattle.plot_file.proofs.Theorems.{refusal_positive, read_accepted}
 use Rattle.report.specs.Report.{refused_line, plot_lines, lines_for, report}
 use Rattle.report.specs.Inner.{HoldsPlot}
 

@@ -14,14 +14,14 @@ use Rattle.tiles.specs.Paths.{equal_counts}
 use Rattle.rectangle.specs.Board.{Board, is_full}
 use Rattle.choice.specs.Choice.{count_of}
 use Rattle.covers.specs.Counts.{Exactly, Numbering, Chain}
-use Rattle.graph.specs.GraphLaws.{take_padded}
+use Rattle.graph.proofs.GraphLaws.{take_padded}
 use Rattle.tiler.specs.Graphs.{Graph, count_of_graph, node_list_of}
 use Rattle.tiler.specs.Inner.{marked_pieces_of}
 use Rattle.expansion.specs.Plots.{IsCutting, HasFreeCell, AllEdgeJoined}
 use Rattle.tiler.specs.NumberLaws.{list_chain, list_below}
 use Rattle.plot_file.specs.PlotFile.{Plot, plot_in}
 use Rattle.plot_file.specs.Records.{BoardRecord, Hole, TileRecord, file_of, holed, tiles_held, Holds}
-use Rattle.plot_file.specs.Theorems.{accepted_iff, refusal_listed, accepted_plot, accepted_fixed, four_thousand_settle}
+use Rattle.plot_file.proofs.Theorems.{accepted_iff, refusal_listed, accepted_plot, accepted_fixed, four_thousand_settle}
 use Rattle.report.specs.Report.{plot_layers, plot_cuttings, plot_graph, listed, board_line, tiles_line, plot_lines, lines_for, report, WritesReport}
 use Rattle.report.specs.FitLaws.{longest_text, refused_length, plot_length}
 use Rattle.report.specs.CountLaws as Count

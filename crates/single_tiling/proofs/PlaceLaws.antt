@@ -29,9 +29,9 @@ use Rattle.choice.specs.Choice.{count_of, chosen, cell_with_count, chosen_count,
 use Rattle.children.specs.Children.{pruned}
 use Rattle.fit.specs.Inner.{fit_for}
 use Rattle.fit.specs.Parts.{fit_in, fit_pieces}
-use Rattle.fit.specs.FitForLaws.{fit_in_is_fit_for}
+use Rattle.fit.proofs.FitForLaws.{fit_in_is_fit_for}
 use Rattle.board.specs.BoardLaws.{read_board_given}
-use Rattle.rectangle.specs.BoardLaws.{valid_width}
+use Rattle.rectangle.proofs.BoardLaws.{valid_width}
 use Rattle.children.specs.PruneLaws.{pruned_chosen}
 use Rattle.tiles.specs.ReadLaws.{sound_tile}
 use Rattle.children.proofs.PlacingLaws.{part_path}

@@ -24,7 +24,7 @@ use Rattle.board.specs.declared.RectangularBoard.{RectangularBoard}
 use Rattle.rectangle.specs.Board.{Board, free_count, is_full}
 use Rattle.board.specs.Board.{board_of, free_cells_answer}
 use Rattle.board.specs.BoardLaws.{read_board_given}
-use Rattle.rectangle.specs.FreeLaws.{free_le}
+use Rattle.rectangle.proofs.FreeLaws.{free_le}
 use Rattle.single_tiling.specs.declared.SingleTiling.{SingleTiling}
 use Rattle.single_tiling.specs.declared.SingleTiling.TheVariants as S
 use Rattle.board.specs.declared.FreeCells.{FreeCells}

@@ -26,7 +26,7 @@ use Rattle.fit.specs.declared.Fit.TheVariants as Fits
 use Rattle.rectangle.specs.Board.{Board, marks, free_count, is_full, valid, lay}
 use Rattle.board.specs.Board.{board_of}
 use Rattle.fit.specs.Parts.{fit_pieces}
-use Rattle.rectangle.specs.BoardLaws.{marks_lt}
+use Rattle.rectangle.proofs.BoardLaws.{marks_lt}
 use Rattle.single_tiling.specs.declared.descent.Found.{Found}
 use Rattle.single_tiling.specs.declared.descent.Found.TheVariants as F
 use Rattle.single_tiling.specs.declared.descent.Place.TheVariants as P

@@ -12,7 +12,7 @@ use Rattle.board.specs.Board.{board_of}
 use Rattle.rectangle.specs.Board.{is_full, valid}
 use Rattle.covers.specs.Counts.{Exactly}
 use Rattle.layers.specs.LayerCounts.{count_tilings}
-use Rattle.layers.specs.CountLaws.{layers_count}
+use Rattle.layers.proofs.CountLaws.{layers_count}
 use Rattle.tiler.specs.Theorems.{Reaches, layer_count_is_number_of_sequences, layer_count_of_none, layer_count_of_full_start}
 use Rattle.single_tiling.specs.SingleTiling.{IsTiling}
 use Rattle.single_tiling.specs.TilingLaws.{full_no_tiling, sequence_tiling}

@@ -15,8 +15,8 @@ use Rattle.covers.proofs.SequenceLaws.{free_not_full, sequence_cutting, cutting_
 use Rattle.graph.specs.Graph.{step_piece, marked_pieces}
 use Rattle.expansion.specs.Boards.{setting}
 use Rattle.expansion.specs.Plots.{IsCutting, HasFreeCell, AllEdgeJoined}
-use Rattle.expansion.specs.SettingLaws.{same_children, setting_laws, start_at_lem, start_ok}
-use Rattle.expansion.specs.CuttingLaws.{sound_pruning, cutting_start}
+use Rattle.expansion.proofs.SettingLaws.{same_children, setting_laws, start_at_lem, start_ok}
+use Rattle.expansion.proofs.CuttingLaws.{sound_pruning, cutting_start}
 use Rattle.single_tiling.specs.SingleTiling.{IsTiling}
 use Rattle.single_tiling.specs.TilingLaws.{sequence_tiling}
 

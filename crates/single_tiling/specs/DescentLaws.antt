@@ -18,12 +18,12 @@ use Rattle.rectangle.specs.Board.{Board, board_at, marks, free_count, is_full, v
 use Rattle.fit.specs.Fit.{IsPiece, pieces}
 use Rattle.choice.specs.Choice.{chosen}
 use Rattle.children.specs.Children.{pruned, children, children_at}
-use Rattle.fit.specs.PieceLaws.{pieces_are_pieces}
+use Rattle.fit.proofs.PieceLaws.{pieces_are_pieces}
 use Rattle.children.specs.ChildLaws.{children_pruned, children_full, children_chosen}
-use Rattle.fit.specs.LayLaws.{lay_valid}
+use Rattle.fit.proofs.LayLaws.{lay_valid}
 use Rattle.covers.specs.Counts.{ChildSequence}
 use Rattle.expansion.specs.Boards.{From}
-use Rattle.expansion.specs.SettingLaws.{start_at_lem, start_ok}
+use Rattle.expansion.proofs.SettingLaws.{start_at_lem, start_ok}
 use Rattle.single_tiling.specs.declared.descent.Place.TheVariants as P
 use Rattle.single_tiling.specs.SingleTiling.{Finds}
 use Rattle.single_tiling.specs.Inner.{first_of, in_front, firstTiling, first_tiling_from, single_of, fit_index, place_of, place_for, New}

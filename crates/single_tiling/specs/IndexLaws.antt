@@ -22,10 +22,10 @@ use Rattle.tile.specs.PathLaws.{cell_count_pos}
 use Rattle.rectangle.specs.Board.{Board, position_of, free_count, size_ok, valid, lay}
 use Rattle.fit.specs.Fit.{offset, point_at, IsPiece, fit_at, fits_of, pieces}
 use Rattle.fit.specs.Inner.{fit_for}
-use Rattle.rectangle.specs.BoardLaws.{valid_size}
-use Rattle.fit.specs.PieceLaws.{fit_at_piece}
-use Rattle.fit.specs.FitForLaws.{fit_for_point, fit_for_fit}
-use Rattle.fit.specs.LayLaws.{lay_valid, piece_iff, piece_size, lay_count}
+use Rattle.rectangle.proofs.BoardLaws.{valid_size}
+use Rattle.fit.proofs.PieceLaws.{fit_at_piece}
+use Rattle.fit.proofs.FitForLaws.{fit_for_point, fit_for_fit}
+use Rattle.fit.proofs.LayLaws.{lay_valid, piece_iff, piece_size, lay_count}
 use Rattle.single_tiling.specs.Inner.{or_else, first_of, fit_index}
 use Rattle.single_tiling.specs.FirstLaws.{first_of_append, first_of_flat_map, first_of_firsts, first_join, first_ext, first_miss, first_short}
 

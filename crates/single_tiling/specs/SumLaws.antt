@@ -24,7 +24,7 @@ use Rattle.rectangle.specs.Board.{Board, board_at, marks, free_count, is_full, v
 use Rattle.children.specs.Children.{children_at}
 use Rattle.covers.specs.Counts.{Steps, ChildSequence, sum_of}
 use Rattle.expansion.specs.Boards.{From}
-use Rattle.expansion.specs.SettingLaws.{start_at_lem, start_ok}
+use Rattle.expansion.proofs.SettingLaws.{start_at_lem, start_ok}
 use Rattle.single_tiling.specs.SingleTiling.{IsTiling}
 use Rattle.single_tiling.specs.Inner.{IsSum}
 use Rattle.single_tiling.specs.TilingLaws.{full_zero, child_from, child_tile}

@@ -25,14 +25,14 @@ use Rattle.board.specs.Board.{board_of, read_board}
 use Rattle.board.specs.BoardLaws.{read_board_is}
 use Rattle.fit.specs.Fit.{IsPiece}
 use Rattle.children.specs.Children.{children_at}
-use Rattle.rectangle.specs.BoardLaws.{none_full, free_inside}
+use Rattle.rectangle.proofs.BoardLaws.{none_full, free_inside}
 use Rattle.children.specs.ChildLaws.{child_piece, full_children}
-use Rattle.fit.specs.LayLaws.{piece_iff, piece_size, lay_count}
+use Rattle.fit.proofs.LayLaws.{piece_iff, piece_size, lay_count}
 use Rattle.covers.specs.Counts.{Steps, ChildSequence}
 use Rattle.covers.proofs.NodeLaws.{chain_good}
 use Rattle.expansion.specs.Boards.{From}
-use Rattle.expansion.specs.SettingLaws.{marks_at, lay_at, lay_from, start_at_lem, start_ok}
-use Rattle.expansion.specs.ExpansionLaws.{small_at}
+use Rattle.expansion.proofs.SettingLaws.{marks_at, lay_at, lay_from, start_at_lem, start_ok}
+use Rattle.expansion.proofs.ExpansionLaws.{small_at}
 use Rattle.single_tiling.specs.declared.SingleTiling.{SingleTiling}
 use Rattle.single_tiling.specs.SingleTiling.{IsTiling, Finds, read_search, boards_found, number_found, single_answer, GetsSingleTiling}
 

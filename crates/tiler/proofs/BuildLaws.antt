@@ -21,7 +21,7 @@ use Rattle.tiles.specs.declared.Tiles.{Tiles}
 use Rattle.tiles.specs.Paths.{paths_in}
 use Rattle.board.specs.declared.RectangularBoard.{RectangularBoard}
 use Rattle.board.specs.Board.{board_of}
-use Rattle.rectangle.specs.BoardLaws.{marks_lt}
+use Rattle.rectangle.proofs.BoardLaws.{marks_lt}
 use Rattle.covers.specs.Setting.{Setting, childBoards, Laws, EqualSteps, nodesOf, graphEdges}
 use Rattle.covers.specs.Counts.{number_in}
 use Rattle.covers.proofs.NodeLaws.{number_right}
@@ -31,13 +31,13 @@ use Rattle.covers.proofs.FindingLaws.{add_children_snoc, add_children_longer, fo
 use Rattle.cells.specs.declared.list.Found.{Found}
 use Rattle.cells.specs.declared.list.Found.TheVariants as F
 use Rattle.graph.specs.Graph.{edge_at}
-use Rattle.graph.specs.GraphLaws.{set_edge, found_held}
+use Rattle.graph.proofs.GraphLaws.{set_edge, found_held}
 use Rattle.tiler.specs.declared.building.Growth.{Growth}
 use Rattle.tiler.specs.declared.building.Growth.TheVariants as G
 use Rattle.expansion.specs.Boards.{From, setting, setting_of, start_of, Accepted}
 use Rattle.expansion.specs.Parts.{step_of}
 use Rattle.tiler.specs.Inner.{growth_of, nodes_in, HoldsEdges, HoldsGraph}
-use Rattle.expansion.specs.AcceptedLaws.{accepted_laws, accepted_steps, accepted_start}
+use Rattle.expansion.proofs.AcceptedLaws.{accepted_laws, accepted_steps, accepted_start}
 
 in_lent : (i l : ℕ) → 4 * i + 4 ≤ l → i < l / 4
 in_lent i l h = omega arith

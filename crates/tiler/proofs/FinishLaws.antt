@@ -32,7 +32,7 @@ use Rattle.covers.proofs.SettingLaws.{node_ok}
 use Rattle.covers.proofs.PassLaws.{edge_in}
 use Rattle.graph.specs.Graph.{edge_at, edges_for, node_room, edge_room, complete_node}
 use Rattle.cells.specs.SearchLaws.{first_from_found, first_from_missed}
-use Rattle.graph.specs.GraphLaws.{cleared_edges}
+use Rattle.graph.proofs.GraphLaws.{cleared_edges}
 use Rattle.graph.specs.declared.Complete.TheVariants as N
 use Rattle.tiler.specs.declared.MadeGraph.{MadeGraph}
 use Rattle.tiler.specs.declared.building.Growth.{Growth}
@@ -43,8 +43,8 @@ use Rattle.expansion.specs.Plots.{accept_plot}
 use Rattle.expansion.specs.Parts.{marked_board, step_of}
 use Rattle.layers.specs.LayerCounts.{too_large}
 use Rattle.tiler.specs.Inner.{HoldsGraph, EndsBelow, PassesEdges, Finishes, graph_in}
-use Rattle.expansion.specs.AcceptedLaws.{accepted_laws, accepted_steps, accepted_start}
-use Rattle.graph.specs.RoomLaws.{node_room_lem, edge_room_lem}
+use Rattle.expansion.proofs.AcceptedLaws.{accepted_laws, accepted_steps, accepted_start}
+use Rattle.graph.proofs.RoomLaws.{node_room_lem, edge_room_lem}
 use Rattle.tiler.specs.GivenLaws.{graph_setting}
 use Rattle.tiler.proofs.BuildLaws.{size_held, no_room_held}
 use Rattle.tiler.proofs.PassingLaws.{pass_counts, pass_too_large}
@@ -52,7 +52,7 @@ use Rattle.board.specs.BoardLaws.{read_board_given}
 use Rattle.refusal.specs.RefusalLaws.{refused_given, given_inj}
 use Rattle.path_count.specs.PathCounts.{count_room, counts_for}
 use Rattle.path_count.specs.PathCountLaws.{cleared_counts_for}
-use Rattle.expansion.specs.ExpansionLaws.{marked_from}
+use Rattle.expansion.proofs.ExpansionLaws.{marked_from}
 
 -- ---- the search for the full board's node
 

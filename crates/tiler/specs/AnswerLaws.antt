@@ -17,7 +17,7 @@ use Rattle.tiles.specs.declared.Tiles.{Tiles}
 use Rattle.refusal.specs.Refusal.{Answer, refused, given, bind_answer, refusal_of, value_or}
 use Rattle.refusal.specs.RefusalLaws.{refused_given, given_inj}
 use Rattle.tile.specs.Path.{Path}
-use Rattle.graph.specs.GraphLaws.{length_edges_for, edges_in_edges_for}
+use Rattle.graph.proofs.GraphLaws.{length_edges_for, edges_in_edges_for}
 use Rattle.board.specs.declared.RectangularBoard.{RectangularBoard}
 use Rattle.rectangle.specs.Board.{Board}
 use Rattle.covers.specs.Counts.{Entry, boards, counts, fullFrom, fullNode}
@@ -25,14 +25,14 @@ use Rattle.covers.specs.Setting.{SumRule}
 use Rattle.covers.proofs.CountLaws.{full_node_some, full_node_none}
 use Rattle.graph.specs.Graph.{edges_in, node_room, edge_room}
 use Rattle.tiler.specs.declared.MadeGraph.{MadeGraph}
-use Rattle.graph.specs.RoomLaws.{node_room_lem, edge_room_lem}
+use Rattle.graph.proofs.RoomLaws.{node_room_lem, edge_room_lem}
 use Rattle.path_count.specs.PathCounts.{count_in, count_limit}
 use Rattle.path_count.specs.PathCountLaws.{length_counts_for, count_in_counts_for}
-use Rattle.numbered_tilings.specs.TilingLaws.{SoundGraph}
+use Rattle.numbered_tilings.proofs.TilingLaws.{SoundGraph}
 use Rattle.layers.specs.LayerCounts.{too_large}
 use Rattle.expansion.specs.Plots.{accept_plot}
 use Rattle.tiler.specs.Graphs.{Graph, graph_of, judge_graph, generate_graph, Makes, path_count_at}
-use Rattle.expansion.specs.AcceptedLaws.{plot_refusal}
+use Rattle.expansion.proofs.AcceptedLaws.{plot_refusal}
 
 -- a graph that is given has room, and its counts fit
 pub judged_graph : (room edges_room : ℕ) (g k : Graph) → judge_graph room edges_room g ≡ given k → (g ≡ k) × (length g.nodes ≤ room) × (length g.edges ≤ edges_room) × (too_large g.counts ≡ false)

@@ -13,14 +13,14 @@ use Rattle.tiles.specs.EqualLaws.{read_equal_tiles_given}
 use Rattle.board.specs.declared.RectangularBoard.{RectangularBoard}
 use Rattle.board.specs.Board.{board_of}
 use Rattle.rectangle.specs.Board.{free_count}
-use Rattle.rectangle.specs.FreeLaws.{free_le}
+use Rattle.rectangle.proofs.FreeLaws.{free_le}
 use Rattle.covers.specs.Counts.{Numbering, Exactly}
 use Rattle.path_count.specs.declared.PathCount.{PathCount}
 use Rattle.path_count.specs.PathCounts.{count_limit, count_value}
 use Rattle.numbered_tilings.specs.declared.Tiling.{Tiling}
 use Rattle.graph.specs.Graph.{layer_room, complete_node, count_from_graph, marked_pieces_in}
 use Rattle.numbered_tilings.specs.Tilings.{node_list_in, tiling_answer, GivesTiling}
-use Rattle.numbered_tilings.specs.TilingLaws.{list_read}
+use Rattle.numbered_tilings.proofs.TilingLaws.{list_read}
 use Rattle.layers.specs.declared.Count.{Count}
 use Rattle.tiler.specs.declared.MadeGraph.{MadeGraph}
 use Rattle.layers.specs.LayerCounts.{count_answer, CountsTilings, CountsCuttings}
@@ -28,7 +28,7 @@ use Rattle.tiler.specs.Graphs.{Graph, generate_graph, GeneratesGraph, NumbersCut
 use Rattle.expansion.specs.Plots.{IsCutting, HasFreeCell, AllEdgeJoined}
 use Rattle.tiler.specs.AnswerLaws.{given_graph}
 use Rattle.tiler.specs.GivenLaws.{plot_accepted}
-use Rattle.layers.specs.CountLaws.{counts_cuttings}
+use Rattle.layers.proofs.CountLaws.{counts_cuttings}
 use Rattle.tiler.specs.NumberLaws.{words_count_small, words_cuttings, words_length}
 use Rattle.tiler.specs.Theorems.{calls_agree, own_graph_is_sound}
 

@@ -14,7 +14,7 @@ use Rattle.rectangle.specs.Board.{Board, marks, is_full, valid}
 use Rattle.children.specs.Children.{children, children_at, full_at}
 use Rattle.children.specs.ChildLaws.{full_children}
 use Rattle.covers.specs.Counts.{Entry, boards, counts, layer, layers, number_in, edgesOf, fullFrom, fullNode}
-use Rattle.expansion.specs.SettingLaws.{start_at_lem}
+use Rattle.expansion.proofs.SettingLaws.{start_at_lem}
 use Rattle.cuttings.specs.FullLaws.{none_free}
 use Rattle.layers.specs.LayerCounts.{too_large}
 use Rattle.tiler.specs.Graphs.{Graph, entries_for, graph_of, judge_graph, graph_for}

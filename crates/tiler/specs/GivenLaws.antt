@@ -21,13 +21,13 @@ use Rattle.graph.specs.Graph.{node_room, edge_room, complete_node, count_from_gr
 use Rattle.tiler.specs.declared.MadeGraph.{MadeGraph}
 use Rattle.expansion.specs.Boards.{setting, setting_of, start_of, Accepted}
 use Rattle.layers.specs.LayerCounts.{too_large}
-use Rattle.layers.specs.CountLaws.{small_counts}
+use Rattle.layers.proofs.CountLaws.{small_counts}
 use Rattle.tiler.specs.Inner.{graph_in}
 use Rattle.tiler.specs.Graphs.{Graph, graph_of, judge_graph, generate_graph, Makes, GeneratesGraph, path_count_at, count_of_graph}
 use Rattle.expansion.specs.Parts.{step_of}
-use Rattle.expansion.specs.SettingLaws.{same_children}
-use Rattle.expansion.specs.AcceptedLaws.{accepted_laws, accepted_steps, start_accepted, from_read}
-use Rattle.expansion.specs.ExpansionLaws.{small_at}
+use Rattle.expansion.proofs.SettingLaws.{same_children}
+use Rattle.expansion.proofs.AcceptedLaws.{accepted_laws, accepted_steps, start_accepted, from_read}
+use Rattle.expansion.proofs.ExpansionLaws.{small_at}
 use Rattle.tiler.specs.AnswerLaws.{judged_graph, as_many_lem, HasRoom, counts_back}
 
 -- the graph of a board and tiles is that of their setting

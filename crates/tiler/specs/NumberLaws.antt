@@ -37,8 +37,8 @@ use Rattle.tiler.specs.Inner.{graph_in, marked_pieces_of}
 use Rattle.tiler.specs.Graphs.{Graph, node_list_of, generate_graph, GeneratesGraph, path_count_at, count_of_graph}
 use Rattle.expansion.specs.Plots.{IsCutting, HasFreeCell, AllEdgeJoined}
 use Rattle.expansion.specs.Parts.{step_of}
-use Rattle.expansion.specs.AcceptedLaws.{accepted_free}
-use Rattle.expansion.specs.CuttingLaws.{cuttings_numbered}
+use Rattle.expansion.proofs.AcceptedLaws.{accepted_free}
+use Rattle.expansion.proofs.CuttingLaws.{cuttings_numbered}
 use Rattle.tiler.specs.GivenLaws.{plot_accepted, graph_is, graph_laws, graph_steps, graph_start, nodes_are, graph_sums, graph_count, graph_stored, words_count}
 use Rattle.tiler.specs.Theorems.{path_counts_fit, full_node_is_full, words_are_the_graph}
 

@@ -32,14 +32,14 @@ use Rattle.tiler.specs.declared.MadeGraph.{MadeGraph}
 use Rattle.expansion.specs.Boards.{setting, setting_of, start_of, Accepted}
 use Rattle.path_count.specs.PathCounts.{count_in, count_limit}
 use Rattle.numbered_tilings.specs.Tilings.{bad_graph}
-use Rattle.numbered_tilings.specs.TilingLaws.{sound_not_bad}
+use Rattle.numbered_tilings.proofs.TilingLaws.{sound_not_bad}
 use Rattle.layers.specs.LayerCounts.{count_tilings}
 use Rattle.tiler.specs.Inner.{graph_in}
 use Rattle.tiler.specs.Graphs.{Graph, generate_graph, GeneratesGraph, path_count_at, count_of_graph}
 use Rattle.expansion.specs.Parts.{step_of}
-use Rattle.expansion.specs.SettingLaws.{same_children}
-use Rattle.expansion.specs.AcceptedLaws.{accepted_laws, accepted_steps, accepted_at, start_accepted}
-use Rattle.layers.specs.CountLaws.{layers_count}
+use Rattle.expansion.proofs.SettingLaws.{same_children}
+use Rattle.expansion.proofs.AcceptedLaws.{accepted_laws, accepted_steps, accepted_at, start_accepted}
+use Rattle.layers.proofs.CountLaws.{layers_count}
 use Rattle.tiler.specs.AnswerLaws.{node_behind, given_graph, nodes_back, counts_back, edges_back, sound_words, only_start_lem}
 use Rattle.tiler.specs.GivenLaws.{graph_is, graph_laws, graph_steps, graph_start, nodes_are, nodes_small, graph_sums, graph_room, graph_count, graph_stored, words_count}
 

@@ -6,7 +6,7 @@
 // (`cuttings`), are definitions, of specs/Graphs.antt for the graph and of the crate `cuttings`,
 // specs/Cuttings.antt, for the figure. What follows from the graph's contract and from that of the layer
 // count is on specs/Theorems.antt and specs/CuttingTheorems.antt, what the figure means on the crate
-// `cuttings`' specs/Theorems.antt.
+// `cuttings`' proofs/Theorems.antt.
 #![tactic(auto)]
 ghost use Rattle.cuttings.specs.Cuttings.{AnswersCuttings, IsNumberOfCuttings};
 ghost use Rattle.tiler.specs.Graphs.{GeneratesGraph, NumbersCuttings};

@@ -7,7 +7,7 @@ use native.Mathlib.Omega.{arith}
 use borrow.Author.Rules.{rules}
 use Rattle.cells.specs.Set.{has_cell}
 use Rattle.rectangle.specs.Board.{marks}
-use Rattle.rectangle.specs.BoardLaws.{valid_width, valid_height}
+use Rattle.rectangle.proofs.BoardLaws.{valid_width, valid_height}
 use Rattle.board.specs.Board.{board_of}
 use Rattle.board.specs.HoleLaws.{with_hole_bad}
 use Rattle.board.proofs.MadeLaws.{makes_refused, hole_below, hole_beside, hole_marked, hole_free, makes_hole}

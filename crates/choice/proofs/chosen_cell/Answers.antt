@@ -5,7 +5,7 @@ use mathlib.Core.Bool.{true}
 use borrow.Author.Tests.{not-true, not-false}
 use borrow.Author.Rules.{rules}
 use Rattle.rectangle.specs.Board.{size_ok}
-use Rattle.rectangle.specs.BoardLaws.{size_ok_le}
+use Rattle.rectangle.proofs.BoardLaws.{size_ok_le}
 use Rattle.choice.specs.ChosenLaws.{chosen_for_refused}
 use Rattle.choice.proofs.FoundLaws.{found_is}
 use Rattle.choice.proofs.chosen_cell.Goals as goal

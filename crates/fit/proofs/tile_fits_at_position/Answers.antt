@@ -7,8 +7,8 @@ use borrow.Author.Tests.{not-true, not-false}
 use borrow.Author.Rules.{rules}
 use Rattle.tile.specs.Path.{is_path}
 use Rattle.rectangle.specs.Board.{inside, position_of, size_ok}
-use Rattle.rectangle.specs.BoardLaws.{size_ok_le, inside_iff}
-use Rattle.fit.specs.FitForLaws.{fit_in_size, fit_in_path, fit_in_point, fit_in_outside, fit_in_fit}
+use Rattle.rectangle.proofs.BoardLaws.{size_ok_le, inside_iff}
+use Rattle.fit.proofs.FitForLaws.{fit_in_size, fit_in_path, fit_in_point, fit_in_outside, fit_in_fit}
 use Rattle.fit.proofs.WalkLaws.{path_codes}
 use Rattle.fit.proofs.tile_fits_at_position.Goals as goal
 

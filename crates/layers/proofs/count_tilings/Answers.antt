@@ -1,6 +1,6 @@
 -- `layers::count_tilings` meets its contract: the layers are counted, and then cleared; that the count is the number of cuttings follows. Assumes nothing.
 use Rattle.cells.specs.Set.{Sound}
-use Rattle.layers.specs.CountLaws.{counts_cuttings}
+use Rattle.layers.proofs.CountLaws.{counts_cuttings}
 use Rattle.layers.proofs.StartLaws.{cleared_zeros}
 use borrow.Author.Rules.{rules}
 use Rattle.layers.proofs.count_tilings.Goals as goal

@@ -1,7 +1,7 @@
 -- `rectangle::size_ok` meets its contract: by the width first, then the height.
 -- Assumes nothing.
 use mathlib.Core.Path.{sym}
-use Rattle.rectangle.specs.BoardLaws.{size_ok_wide}
+use Rattle.rectangle.proofs.BoardLaws.{size_ok_wide}
 use Rattle.rectangle.proofs.StepLaws.{size_ok_none, size_ok_flat, size_ok_last}
 use Rattle.rectangle.proofs.size_ok.Goals as goal
 

@@ -4,7 +4,7 @@ use mathlib.Core.Path.{sym, subst}
 use Prim.Native.Nat.{ℕ, ◌≤◌}
 use borrow.Author.Tests.{not-true}
 use Rattle.cells.specs.Set.{Sound}
-use Rattle.rectangle.specs.FreeLaws.{free_le}
+use Rattle.rectangle.proofs.FreeLaws.{free_le}
 use Rattle.single_tiling.proofs.SearchLaws.{searched_held, walk_full, walk_no_sum, walk_first}
 use borrow.Author.Rules.{rules}
 use Rattle.single_tiling.proofs.walk.Goals as goal

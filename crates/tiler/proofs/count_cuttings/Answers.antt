@@ -1,8 +1,8 @@
 -- `tiler::count_cuttings` meets its contract: the layers are worked once, and the figure is told of their count; that it is the number of cuttings follows.
 -- Assumes nothing.
 use Rattle.cells.specs.Set.{Sound}
-use Rattle.cuttings.specs.CuttingLaws.{figure_left}
-use Rattle.cuttings.specs.Theorems.{call_counts_cuttings}
+use Rattle.cuttings.proofs.CuttingLaws.{figure_left}
+use Rattle.cuttings.proofs.Theorems.{call_counts_cuttings}
 use borrow.Author.Rules.{rules}
 use Rattle.tiler.proofs.count_cuttings.Goals as goal
 

@@ -2,7 +2,7 @@
 -- cuttings follows. Assumes nothing.
 use Rattle.cells.specs.Set.{Sound}
 use Rattle.tiler.specs.CuttingTheorems.{graph_numbers_cuttings}
-use Rattle.expansion.specs.ExpansionLaws.{judged_size, judged_refused}
+use Rattle.expansion.proofs.ExpansionLaws.{judged_size, judged_refused}
 use Rattle.tiler.proofs.FinishLaws.{generates_made, generates_refused}
 use borrow.Author.Rules.{rules}
 use Rattle.tiler.proofs.generate_graph.Goals as goal

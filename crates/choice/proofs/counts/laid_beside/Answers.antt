@@ -8,7 +8,7 @@ use native.Mathlib.Omega.{arith}
 use Rattle.direction.specs.Direction.{shift, step}
 use Rattle.rectangle.specs.Board.{inside, position_of}
 use Rattle.rectangle.specs.Parts.{place_answer, place_if}
-use Rattle.rectangle.specs.PlaceLaws.{place_placed}
+use Rattle.rectangle.proofs.PlaceLaws.{place_placed}
 use Rattle.choice.proofs.ChoiceLaws.{beside_step, beside_nowhere, beside_place}
 use Rattle.choice.specs.Choice.{one}
 use Rattle.choice.proofs.counts.laid_beside.Goals as goal

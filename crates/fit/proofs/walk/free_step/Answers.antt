@@ -8,7 +8,7 @@ use native.Mathlib.Omega.{arith}
 use Rattle.direction.specs.Direction.{at, shift, step}
 use Rattle.rectangle.specs.Board.{inside}
 use Rattle.rectangle.specs.Parts.{place_answer, place_if}
-use Rattle.rectangle.specs.PlaceLaws.{place_placed}
+use Rattle.rectangle.proofs.PlaceLaws.{place_placed}
 use Rattle.fit.proofs.WalkLaws.{walk_step, free_nowhere, free_marked, free_open}
 use Rattle.fit.proofs.walk.free_step.Goals as goal
 

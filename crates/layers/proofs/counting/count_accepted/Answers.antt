@@ -5,7 +5,7 @@ use Prim.Native.Nat.{◌^◌, ◌<◌}
 use native.Mathlib.Omega.{arith}
 use Rattle.cells.specs.Set.{number}
 use Rattle.cells.specs.WordLaws.{number_lt}
-use Rattle.graph.specs.RoomLaws.{layer_room_lem}
+use Rattle.graph.proofs.RoomLaws.{layer_room_lem}
 use Rattle.path_count.specs.PathCountLaws.{word_count}
 use Rattle.layers.proofs.LayerLaws.{room_kept}
 use Rattle.layers.proofs.StartLaws.{positive, start_no_room, start_full, start_ready, start_run}

@@ -1,5 +1,5 @@
 -- `layers::counting::counted` meets its contract: what is refused is refused, and the rest is counted. Assumes nothing.
-use Rattle.expansion.specs.ExpansionLaws.{judged_size, judged_refused}
+use Rattle.expansion.proofs.ExpansionLaws.{judged_size, judged_refused}
 use Rattle.layers.proofs.StartLaws.{count_given, count_refused}
 use borrow.Author.Rules.{rules}
 use Rattle.layers.proofs.counting.counted.Goals as goal

@@ -1,7 +1,7 @@
 -- `layers::layer::grow` meets its contract: the part of the array that is lent holds the children of any board.
 -- Assumes nothing.
 use mathlib.Core.Path.{refl}
-use Rattle.expansion.specs.ExpansionLaws.{child_words_lem, child_part}
+use Rattle.expansion.proofs.ExpansionLaws.{child_words_lem, child_part}
 use borrow.Author.Rules.{rules}
 use Rattle.layers.proofs.layer.grow.Goals as goal
 

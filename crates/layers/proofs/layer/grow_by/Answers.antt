@@ -4,7 +4,7 @@ use mathlib.Core.Path.{sym, ap, ◌∙◌, subst}
 use Rattle.board.specs.Board.{board_of}
 use Rattle.covers.specs.Setting.{childBoards}
 use Rattle.expansion.specs.Boards.{From, setting_of}
-use Rattle.expansion.specs.ExpansionLaws.{expanded_children}
+use Rattle.expansion.proofs.ExpansionLaws.{expanded_children}
 use Rattle.layers.proofs.LayerLaws.{grown_by}
 use borrow.Author.Rules.{rules}
 use Rattle.layers.proofs.layer.grow_by.Goals as goal

@@ -1,7 +1,7 @@
 -- `plot_file::bodies::read_body` meets its contract: the length byte is tested first, then that its bytes are there, and then they are a tile (`read_body_at`).
 -- Assumes nothing.
 use native.Mathlib.Omega.{arith}
-use Rattle.plot_file.specs.ReadLaws.{read_body_none, read_body_long, read_body_cut, read_body_at}
+use Rattle.plot_file.proofs.ReadLaws.{read_body_none, read_body_long, read_body_cut, read_body_at}
 use Rattle.plot_file.proofs.StepLaws.{body_refused, body_made}
 use borrow.Author.Rules.{rules}
 use Rattle.plot_file.proofs.bodies.read_body.Goals as goal

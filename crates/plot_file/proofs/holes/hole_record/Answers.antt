@@ -3,7 +3,7 @@
 use Prim.Native.Nat.{◌+◌}
 use native.Mathlib.Omega.{arith}
 use Rattle.plot_file.specs.Inner.{plot_of}
-use Rattle.plot_file.specs.ReadLaws.{hole_body_misplaced, hole_body_cut}
+use Rattle.plot_file.proofs.ReadLaws.{hole_body_misplaced, hole_body_cut}
 use Rattle.plot_file.proofs.StepLaws.{reads_refused, reads_hole}
 use Rattle.plot_file.proofs.TilesLaws.{count_is, no_paths}
 use borrow.Author.Rules.{rules}

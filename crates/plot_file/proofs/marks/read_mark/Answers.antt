@@ -1,7 +1,7 @@
 -- `plot_file::marks::read_mark` meets its contract: the two bytes at the place, if they are there.
 -- Assumes nothing.
 use Rattle.refusal.specs.Refusal.{map_answer}
-use Rattle.plot_file.specs.ReadLaws.{read_mark_cut, read_mark_at}
+use Rattle.plot_file.proofs.ReadLaws.{read_mark_cut, read_mark_at}
 use borrow.Author.Rules.{rules}
 use Rattle.plot_file.proofs.marks.read_mark.Goals as goal
 

@@ -1,6 +1,6 @@
 -- `plot_file::marks::same_pair` meets its contract: the first bytes, and then the second ones.
 -- Assumes nothing.
-use Rattle.plot_file.specs.ReadLaws.{first_same, first_other}
+use Rattle.plot_file.proofs.ReadLaws.{first_same, first_other}
 use Rattle.plot_file.proofs.marks.same_pair.Goals as goal
 
 pub returns-then-a-first : goal.returns-then-a-first

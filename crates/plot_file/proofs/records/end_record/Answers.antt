@@ -1,7 +1,7 @@
 -- `plot_file::records::end_record` meets its contract: the place is the end of the file, or a byte is behind it.
 -- Assumes nothing.
 use mathlib.Core.Path.{refl}
-use Rattle.plot_file.specs.ReadLaws.{end_body_end, end_body_more}
+use Rattle.plot_file.proofs.ReadLaws.{end_body_end, end_body_more}
 use Rattle.plot_file.proofs.StepLaws.{reads_refused, reads_end}
 use borrow.Author.Rules.{rules}
 use Rattle.plot_file.proofs.records.end_record.Goals as goal

@@ -1,7 +1,7 @@
 -- `plot_file::records::record` meets its contract: the place decides.
 -- Assumes nothing.
 use native.Mathlib.Omega.{arith}
-use Rattle.plot_file.specs.ReadLaws.{record_at_first, record_at_later}
+use Rattle.plot_file.proofs.ReadLaws.{record_at_first, record_at_later}
 use Rattle.plot_file.proofs.StepLaws.{reads_from}
 use borrow.Author.Rules.{rules}
 use Rattle.plot_file.proofs.records.record.Goals as goal

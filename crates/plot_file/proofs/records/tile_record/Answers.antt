@@ -1,7 +1,7 @@
 -- `plot_file::records::tile_record` meets its contract: the body decides, and then the room (`reads_tiles`).
 -- Assumes nothing.
 use Rattle.tile.specs.Path.{path_in}
-use Rattle.plot_file.specs.ReadLaws.{tile_body_refused}
+use Rattle.plot_file.proofs.ReadLaws.{tile_body_refused}
 use Rattle.plot_file.proofs.StepLaws.{body_path, body_not, reads_refused, reads_tiles}
 use Rattle.plot_file.proofs.TilesLaws.{for_clean}
 use borrow.Author.Rules.{rules}

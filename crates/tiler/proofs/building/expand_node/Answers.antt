@@ -2,7 +2,7 @@
 -- Assumes nothing.
 use mathlib.Core.Path.{sym, subst}
 use Rattle.expansion.specs.Boards.{From}
-use Rattle.expansion.specs.ExpansionLaws.{expanded_children}
+use Rattle.expansion.proofs.ExpansionLaws.{expanded_children}
 use Rattle.tiler.proofs.BuildLaws.{children_read}
 use borrow.Author.Rules.{rules}
 use Rattle.tiler.proofs.building.expand_node.Goals as goal

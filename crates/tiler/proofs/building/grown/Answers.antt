@@ -4,7 +4,7 @@ use mathlib.Core.Path.{refl}
 use Prim.Native.Nat.{◌^◌, ◌<◌}
 use Rattle.cells.specs.Set.{number}
 use Rattle.cells.specs.WordLaws.{number_lt}
-use Rattle.expansion.specs.ExpansionLaws.{child_words_lem, child_part}
+use Rattle.expansion.proofs.ExpansionLaws.{child_words_lem, child_part}
 use Rattle.tiler.proofs.BuildLaws.{start_put, build_no_room}
 use native.Mathlib.Omega.{arith}
 use borrow.Author.Rules.{rules}

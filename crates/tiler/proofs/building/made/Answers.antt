@@ -3,7 +3,7 @@
 use native.Mathlib.Nat.{le_of_eq}
 use borrow.Author.Tests.{not-true, not-false}
 use Rattle.cells.specs.Set.{Sound}
-use Rattle.graph.specs.RoomLaws.{node_room_lem, edge_room_lem}
+use Rattle.graph.proofs.RoomLaws.{node_room_lem, edge_room_lem}
 use Rattle.tiler.proofs.FinishLaws.{count_asks, finish_asks, made_no_room, made_no_room_for_edges, made_large, made_finished}
 use borrow.Author.Rules.{rules}
 use Rattle.tiler.proofs.building.made.Goals as goal

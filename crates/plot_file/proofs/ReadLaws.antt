@@ -17,7 +17,7 @@ use Rattle.plot_file.specs.declared.marks.Mark.{Mark}
 use Rattle.plot_file.specs.declared.marks.Mark.TheVariants.{RB, LB, TB, HO, TI, OR, EN}
 use Rattle.plot_file.specs.PlotFile.{all_marks, Plot, letters, spells, mark_among, read_mark, read_pair, read_body, more, ended, board_body, first_record, hole_body, add_tiles, tile_body, end_body, later_body, later_record, onward, records}
 use Rattle.plot_file.specs.Inner.{is_board, board_for, tiles_for, start_at, record_at}
-use Rattle.plot_file.specs.RecordLaws.{read_mark_is, length_letters, records_step}
+use Rattle.plot_file.proofs.RecordLaws.{read_mark_is, length_letters, records_step}
 
 -- ---- a mark among others
 

@@ -19,11 +19,11 @@ use Rattle.cells.specs.ArrayLaws.{padded_room, padded_empty}
 use Rattle.archive.specs.declared.Record.{Record}
 use Rattle.archive.specs.Archive.{Outcome, answered, refused_at, refused_by, map_outcome, outcome_number, handed_back, LeavesOutcome, big_endian, number_at, count_held, record_bytes, record_size, record_in, is_whole, records_of, record_at, write_record}
 use Rattle.archive.specs.Records.{archive_of, AreBytes, InRange, AllInRange}
-use Rattle.archive.specs.ByteLaws.{count_words_lem, count_bytes, number_at_append, number_at_front, number_at_lt, number_at_split, number_at_big_endian, number_at_here, number_at_past, big_endian_number_at, bytes_append, bytes_big_endian}
+use Rattle.archive.proofs.ByteLaws.{count_words_lem, count_bytes, number_at_append, number_at_front, number_at_lt, number_at_split, number_at_big_endian, number_at_here, number_at_past, big_endian_number_at, bytes_append, bytes_big_endian}
 use Rattle.archive.specs.PlaceLaws.{at_seam}
-use Rattle.archive.specs.BrokenLaws.{record_answers}
+use Rattle.archive.proofs.BrokenLaws.{record_answers}
 use Rattle.archive.specs.OutcomeLaws.{map_map, answered_refused_at}
-use Rattle.archive.specs.StepLaws.{whole_iff, read_from, whole_long, read_none, read_broken, read_whole}
+use Rattle.archive.proofs.StepLaws.{whole_iff, read_from, whole_long, read_none, read_broken, read_whole}
 
 -- ---- a record that was written
 

@@ -9,7 +9,7 @@ use Rattle.rectangle.specs.declared.Place.{Place}
 use Rattle.rectangle.specs.declared.Place.TheVariants as P
 use Rattle.rectangle.specs.Board.{cell_of, inside}
 use Rattle.rectangle.specs.Parts.{place_answer, place_if, place_after}
-use Rattle.rectangle.specs.BoardLaws.{inside_parts}
+use Rattle.rectangle.proofs.BoardLaws.{inside_parts}
 
 -- from a row and a column that a board has, by a direction
 pub place_after_is : (w h row col code : ℕ) → row < 16 → col < 16 → code < 8 → place_after w h row col code ≡ place_if (inside w h) (shift (at (pos row) (pos col)) (step code))

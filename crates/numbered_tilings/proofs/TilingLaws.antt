@@ -25,7 +25,7 @@ use Rattle.path_count.specs.PathCounts.{count_limit, count_in}
 use Rattle.path_count.specs.PathCountLaws.{count_in_small}
 use Rattle.graph.specs.declared.GraphResult.{GraphResult}
 use Rattle.graph.specs.Graph.{node_room, edge_room, edges_in, complete_node, count_from_graph}
-use Rattle.graph.specs.GraphLaws.{take_padded}
+use Rattle.graph.proofs.GraphLaws.{take_padded}
 use Rattle.numbered_tilings.specs.declared.Tiling.{Tiling}
 use Rattle.numbered_tilings.specs.Tilings.{is_past, bad_edge, sound_count, bad_count, bad_graph, node_list_in, tiling_by_number, tiling_answer, GivesTiling, GivesChain}
 

@@ -9,7 +9,7 @@ use Rattle.archive.specs.Archive.{answered, bind_outcome, or_absent, records_of,
 use Rattle.archive.specs.Records.{IsCurrent, NotBelow}
 use Rattle.archive.specs.OutcomeLaws.{or_absent_answered}
 use Rattle.archive.specs.PlaceLaws.{at_earlier, at_seam, at_kept}
-use Rattle.archive.specs.CurrentLaws.{other_kept, current_first, current_taken, current_stays, among_some, among_none, current_iff}
+use Rattle.archive.proofs.CurrentLaws.{other_kept, current_first, current_taken, current_stays, among_some, among_none, current_iff}
 
 -- ---- the calls on a sound file
 

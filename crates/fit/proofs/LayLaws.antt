@@ -21,11 +21,11 @@ use Rattle.tile.specs.Path.{Path, cell_count}
 use Rattle.tile.specs.PathLaws.{cells_origin}
 use Rattle.rectangle.specs.Board.{Board, cell_of, position_of, inside, marks, is_marked, free_at, size_ok, mark_ok, valid, lay, is_free, free_set, free_count}
 use Rattle.fit.specs.Inner.{bare}
-use Rattle.rectangle.specs.BoardLaws.{position_of_cell_of, free_at_inside, marks_lt, is_marked_marks, valid_size, valid_mark, valid_width, valid_height, cell_of_lt, has_cell_free_set, free_set_lt}
-use Rattle.rectangle.specs.FreeLaws.{bit_free_set, free_iff, free_lt}
+use Rattle.rectangle.proofs.BoardLaws.{position_of_cell_of, free_at_inside, marks_lt, is_marked_marks, valid_size, valid_mark, valid_width, valid_height, cell_of_lt, has_cell_free_set, free_set_lt}
+use Rattle.rectangle.proofs.FreeLaws.{bit_free_set, free_iff, free_lt}
 use Rattle.fit.specs.Fit.{with_cells, moved, Fits, IsPiece}
 use Rattle.fit.specs.FitLaws.{bit_with_cells_iff, with_cells_lt, bit_with_cells_new}
-use Rattle.fit.specs.PieceLaws.{size_piece, piece_cell}
+use Rattle.fit.proofs.PieceLaws.{size_piece, piece_cell}
 
 -- ---- a piece and the marks
 

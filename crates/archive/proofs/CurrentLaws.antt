@@ -13,7 +13,7 @@ use Rattle.archive.specs.Archive.{answered, refused_by, or_absent, records_of, r
 use Rattle.archive.specs.Records.{IsCurrent, NotBelow}
 use Rattle.archive.specs.OutcomeLaws.{bind_answered, bind_refused_by, or_absent_answered, or_absent_refused_by}
 use Rattle.archive.specs.PlaceLaws.{at_mem, mem_at, at_below, at_kept, at_seam, at_cases}
-use Rattle.archive.specs.BrokenLaws.{never_absent}
+use Rattle.archive.proofs.BrokenLaws.{never_absent}
 
 -- ---- another id
 

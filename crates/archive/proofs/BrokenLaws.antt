@@ -9,7 +9,7 @@ use Rattle.archive.specs.declared.Record.{Record}
 use Rattle.archive.specs.Archive.{Outcome, answered, refused_at, refused_by, map_outcome, or_absent, record_in, is_whole, records_of, count_records, record_at, current_among, current_record, bind_outcome}
 use Rattle.archive.specs.Records.{Begins, IsBroken}
 use Rattle.archive.specs.PlaceLaws.{absent_iff}
-use Rattle.archive.specs.StepLaws.{whole_iff, read_from, read_none, read_broken, read_whole}
+use Rattle.archive.proofs.StepLaws.{whole_iff, read_from, read_none, read_broken, read_whole}
 use Rattle.archive.specs.OutcomeLaws.{answered_refused_at, answered_refused_by, refused_at_refused_by, refused_at_inj, map_refused_at, bind_refused_at, bind_refused_by, or_absent_refused_at, or_absent_refused_by, map_answered, bind_answered, or_absent_answered}
 
 -- ---- broken, and whole

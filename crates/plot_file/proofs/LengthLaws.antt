@@ -13,10 +13,10 @@ use Rattle.board.specs.Board.{new_board}
 use Rattle.plot_file.specs.declared.marks.Mark.TheVariants.{EN}
 use Rattle.plot_file.specs.PlotFile.{Plot, letters, plot_in}
 use Rattle.plot_file.specs.Records.{BoardRecord, rb, lb, tb, Hole, TileRecord, ti, board_bytes, hole_bytes, tile_bytes, file_of, board_held, holed, tiles_held, Holds, longest_file}
-use Rattle.plot_file.specs.RecordLaws.{length_letters, length_tile_bytes}
-use Rattle.plot_file.specs.HoleLaws.{holes_bytes, holes_below, largest, length_holes_below, with_holes_below}
-use Rattle.plot_file.specs.FirstRecordLaws.{plot_of}
-use Rattle.plot_file.specs.FileLaws.{tiles_held_some, Fine, holds_few, file_of_is, accepted_iff}
+use Rattle.plot_file.proofs.RecordLaws.{length_letters, length_tile_bytes}
+use Rattle.plot_file.proofs.HoleLaws.{holes_bytes, holes_below, largest, length_holes_below, with_holes_below}
+use Rattle.plot_file.proofs.FirstRecordLaws.{plot_of}
+use Rattle.plot_file.proofs.FileLaws.{tiles_held_some, Fine, holds_few, file_of_is, accepted_iff}
 
 -- ---- how long an accepted file can be: a board's record, 256 holes' records of 4 bytes, 64 tiles' records of 35 bytes, and EN
 

@@ -12,7 +12,7 @@ use Rattle.tile.specs.Path.{Path, read_path}
 use Rattle.tiles.specs.Paths.{orbit}
 use Rattle.tile.specs.StoredLaws.{read_path_is}
 use Rattle.rectangle.specs.Board.{Board, free_count}
-use Rattle.rectangle.specs.FreeLaws.{free_le}
+use Rattle.rectangle.proofs.FreeLaws.{free_le}
 use Rattle.board.specs.Board.{new_board, l_board, t_board, fix_at, with_hole}
 use Rattle.board.specs.HoleLaws.{fix_at_count}
 use Rattle.plot_file.specs.declared.marks.Mark.{Mark}
@@ -20,11 +20,11 @@ use Rattle.plot_file.specs.declared.marks.Mark.TheVariants.{RB, LB, TB, HO, TI, 
 use Rattle.plot_file.specs.PlotFile.{all_marks, Plot, letters, mark_among, read_mark, read_pair, read_body, Step, more, ended, board_body, first_record, hole_body, add_tiles, tile_body, end_body, later_body, later_record, onward, records, plot_in}
 use Rattle.plot_file.specs.Records.{rb, ti, board_bytes, hole_bytes, tile_bytes, place, tiles_held, settled_by}
 use Rattle.plot_file.specs.Inner.{start_at}
-use Rattle.plot_file.specs.RecordLaws.{read_mark_is, length_letters, read_pair_given, read_body_is, read_body_path, TileRead, HoleRead, later_record_left, later_record_mark, length_tile_bytes, length_hole_bytes, records_same}
-use Rattle.plot_file.specs.HoleLaws.{holes_bytes, length_holes_below}
-use Rattle.plot_file.specs.FirstRecordLaws.{first_record_given}
-use Rattle.plot_file.specs.FileLaws.{tiles_held_some, Fine, tile_plot, hole_plot, plot_in_refused, joined}
-use Rattle.plot_file.specs.LengthLaws.{length_board_bytes, long_path, copies, copies_bytes, long_path_fine, all_holes, long_plot, long_plot_tiles, longest_held}
+use Rattle.plot_file.proofs.RecordLaws.{read_mark_is, length_letters, read_pair_given, read_body_is, read_body_path, TileRead, HoleRead, later_record_left, later_record_mark, length_tile_bytes, length_hole_bytes, records_same}
+use Rattle.plot_file.proofs.HoleLaws.{holes_bytes, length_holes_below}
+use Rattle.plot_file.proofs.FirstRecordLaws.{first_record_given}
+use Rattle.plot_file.proofs.FileLaws.{tiles_held_some, Fine, tile_plot, hole_plot, plot_in_refused, joined}
+use Rattle.plot_file.proofs.LengthLaws.{length_board_bytes, long_path, copies, copies_bytes, long_path_fine, all_holes, long_plot, long_plot_tiles, longest_held}
 
 -- ---- answers
 

@@ -8,10 +8,10 @@ use Rattle.std.proofs.Math.ListN.{get_elem?}
 use Rattle.archive.specs.declared.Record.{Record}
 use Rattle.archive.specs.Archive.{answered, refused_at, refused_by, LeavesOutcome, number_at, count_held, record_bytes, record_size, record_in, records_of, count_records, record_at, current_record, write_record}
 use Rattle.archive.specs.Records.{archive_of, AreBytes, InRange, AllInRange, Begins, IsBroken, IsCurrent, NotBelow}
-use Rattle.archive.specs.FileLaws as File
-use Rattle.archive.specs.BrokenLaws as Broken
-use Rattle.archive.specs.CurrentLaws as Current
-use Rattle.archive.specs.AppendLaws as Append
+use Rattle.archive.proofs.FileLaws as File
+use Rattle.archive.proofs.BrokenLaws as Broken
+use Rattle.archive.proofs.CurrentLaws as Current
+use Rattle.archive.proofs.AppendLaws as Append
 
 -- ---- 1. "What was written must read back with each field the same"
 

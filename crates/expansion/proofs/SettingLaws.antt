@@ -22,13 +22,13 @@ use Rattle.rectangle.specs.Board.{Board, board_at, marks, is_free, is_full, vali
 use Rattle.fit.specs.Fit.{IsPiece, pieces}
 use Rattle.choice.specs.Choice.{chosen}
 use Rattle.children.specs.Children.{pruned, children_on, children, children_at}
-use Rattle.rectangle.specs.BoardLaws.{marks_lt, none_full, full_none, valid_width, valid_height, valid_disjoint}
+use Rattle.rectangle.proofs.BoardLaws.{marks_lt, none_full, full_none, valid_width, valid_height, valid_disjoint}
 use Rattle.choice.specs.ChosenLaws.{chosen_best, chosen_none}
-use Rattle.fit.specs.PieceLaws.{mem_pieces, once_pieces}
-use Rattle.fit.specs.LayLaws.{piece_lt, piece_apart, marks_lay, lay_valid, piece_iff, piece_some, piece_size, lay_free, lay_count}
+use Rattle.fit.proofs.PieceLaws.{mem_pieces, once_pieces}
+use Rattle.fit.proofs.LayLaws.{piece_lt, piece_apart, marks_lay, lay_valid, piece_iff, piece_some, piece_size, lay_free, lay_count}
 use Rattle.covers.specs.Setting.{FitsOn, childBoards, Laws, EqualSteps}
 use Rattle.graph.specs.Graph.{step_piece}
-use Rattle.rectangle.specs.FreeLaws.{free_lt, full_marks_lem}
+use Rattle.rectangle.proofs.FreeLaws.{free_lt, full_marks_lem}
 use Rattle.tile.specs.PathLaws.{cell_count_pos}
 use Rattle.expansion.specs.Boards.{From, cell_or, pieces_on, setting}
 

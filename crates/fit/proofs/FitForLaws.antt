@@ -14,12 +14,12 @@ use Rattle.direction.specs.Direction.{Position}
 use Rattle.tile.specs.Path.{is_path}
 use Rattle.rectangle.specs.Parts.{free_in}
 use Rattle.rectangle.specs.Board.{marks, Board, position_of, inside, free_at, size_ok}
-use Rattle.rectangle.specs.BoardLaws.{size_ok_le, free_in_free_at}
+use Rattle.rectangle.proofs.BoardLaws.{size_ok_le, free_in_free_at}
 use Rattle.fit.specs.Parts.{fit_in}
 use Rattle.fit.specs.Fit.{cover, moved, offset, point_at, fit_at}
 use Rattle.fit.specs.Inner.{fit_for}
 use Rattle.fit.specs.FitLaws.{mem_cover, cover_ext}
-use Rattle.fit.specs.PieceLaws.{fit_on}
+use Rattle.fit.proofs.PieceLaws.{fit_on}
 
 module _ (w h m : ℕ) (codes : List ℕ) (j cell : ℕ) where
   pub fit_in_size : size_ok w h ≡ false → fit_in w h m codes j cell ≡ []

@@ -14,7 +14,7 @@ use Rattle.plot_file.specs.declared.marks.Mark.{Mark}
 use Rattle.plot_file.specs.declared.marks.Mark.TheVariants.{RB, LB, TB, HO, TI, OR, EN}
 use Rattle.plot_file.specs.PlotFile.{Plot, letters, read_mark, read_pair, Step, more, board_body, first_record}
 use Rattle.plot_file.specs.Records.{BoardRecord, rb, lb, tb, board_bytes, board_held}
-use Rattle.plot_file.specs.RecordLaws.{read_mark_is, read_mark_letters, read_pair_given}
+use Rattle.plot_file.proofs.RecordLaws.{read_mark_is, read_mark_letters, read_pair_given}
 
 -- ---- the first record
 

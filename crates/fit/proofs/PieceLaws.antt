@@ -26,7 +26,7 @@ use Rattle.direction.specs.PositionLaws.{same_position_iff}
 use Rattle.tile.specs.Path.{Path, points, cells, cell_count}
 use Rattle.tile.specs.PathLaws.{cells_shift}
 use Rattle.rectangle.specs.Board.{Board, cell_of, position_of, inside, free_at}
-use Rattle.rectangle.specs.BoardLaws.{cell_of_lt, position_of_cell_of, cell_of_inj, cell_of_position_of, free_at_inside}
+use Rattle.rectangle.proofs.BoardLaws.{cell_of_lt, position_of_cell_of, cell_of_inj, cell_of_position_of, free_at_inside}
 use Rattle.fit.specs.Fit.{with_cells, cover, moved, offset, point_at, Fits, IsPiece, fit_at, fits_of, pieces}
 use Rattle.fit.specs.Parts.{most_children}
 use Rattle.fit.specs.FitLaws.{mem_cover, length_cover, bit_with_cells_past, bit_with_cells_new, bit_with_cells_iff, offset_takes, offset_only}

@@ -20,12 +20,12 @@ use Rattle.cells.specs.FirstsLaws.{Once}
 use Rattle.cells.specs.MemberLaws.{mem_list_of, once_list_of}
 use Rattle.direction.specs.Direction.{Position}
 use Rattle.rectangle.specs.Board.{Board, cell_of, inside, is_marked, free_at, free_count, valid}
-use Rattle.rectangle.specs.BoardLaws.{cell_of_inj, free_at_inside, inside_iff, valid_width}
-use Rattle.rectangle.specs.FreeLaws.{free_le}
+use Rattle.rectangle.proofs.BoardLaws.{cell_of_inj, free_at_inside, inside_iff, valid_width}
+use Rattle.rectangle.proofs.FreeLaws.{free_le}
 use Rattle.board.specs.Board.{fix_at}
 use Rattle.board.specs.HoleLaws.{fix_at_lt, fix_at_size, fix_at_fixed, fix_at_free, fix_at_valid, fix_at_count}
 use Rattle.plot_file.specs.Records.{Hole, hole_bytes, place, is_hole, holed}
-use Rattle.plot_file.specs.RecordLaws.{length_hole_bytes}
+use Rattle.plot_file.proofs.RecordLaws.{length_hole_bytes}
 
 -- ---- the board with holes
 

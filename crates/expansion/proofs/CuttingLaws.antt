@@ -20,21 +20,21 @@ use Rattle.board.specs.Board.{board_of}
 use Rattle.fit.specs.Fit.{IsPiece}
 use Rattle.choice.specs.Choice.{chosen}
 use Rattle.children.specs.Children.{pruned}
-use Rattle.rectangle.specs.BoardLaws.{valid_width, valid_height}
+use Rattle.rectangle.proofs.BoardLaws.{valid_width, valid_height}
 use Rattle.choice.specs.ChosenLaws.{chosen_none}
 use Rattle.children.specs.PruneLaws.{pruned_none}
-use Rattle.fit.specs.PieceLaws.{piece_cell, mem_pieces}
+use Rattle.fit.proofs.PieceLaws.{piece_cell, mem_pieces}
 use Rattle.covers.specs.Setting.{FitsOn, CuttingOf, SoundPruning, Setting, graphCount, cuttingAt}
 use Rattle.covers.specs.Counts.{Numbering}
 use Rattle.covers.proofs.Theorems.{numbering_carried, tilings_are_cuttings}
 use Rattle.covers.proofs.SequenceLaws.{free_not_full}
 use Rattle.covers.proofs.NumberingLaws.{one_is}
-use Rattle.fit.specs.LayLaws.{piece_some}
-use Rattle.expansion.specs.SettingLaws.{fits_piece, start_at_lem, start_ok}
+use Rattle.fit.proofs.LayLaws.{piece_some}
+use Rattle.expansion.proofs.SettingLaws.{fits_piece, start_at_lem, start_ok}
 use Rattle.expansion.specs.Boards.{cell_or, pieces_on, setting, setting_of, start_of, Accepted}
 use Rattle.expansion.specs.Plots.{IsCutting, HasFreeCell, AllEdgeJoined}
 use Rattle.expansion.specs.Parts.{step_of}
-use Rattle.expansion.specs.AcceptedLaws.{accepted_laws, accepted_steps, accepted_at, start_accepted}
+use Rattle.expansion.proofs.AcceptedLaws.{accepted_laws, accepted_steps, accepted_at, start_accepted}
 
 module _ (b : Board) (paths : List Path) (good : So (valid b)) where
   -- under demand 3's condition only boards without a cutting are pruned

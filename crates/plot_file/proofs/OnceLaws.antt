@@ -8,7 +8,7 @@ use Rattle.tile.specs.Path.{Path}
 use Rattle.plot_file.specs.declared.marks.Mark.TheVariants.{EN}
 use Rattle.plot_file.specs.PlotFile.{letters}
 use Rattle.plot_file.specs.Records.{BoardRecord, rb, lb, tb, Hole, TileRecord, ti, or, board_bytes, hole_bytes, tile_bytes, file_of}
-use Rattle.plot_file.specs.FileLaws.{file_of_is}
+use Rattle.plot_file.proofs.FileLaws.{file_of_is}
 
 same_cut : (p q s t : List ℕ) → length p ≡ length q → p ++ s ≡ q ++ t → (p ≡ q) × (s ≡ t)
 same_cut p q s t l e = (

@@ -23,7 +23,7 @@ use Rattle.board.specs.declared.RectangularBoard.{RectangularBoard}
 use Rattle.rectangle.specs.Board.{Board, board_at, valid}
 use Rattle.board.specs.Board.{board_of}
 use Rattle.children.specs.Children.{children, children_of, place_tile}
-use Rattle.rectangle.specs.BoardLaws.{accept_board_given}
+use Rattle.rectangle.proofs.BoardLaws.{accept_board_given}
 use Rattle.fit.specs.Parts.{most_children}
 use Rattle.children.specs.ChildLaws.{child_lt, length_children}
 use Rattle.children.specs.WriteLaws.{few_children}
@@ -34,8 +34,8 @@ use Rattle.expansion.specs.declared.Judged.TheVariants as J
 use Rattle.expansion.specs.Boards.{From, setting_of, Accepted}
 use Rattle.expansion.specs.Plots.{accept_plot}
 use Rattle.expansion.specs.Parts.{step_of, judged_answer, marked_board, Expands, child_words}
-use Rattle.expansion.specs.SettingLaws.{children_are}
-use Rattle.expansion.specs.AcceptedLaws.{read_accepted}
+use Rattle.expansion.proofs.SettingLaws.{children_are}
+use Rattle.expansion.proofs.AcceptedLaws.{read_accepted}
 
 -- ---- `judge`
 

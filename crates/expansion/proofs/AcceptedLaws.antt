@@ -26,7 +26,7 @@ use Rattle.covers.specs.Setting.{Laws, EqualSteps}
 use Rattle.expansion.specs.Plots.{accept_plot}
 use Rattle.expansion.specs.Parts.{step_of}
 use Rattle.expansion.specs.Boards.{Accepted, setting, setting_of, start_of}
-use Rattle.expansion.specs.SettingLaws.{setting_laws, setting_steps, start_at_lem, start_ok}
+use Rattle.expansion.proofs.SettingLaws.{setting_laws, setting_steps, start_at_lem, start_ok}
 
 -- ---- what is read
 

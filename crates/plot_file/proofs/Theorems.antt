@@ -17,13 +17,13 @@ use Rattle.board.specs.BoardLaws.{read_board_given}
 use Rattle.plot_file.specs.declared.MadePlot.{MadePlot}
 use Rattle.plot_file.specs.PlotFile.{Plot, no_plot, plot_in, ReadsPlot}
 use Rattle.plot_file.specs.Records.{BoardRecord, Hole, TileRecord, board_bytes, hole_bytes, tile_bytes, file_of, place, is_hole, Holds, longest_file, settled_by}
-use Rattle.plot_file.specs.RecordLaws as Record
-use Rattle.plot_file.specs.HoleLaws as Hole
-use Rattle.plot_file.specs.FileLaws as File
-use Rattle.plot_file.specs.OnceLaws as Once
-use Rattle.plot_file.specs.HoleRefusalLaws as HoleRefusal
-use Rattle.plot_file.specs.LengthLaws as Length
-use Rattle.plot_file.specs.SettledLaws as Settled
+use Rattle.plot_file.proofs.RecordLaws as Record
+use Rattle.plot_file.proofs.HoleLaws as Hole
+use Rattle.plot_file.proofs.FileLaws as File
+use Rattle.plot_file.proofs.OnceLaws as Once
+use Rattle.plot_file.proofs.HoleRefusalLaws as HoleRefusal
+use Rattle.plot_file.proofs.LengthLaws as Length
+use Rattle.plot_file.proofs.SettledLaws as Settled
 
 -- The accepted files are exactly the files of a board record, any number of holes, any number of tile records and EN, where the board's size is accepted, the
 -- holes are different free cells of that board, each path has at most 32 codes 0 to 7, and there are at most 64 tiles. The plot that is read has that board with

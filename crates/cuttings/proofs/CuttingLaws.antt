@@ -18,10 +18,10 @@ use Rattle.covers.specs.Counts.{Numbering, Exactly}
 use Rattle.path_count.specs.PathCounts.{count_limit}
 use Rattle.expansion.specs.Boards.{Accepted}
 use Rattle.expansion.specs.Plots.{accept_plot, IsCutting, HasFreeCell, AllEdgeJoined}
-use Rattle.expansion.specs.AcceptedLaws.{read_accepted, from_read}
+use Rattle.expansion.proofs.AcceptedLaws.{read_accepted, from_read}
 use Rattle.layers.specs.declared.Count.{Count}
 use Rattle.layers.specs.LayerCounts.{layer_count_for, count_tilings, count_answer, LeavesCount}
-use Rattle.layers.specs.CountLaws.{count_cuttings_lem, layers_small}
+use Rattle.layers.proofs.CountLaws.{count_cuttings_lem, layers_small}
 use Rattle.cuttings.specs.Cuttings.{cuttings_of, count_cuttings, cuttings_from}
 use Rattle.cuttings.specs.FullLaws.{free_not_full, not_full_free, no_room_count, full_layer_count_lem, full_one_cutting}
 

@@ -11,7 +11,7 @@ use Rattle.cells.specs.Set.{bit, has_cell}
 use Rattle.cells.specs.BitLaws.{bit_le, bit_ext}
 use Rattle.cells.specs.SetLaws.{has_cell_iff, has_cell_false, size_le, bit_free}
 use Rattle.rectangle.specs.Board.{Board, cell_of, position_of, inside, marks, is_marked, is_free, free_set, free_count, is_full, valid}
-use Rattle.rectangle.specs.BoardLaws.{cell_of_position_of, marks_lt, is_marked_marks, has_cell_free_set, full_none, valid_inside, valid_width, valid_height, free_inside}
+use Rattle.rectangle.proofs.BoardLaws.{cell_of_position_of, marks_lt, is_marked_marks, has_cell_free_set, full_none, valid_inside, valid_width, valid_height, free_inside}
 
 -- ---- free cells and marks
 

@@ -14,10 +14,10 @@ use Rattle.plot_file.specs.declared.marks.Mark.TheVariants.{HO}
 use Rattle.plot_file.specs.PlotFile.{Plot, letters, read_pair, hole_body, board_body, later_body, later_record, onward, records, plot_in}
 use Rattle.plot_file.specs.Records.{BoardRecord, Hole, TileRecord, board_bytes, hole_bytes, tile_bytes, place, tiles_held, Holds}
 use Rattle.plot_file.specs.Inner.{start_at}
-use Rattle.plot_file.specs.RecordLaws.{later_record_mark}
-use Rattle.plot_file.specs.ReadLaws.{read_pair_few, hole_body_misplaced, hole_body_first}
-use Rattle.plot_file.specs.FirstRecordLaws.{first_record_mark}
-use Rattle.plot_file.specs.FileLaws.{tiles_held_some, holds_counted, plot_in_refused, joined}
+use Rattle.plot_file.proofs.RecordLaws.{later_record_mark}
+use Rattle.plot_file.proofs.ReadLaws.{read_pair_few, hole_body_misplaced, hole_body_first}
+use Rattle.plot_file.proofs.FirstRecordLaws.{first_record_mark}
+use Rattle.plot_file.proofs.FileLaws.{tiles_held_some, holds_counted, plot_in_refused, joined}
 
 -- the first record has to be a board's
 pub hole_first : (rest : List ℕ) → plot_in (ascii "HO" ++ rest) ≡ refused 3

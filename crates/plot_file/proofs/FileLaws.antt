@@ -27,9 +27,9 @@ use Rattle.board.specs.HoleLaws.{with_hole_is, with_hole_given, fix_at_valid, fi
 use Rattle.plot_file.specs.declared.marks.Mark.TheVariants.{EN}
 use Rattle.plot_file.specs.PlotFile.{Plot, letters, Step, more, ended, first_record, add_tiles, later_record, onward, records, plot_in}
 use Rattle.plot_file.specs.Records.{BoardRecord, Hole, TileRecord, ti, or, board_bytes, hole_bytes, tile_bytes, file_of, board_held, place, directions, tiles_held, Holds}
-use Rattle.plot_file.specs.RecordLaws.{length_letters, TileRead, HoleRead, Left, later_record_left, later_record_tile, later_record_hole, later_record_end, records_step}
-use Rattle.plot_file.specs.HoleLaws.{holed_none, WithHoles, with_holes_none, with_holes_more, with_holes_first, with_holes_snoc, with_holes_laid, with_holes_lt, Counted, with_holes_counted, with_holes_few}
-use Rattle.plot_file.specs.FirstRecordLaws.{plot_of, First, first_record_given, first_record_board, board_held_made}
+use Rattle.plot_file.proofs.RecordLaws.{length_letters, TileRead, HoleRead, Left, later_record_left, later_record_tile, later_record_hole, later_record_end, records_step}
+use Rattle.plot_file.proofs.HoleLaws.{holed_none, WithHoles, with_holes_none, with_holes_more, with_holes_first, with_holes_snoc, with_holes_laid, with_holes_lt, Counted, with_holes_counted, with_holes_few}
+use Rattle.plot_file.proofs.FirstRecordLaws.{plot_of, First, first_record_given, first_record_board, board_held_made}
 
 -- ---- the records behind the board's
 

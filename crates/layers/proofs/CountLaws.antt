@@ -28,10 +28,10 @@ use Rattle.graph.specs.Graph.{layer_room}
 use Rattle.expansion.specs.Boards.{setting, setting_of, start_of, Accepted}
 use Rattle.expansion.specs.Parts.{step_of}
 use Rattle.expansion.specs.Plots.{IsCutting, HasFreeCell, AllEdgeJoined}
-use Rattle.expansion.specs.SettingLaws.{same_children}
-use Rattle.expansion.specs.CuttingLaws.{cuttings_numbered}
-use Rattle.expansion.specs.AcceptedLaws.{from_read, accepted_laws, accepted_steps, start_accepted}
-use Rattle.expansion.specs.ExpansionLaws.{below_at}
+use Rattle.expansion.proofs.SettingLaws.{same_children}
+use Rattle.expansion.proofs.CuttingLaws.{cuttings_numbered}
+use Rattle.expansion.proofs.AcceptedLaws.{from_read, accepted_laws, accepted_steps, start_accepted}
+use Rattle.expansion.proofs.ExpansionLaws.{below_at}
 use Rattle.layers.specs.declared.Count.{Count}
 use Rattle.layers.specs.LayerCounts.{too_large, judge_layer, judge_layers, layer_count_for, count_tilings, CountsTilings, CountsCuttings}
 use Rattle.layers.specs.Inner.{layers_answer}

@@ -24,7 +24,7 @@ use Rattle.layers.specs.declared.Count.{Count}
 use Rattle.layers.specs.LayerCounts.{count_tilings}
 use Rattle.cuttings.specs.Cuttings.{cuttings_of, count_cuttings, cuttings_from, AnswersCuttings, IsNumberOfCuttings}
 use Rattle.cuttings.specs.FullLaws.{full_iff_none, no_width_full}
-use Rattle.cuttings.specs.CuttingLaws as Law
+use Rattle.cuttings.proofs.CuttingLaws as Law
 
 -- ---- 1. What the figure is
 
