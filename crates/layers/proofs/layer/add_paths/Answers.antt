@@ -6,7 +6,7 @@ use native.Mathlib.Omega.{arith}
 use Rattle.cells.specs.Set.{number}
 use Rattle.cells.specs.WordLaws.{number_lt}
 use Rattle.layers.specs.Inner.{boards_in}
-use Rattle.layers.proofs.LayerLaws.{add_no_room, add_past, add_new, add_large, add_old}
+use Rattle.layers.proofs.LayerLaws.{add_no_room, add_past, add_new_lem, add_large, add_old}
 use borrow.Author.Rules.{rules}
 use Rattle.path_count.specs.PathCountLaws.{count_small}
 use Rattle.path_count.specs.PathCounts.{count_limit, count_value}
@@ -26,7 +26,7 @@ returns-in_default-found c =
     (
       omega arith,
       λ es h.
-          add_new _ _ _ _ _ h _ _ _ _ c.in-Boards.is c.requires.1.0 _ c.find-found.ensures
+          add_new_lem _ _ _ _ _ h _ _ _ _ c.in-Boards.is c.requires.1.0 _ c.find-found.ensures
           c.in_default-found.is c.if-room-n.false _ c.put.ensures _ c.put-in_default-found.ensures c.requires.1.1 (small) (count_fits),
     )
 

@@ -6,7 +6,7 @@ use Prim.Native.Nat.{ℕ, ◌-◌, ◌≤◌}
 use lib.Dec.{eqb}
 use lib.ListN.{length}
 use Rattle.cells.specs.Lists.{list_of, set_at}
-use Rattle.covers.specs.Inner.{addChildren}
+use Rattle.covers.specs.Inner.{add_children}
 use Rattle.tiler.specs.Inner.{nodes_in, HoldsGraph}
 use Rattle.tiler.proofs.BuildLaws.{children_none, children_more, children_all}
 use native.Mathlib.Omega.{arith}
