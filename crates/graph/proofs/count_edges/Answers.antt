@@ -15,8 +15,8 @@ loop-i-preserved c =
     let before = c.loop-i.invariant.1 in (
       omega arith,
       elim c.if-edges-i.branch [
-        then-edges-i w ↦ counted_hit _ _ _ _ before _ w.if-edges-i.true w.count-is
-      | else-edges-i w ↦ counted_miss _ _ _ _ before _ w.if-edges-i.false w.count-is
+        | then-edges-i w ↦ counted_hit _ _ _ _ before _ w.if-edges-i.true w.count-is
+        | else-edges-i w ↦ counted_miss _ _ _ _ before _ w.if-edges-i.false w.count-is
       ],
     )
 

@@ -16,8 +16,8 @@ loop-i-preserved c =
     let before = c.loop-i.invariant.1 in (
       omega arith,
       elim c.if-parent-node.branch [
-        then-parent-node w ↦ written_hit _ _ _ _ _ _ before _ _ w.if-parent-node.true w.count-is (w.out-is ∙ w.store.ensures)
-      | else-parent-node w ↦ written_miss _ _ _ _ _ _ before _ _ w.if-parent-node.false w.count-is w.out-is
+        | then-parent-node w ↦ written_hit _ _ _ _ _ _ before _ _ w.if-parent-node.true w.count-is (w.out-is ∙ w.store.ensures)
+        | else-parent-node w ↦ written_miss _ _ _ _ _ _ before _ _ w.if-parent-node.false w.count-is w.out-is
       ],
     )
 

@@ -32,8 +32,7 @@ loop-free-smaller c =
 
 pub loop-free-preserved : goal.loop-free-preserved
 loop-free-preserved c =
-    let i = c.loop-free.invariant in
-    (
+    let i = c.loop-free.invariant in (
       c.grow_twice-grown.auto.boards ∙ i.0,
       c.grow_twice-grown.auto.counts ∙ i.1,
       c.grow_twice-grown.auto.next_boards ∙ i.2,

@@ -21,13 +21,12 @@ returns-then-less c =
     ∙ sym c.loop-i.invariant.1
 
 pub loop-i-preserved : goal.loop-i-preserved
-loop-i-preserved c =
-    (
-      search rules,
-      c.loop-i.invariant.1
-          ∙ turn_passed _ _ _ _ _ c.loop-i-test.true _ _ c.share_at-share.ensures
-          (ltb-false _ _ (sym c.less.ensures ∙ c.if-less.false)) _ c.minus-left.ensures,
-    )
+loop-i-preserved c = (
+  search rules,
+  c.loop-i.invariant.1
+      ∙ turn_passed _ _ _ _ _ c.loop-i-test.true _ _ c.share_at-share.ensures
+      (ltb-false _ _ (sym c.less.ensures ∙ c.if-less.false)) _ c.minus-left.ensures,
+)
 
 pub returns : goal.returns
 returns c = turn_none _ _ _ _ _ _ c.loop-i-test.false ∙ sym c.loop-i.invariant.1

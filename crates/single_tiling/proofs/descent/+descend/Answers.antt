@@ -24,8 +24,7 @@ loop-i-init t c =
 
 pub loop-i-preserved-in_default-fit : goal.loop-i-preserved-in_default-fit
 loop-i-preserved-in_default-fit t c =
-    let sound = board_sound _ c.well_formed.0 in
-    (
+    let sound = board_sound _ c.well_formed.0 in (
       omega (arith, c.loop-i-test.true),
       c.loop-i.invariant.1,
       none_more _ _ c.loop-i.invariant.2 (child_none c.args.here sound.0 sound.1 _ _ c.requires.0 _ _ _ c.in_default-fit.is c.new_fit-fit.ensures c.loop-i.invariant.2),
@@ -50,8 +49,7 @@ returns-in-Boards t c =
 pub loop-i-preserved : goal.loop-i-preserved
 loop-i-preserved t c =
     let sound = board_sound _ c.well_formed.0 in
-    let child = child_ready c.args.here sound.0 sound.1 _ _ c.requires.0 _ _ c.loop-i-test.true _ _ _ _ _ c.in-Piece.is c.new_fit-fit.ensures _ c.mark_tile_at_position-child.ensures in
-    (
+    let child = child_ready c.args.here sound.0 sound.1 _ _ c.requires.0 _ _ c.loop-i-test.true _ _ _ _ _ c.in-Piece.is c.new_fit-fit.ensures _ c.mark_tile_at_position-child.ensures in (
       omega (arith, c.loop-i-test.true),
       same_next _ _ _ _ c.loop-i.invariant.1 (walked_same _ _ _ _ _ c.in_default-found.is c.descend-found.auto.out c.descend-found.ensures),
       none_more _ _ c.loop-i.invariant.2 (child.2 ∙ found_none _ _ (sym c.in_default-found.is ∙ c.descend-found.ensures.answer)),

@@ -16,8 +16,7 @@ use Rattle.tiler.proofs.building.build.Goals as goal
 pub loop-i-init : goal.loop-i-init
 loop-i-init c =
     let fixed_small : number c.args.board.fixed < 2 ^ 256 = number_lt _ (record { s0 = search (rules, c.well_formed); s1 = search (rules, c.well_formed); s2 = search (rules, c.well_formed); s3 = search (rules, c.well_formed) }) in
-    let laid_small : number c.args.board.laid < 2 ^ 256 = number_lt _ (record { s0 = search (rules, c.well_formed); s1 = search (rules, c.well_formed); s2 = search (rules, c.well_formed); s3 = search (rules, c.well_formed) }) in
-    (
+    let laid_small : number c.args.board.laid < 2 ^ 256 = number_lt _ (record { s0 = search (rules, c.well_formed); s1 = search (rules, c.well_formed); s2 = search (rules, c.well_formed); s3 = search (rules, c.well_formed) }) in (
       refl,
       omega (arith, c.requires.2),
       refl,
@@ -30,8 +29,7 @@ loop-i-init c =
 pub expand_node-growth-requires : goal.expand_node-growth-requires
 expand_node-growth-requires c =
     let fixed_small : number c.args.board.fixed < 2 ^ 256 = number_lt _ (record { s0 = search (rules, c.well_formed); s1 = search (rules, c.well_formed); s2 = search (rules, c.well_formed); s3 = search (rules, c.well_formed) }) in
-    let laid_small : number c.args.board.laid < 2 ^ 256 = number_lt _ (record { s0 = search (rules, c.well_formed); s1 = search (rules, c.well_formed); s2 = search (rules, c.well_formed); s3 = search (rules, c.well_formed) }) in
-    (
+    let laid_small : number c.args.board.laid < 2 ^ 256 = number_lt _ (record { s0 = search (rules, c.well_formed); s1 = search (rules, c.well_formed); s2 = search (rules, c.well_formed); s3 = search (rules, c.well_formed) }) in (
       c.requires.0,
       build_node c.args.board c.args.tiles c.requires.0 (fixed_small) (laid_small)
           _ _ _ _ _ _ c.loop-i.invariant.6 _ c.loop-i.invariant.0 c.loop-i-test.true,
@@ -44,8 +42,7 @@ expand_node-growth-requires c =
 pub loop-i-preserved : goal.loop-i-preserved
 loop-i-preserved c =
     let fixed_small : number c.args.board.fixed < 2 ^ 256 = number_lt _ (record { s0 = search (rules, c.well_formed); s1 = search (rules, c.well_formed); s2 = search (rules, c.well_formed); s3 = search (rules, c.well_formed) }) in
-    let laid_small : number c.args.board.laid < 2 ^ 256 = number_lt _ (record { s0 = search (rules, c.well_formed); s1 = search (rules, c.well_formed); s2 = search (rules, c.well_formed); s3 = search (rules, c.well_formed) }) in
-    (
+    let laid_small : number c.args.board.laid < 2 ^ 256 = number_lt _ (record { s0 = search (rules, c.well_formed); s1 = search (rules, c.well_formed); s2 = search (rules, c.well_formed); s3 = search (rules, c.well_formed) }) in (
       c.node_count-n.ensures,
       c.expand_node-growth.ensures.0,
       search rules,
@@ -70,8 +67,7 @@ shape_of-children c = c.loop-i.invariant.4
 pub returns : goal.returns
 returns c =
     let fixed_small : number c.args.board.fixed < 2 ^ 256 = number_lt _ (record { s0 = search (rules, c.well_formed); s1 = search (rules, c.well_formed); s2 = search (rules, c.well_formed); s3 = search (rules, c.well_formed) }) in
-    let laid_small : number c.args.board.laid < 2 ^ 256 = number_lt _ (record { s0 = search (rules, c.well_formed); s1 = search (rules, c.well_formed); s2 = search (rules, c.well_formed); s3 = search (rules, c.well_formed) }) in
-    (
+    let laid_small : number c.args.board.laid < 2 ^ 256 = number_lt _ (record { s0 = search (rules, c.well_formed); s1 = search (rules, c.well_formed); s2 = search (rules, c.well_formed); s3 = search (rules, c.well_formed) }) in (
       c.loop-i.invariant.1,
       build_end c.args.board c.args.tiles c.requires.0 (fixed_small) (laid_small)
           _ _ _ _ _ _ c.loop-i.invariant.6 _ c.loop-i.invariant.0 c.loop-i.invariant.5 c.loop-i-test.false,

@@ -24,15 +24,14 @@ pub slice_bounds-build-end : goal.slice_bounds-build-end
 slice_bounds-build-end c = (child_part _ _ c.requires.0 _ c.child_words-end.ensures _ refl).0
 
 pub build-requires : goal.build-requires
-build-requires c =
-    (
-      c.requires.0,
-      (child_part _ _ c.requires.0 _ c.child_words-end.ensures _ refl).1,
-      search rules,
-      search rules,
-      search rules,
-      start_put c.args.board _ _ c.if-node_room-eq0.false c.requires.1 _ c.marks.ensures _ c.put.ensures,
-    )
+build-requires c = (
+  c.requires.0,
+  (child_part _ _ c.requires.0 _ c.child_words-end.ensures _ refl).1,
+  search rules,
+  search rules,
+  search rules,
+  start_put c.args.board _ _ c.if-node_room-eq0.false c.requires.1 _ c.marks.ensures _ c.put.ensures,
+)
 
 pub returns : goal.returns
 returns c = c.build.ensures
