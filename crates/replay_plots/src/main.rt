@@ -20,7 +20,7 @@ mod single;
 // there.
 fn main(rt: HostRuntime) -> io::Result<()> {
     let mut stdin = rt.stdin();
-    let mut to = Output::new(rt.stdout());
+    let mut output = Output::new(rt.stdout());
     let mut input = [0u8; 65536];
     let mut line = lines::before();
     for _ in 0..u64::MAX {
@@ -28,7 +28,7 @@ fn main(rt: HostRuntime) -> io::Result<()> {
         if !line.is_there {
             break;
         }
-        answer(&mut to, lines::bytes_of(line, &input))?;
+        answer(&mut output, lines::bytes_of(line, &input))?;
     }
     Ok(())
 }

@@ -3,8 +3,9 @@
 // words (words).
 //
 // No function asks anything of its input: an index past the end finds nothing, and a text that is not
-// understood has a value that says so. Nothing is proved here but that every call is safe and ends, and
-// the contract of `least`: the programs are held to stored answers.
+// understood has a value that says so. A read or a write that fails comes back as its error. Nothing is
+// proved here but that every call is safe and ends, and the contract of `least`: the programs are held to
+// stored answers.
 //
 // A line has fields parted by one blank, the first of them the command. A path is digits 0 to 7,
 // `-` for the empty one; tiles are paths joined by commas, `.` for none. Marks are a hexadecimal
