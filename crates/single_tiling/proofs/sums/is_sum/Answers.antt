@@ -21,8 +21,8 @@ loop-m-preserved c =
     let positive = listed_positive c.args.tiles c.cell_counts-sizes.result c.cell_counts-sizes.ensures in
     let table : (length c.if-is_one_more.table ≡ 257) × Marked (list_of (λ i. get_or c.cell_counts-sizes.result i 0) c.args.tiles.count) (c.loop-m.m + 1) c.if-is_one_more.table =
     elim c.if-is_one_more.branch [
-      then-is_one_more w ↦ table_set _ c.loop-m.table c.if-is_one_more.table _ inv.0 inv.3 room w.table-is
-    | else-is_one_more w ↦ table_skip _ c.loop-m.table c.if-is_one_more.table _ inv.0 inv.3 positive inv.1 (sym w.if-is_one_more.false ∙ c.is_one_more.ensures) w.table-is
+      | then-is_one_more w ↦ table_set _ c.loop-m.table c.if-is_one_more.table _ inv.0 inv.3 room w.table-is
+      | else-is_one_more w ↦ table_skip _ c.loop-m.table c.if-is_one_more.table _ inv.0 inv.3 positive inv.1 (sym w.if-is_one_more.false ∙ c.is_one_more.ensures) w.table-is
     ] in
     (table.0, omega arith, omega arith, table.1)
 
