@@ -45,15 +45,15 @@ module _ {A : Type 0} (same : A → A → Bool) where
   holds xs x = any (λ y. same y x) xs
 
   -- the list with x behind it, unless it holds x
-  unfoldable pub add_new_lem : List A → A → List A
+  unfoldable pub add_new : List A → A → List A
   unfolding holds
-  add_new_lem xs x = cond (holds xs x) xs (xs ++ x ∷ [])
+  add_new xs x = cond (holds xs x) xs (xs ++ x ∷ [])
 
   -- the list xs with those elements of a second list behind it that it does not hold, each where it first appears
   unfoldable pub add_firsts : List A → List A → List A
-  unfolding add_new_lem
+  unfolding add_new
   add_firsts xs [] = xs
-  add_firsts xs (y ∷ ys) = add_firsts (add_new_lem xs y) ys
+  add_firsts xs (y ∷ ys) = add_firsts (add_new xs y) ys
 
   -- the list with first appearances kept
   unfoldable pub firsts : List A → List A

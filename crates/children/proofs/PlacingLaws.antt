@@ -9,7 +9,7 @@ use Prim.Native.Nat.{ℕ, ◌+◌, ◌-◌, ◌*◌, ◌/◌, ◌^◌, ◌≤◌
 use native.Mathlib.Omega.{arith}
 use borrow.Author.Tests.{le-leb, lt-leb, leb-true, leb-false, ne_eqb}
 use lib.Dec.{eqb, leb}
-use Rattle.cells.specs.Lists.{holds, add_new_lem, add_firsts, firsts, list_from, list_of, set_at}
+use Rattle.cells.specs.Lists.{holds, add_new, add_firsts, firsts, list_from, list_of, set_at}
 use Rattle.cells.specs.Parts.{with_set}
 use Rattle.cells.specs.ListLaws.{sets_in, length_with_set, set_at_same, set_at_other}
 use Rattle.cells.specs.FirstsLaws.{add_firsts_append, add_new_old, add_new_new}
@@ -82,10 +82,10 @@ module _ (ns ws : List ℕ) (st : Stored) (k : Keeps ns ws st) (x : ℕ) where
   past h = record { state = stored_past (length ws / 4) (length (ns ++ x ∷ [])) h; sets = λ l. absurd (omega arith) }
 
   -- room was gone before
-  pub add_full : st ≡ S.Full → Keeps (add_new_lem eqb ns x) ws S.Full
+  pub add_full : st ≡ S.Full → Keeps (add_new eqb ns x) ws S.Full
   add_full e = go (holds eqb ns x) refl
     where
-      go : (t : Bool) → holds eqb ns x ≡ t → Keeps (add_new_lem eqb ns x) ws S.Full
+      go : (t : Bool) → holds eqb ns x ≡ t → Keeps (add_new eqb ns x) ws S.Full
       go true q = rw (add_new_old eqb ns x q) record { state = sym e ∙ k.state; sets = k.sets }
       go false q = rw (add_new_new eqb ns x q) (past (omega (arith, longer, stored_full (length ws / 4) (length ns) (sym e ∙ k.state))))
 
@@ -103,15 +103,15 @@ module _ (ns ws : List ℕ) (st : Stored) (k : Keeps ns ws st) (x : ℕ) where
       held : (b : Bool) → t ≡ b → holds eqb ns x ≡ b
       held b q = ap (λ (l : List ℕ). holds eqb l x) (sym read_back) ∙ sym f ∙ q
 
-      pub add_old : t ≡ true → Keeps (add_new_lem eqb ns x) ws (S.Number n)
+      pub add_old : t ≡ true → Keeps (add_new eqb ns x) ws (S.Number n)
       add_old q = rw (add_new_old eqb ns x (held true q)) record { state = sym e ∙ k.state; sets = k.sets }
 
       -- there is no room for it
-      pub add_over : t ≡ false → length ws / 4 ≤ n → Keeps (add_new_lem eqb ns x) ws S.Full
+      pub add_over : t ≡ false → length ws / 4 ≤ n → Keeps (add_new eqb ns x) ws S.Full
       add_over q h = rw (add_new_new eqb ns x (held false q)) (past (omega (arith, longer, fits.1)))
 
       -- it is stored behind the others
-      pub add_put : x < 2 ^ 256 → t ≡ false → n < length ws / 4 → (vs : List ℕ) → vs ≡ with_set ws n x → Keeps (add_new_lem eqb ns x) vs (S.Number (n + 1))
+      pub add_put : x < 2 ^ 256 → t ≡ false → n < length ws / 4 → (vs : List ℕ) → vs ≡ with_set ws n x → Keeps (add_new eqb ns x) vs (S.Number (n + 1))
       add_put hx q h vs g =
           rw (add_new_new eqb ns x (held false q))
           record {
@@ -146,7 +146,7 @@ module _ (b : Board) (ns ws : List ℕ) where
   fit_none st ps e k = rw (← e) k
 
   -- one piece, one child
-  pub fit_one : (st : Stored) (ps : List ℕ) (n x : ℕ) → n ∷ [] ≡ ps → x ≡ child_of b n → Keeps (add_new_lem eqb ns x) ws st → Keeps (add_firsts eqb ns (map (child_of b) ps)) ws st
+  pub fit_one : (st : Stored) (ps : List ℕ) (n x : ℕ) → n ∷ [] ≡ ps → x ≡ child_of b n → Keeps (add_new eqb ns x) ws st → Keeps (add_firsts eqb ns (map (child_of b) ps)) ws st
   unfolding add_firsts
   fit_one st ps n x e f k = rw (← e, ← f) k
 

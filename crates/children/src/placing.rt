@@ -2,7 +2,7 @@
 // ask that board and tiles have been tested.
 ghost use Rattle.std.specs.Prelude.{◌≡◌, true, not, ◌&&◌, List, [], map, ℕ, ◌≤◌, eqb, length};
 ghost use Rattle.std.proofs.Math.Bool.{So};
-ghost use Rattle.cells.specs.Lists.{add_new_lem, add_firsts};
+ghost use Rattle.cells.specs.Lists.{add_new, add_firsts};
 ghost use Rattle.cells.specs.Set.{number};
 ghost use Rattle.refusal.specs.Refusal.{given};
 ghost use Rattle.tile.specs.Path.{is_path};
@@ -29,7 +29,7 @@ pub enum Stored {
 
 // One child more, unless it is stored already.
 fn add_child(out: &mut [u64], stored: Stored, child: Cells) -> Stored
-    ensures { (ns : List ℕ) → Keeps ns out.old stored → Keeps (add_new_lem eqb ns (number child)) out.new result }
+    ensures { (ns : List ℕ) → Keeps ns out.old stored → Keeps (add_new eqb ns (number child)) out.new result }
 {
     let Stored::Number(n) = stored else {
         return Stored::Full;

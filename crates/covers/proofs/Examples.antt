@@ -10,8 +10,8 @@ use Rattle.cells.specs.Set.{bit, has_cell, size}
 use Rattle.cells.specs.Lists.{any, holds}
 use Rattle.cells.specs.FirstsLaws.{holds_iff}
 use Rattle.cells.specs.MemberLaws.{eqb_tells}
-use Rattle.covers.specs.Counts.{Exactly, counts, sum_of, layers, edges_of, number_in, parents_of, turn, node_list_to, full_node_lem, at_node, layer_count}
-use Rattle.covers.specs.Setting.{CuttingOf, Laws, SoundPruning, EqualSteps, SumRule, entries_of, nodes_of, graph_edges, layer_count_of, graph_count_lem, tiling_of}
+use Rattle.covers.specs.Counts.{Exactly, counts, sum_of, layers, edges_of, number_in, parents_of, turn, node_list_to, full_node, at_node, layer_count}
+use Rattle.covers.specs.Setting.{CuttingOf, Laws, SoundPruning, EqualSteps, SumRule, entries_of, nodes_of, graph_edges, layer_count_of, graph_count, tiling_of}
 use Rattle.covers.proofs.Theorems.{number_unique, layer_count_is_cuttings}
 use Rattle.covers.specs.CellSets.{cell_setting}
 use Rattle.covers.proofs.ExamplePlots.{Plot, all, is_within, setting_of, is_plot, cuts, plot_laws, plot_steps, plot_pruning, plot_ok, plot_cutting}
@@ -52,8 +52,8 @@ two_layers_lem : layer_count_of (setting_of two_by_two) 0 ≡ 2
 unfolding setting_of size layer_count
 two_layers_lem = refl
 
-two_graph : graph_count_lem (setting_of two_by_two) 0 ≡ 2
-unfolding setting_of size graph_count_lem
+two_graph : graph_count (setting_of two_by_two) 0 ≡ 2
+unfolding setting_of size graph_count
 two_graph = refl
 
 -- so there are exactly two cuttings
@@ -76,11 +76,11 @@ unfolding setting_of size layers edges_of
 edges = refl
 
 tiling_0 : tiling_of (setting_of two_by_two) 0 0 ≡ 0 ∷ 3 ∷ 15 ∷ []
-unfolding setting_of size layers edges_of node_list_to full_node_lem at_node
+unfolding setting_of size layers edges_of node_list_to full_node at_node
 tiling_0 = refl
 
 tiling_1 : tiling_of (setting_of two_by_two) 0 1 ≡ 0 ∷ 5 ∷ 15 ∷ []
-unfolding setting_of size layers edges_of node_list_to full_node_lem at_node
+unfolding setting_of size layers edges_of node_list_to full_node at_node
 tiling_1 = refl
 
 -- what is left of the number goes on: two lists to node 3, and on to node 4
@@ -98,8 +98,8 @@ full_start_layers : layer_count_of (setting_of two_by_two) 15 ≡ 0
 unfolding setting_of size layer_count
 full_start_layers = refl
 
-full_start_graph : graph_count_lem (setting_of two_by_two) 15 ≡ 0
-unfolding setting_of size graph_count_lem
+full_start_graph : graph_count (setting_of two_by_two) 15 ≡ 0
+unfolding setting_of size graph_count
 full_start_graph = refl
 
 full_start_cutting : CuttingOf (setting_of two_by_two) 15 (holds eqb [])
@@ -145,8 +145,8 @@ slanted_layers : layer_count_of (setting_of slanted) 0 ≡ 0
 unfolding setting_of size layer_count flat_map beside has_four
 slanted_layers = refl
 
-slanted_graph : graph_count_lem (setting_of slanted) 0 ≡ 0
-unfolding setting_of size graph_count_lem flat_map beside has_four
+slanted_graph : graph_count (setting_of slanted) 0 ≡ 0
+unfolding setting_of size graph_count flat_map beside has_four
 slanted_graph = refl
 
 -- one cutting exists: its pieces, and that there is no other, which the count with no pruning tells
@@ -203,8 +203,8 @@ mixed_pruning : SoundPruning (setting_of mixed)
 unfolding is_plot
 mixed_pruning = plot_pruning mixed refl (λ s. refl)
 
-mixed_counts : (layer_count_of (setting_of mixed) 0 ≡ 2) × (graph_count_lem (setting_of mixed) 0 ≡ 1)
-unfolding setting_of size layer_count graph_count_lem
+mixed_counts : (layer_count_of (setting_of mixed) 0 ≡ 2) × (graph_count (setting_of mixed) 0 ≡ 1)
+unfolding setting_of size layer_count graph_count
 mixed_counts = (refl, refl)
 
 mixed_nodes : nodes_of (setting_of mixed) 0 ≡ 0 ∷ 1 ∷ 3 ∷ 3 ∷ []

@@ -14,7 +14,7 @@ use Rattle.std.proofs.Math.Decide.{dec_lt}
 use native.Mathlib.Omega.{arith}
 use Rattle.std.proofs.Math.ListN.{get_or, length-append, get_or-append}
 use Rattle.cells.specs.FirstsLaws.{Tells, mem_get_d, add_firsts_append, length_add_firsts, mem_add_new, mem_firsts}
-use Rattle.cells.specs.Lists.{holds, add_new_lem, add_firsts, firsts}
+use Rattle.cells.specs.Lists.{holds, add_new, add_firsts, firsts}
 use Rattle.cells.specs.MemberLaws.{mem_flat_map, flat_map_append, flat_map_snoc}
 use Rattle.covers.specs.Setting.{Setting, child_boards, Laws, EqualSteps, nodes_of, graph_edges}
 use Rattle.covers.specs.Counts.{number_in, edges_of}
@@ -44,7 +44,7 @@ module _ {B : Type 0} (same : B → B → Bool) where
   add_children_count p (c ∷ cs) g =
       omega (
         arith,
-        length-append g.1 ((p, number_in same (add_new_lem same g.0 c) c) ∷ []),
+        length-append g.1 ((p, number_in same (add_new same g.0 c) c) ∷ []),
         add_children_count p cs (add_child same p c g),
       )
 
@@ -57,8 +57,8 @@ module _ {B : Type 0} (same : B → B → Bool) where
   )
 
   -- what is added stands behind what was there
-  add_new_behind : (xs : List B) (y : B) → (zs : List B) × (add_new_lem same xs y ≡ xs ++ zs)
-  unfolding add_new_lem
+  add_new_behind : (xs : List B) (y : B) → (zs : List B) × (add_new same xs y ≡ xs ++ zs)
+  unfolding add_new
   add_new_behind xs y = go (holds same xs y)
     where
       go : (b : Bool) → (zs : List B) × (cond b xs (xs ++ y ∷ []) ≡ xs ++ zs)
@@ -70,7 +70,7 @@ module _ {B : Type 0} (same : B → B → Bool) where
   add_firsts_behind xs [] = ([], sym (append-nil xs))
   add_firsts_behind xs (y ∷ ys) =
       let a = add_new_behind xs y in
-      let r = add_firsts_behind (add_new_lem same xs y) ys in
+      let r = add_firsts_behind (add_new same xs y) ys in
       (a.0 ++ r.0, r.1 ∙ ap (λ (l : List B). l ++ r.0) a.1 ∙ append_assoc xs a.0 r.0)
 
   -- where the nodes are the first of a list, the numbers of the edges are those of that list
@@ -80,15 +80,15 @@ module _ {B : Type 0} (same : B → B → Bool) where
   add_children_edges tells ns p [] g ss e = sym (append-nil g.1)
   add_children_edges tells ns p (c ∷ cs) g ss e =
       add_children_edges tells ns p cs (add_child same p c g) ss e
-      ∙ append_assoc g.1 ((p, number_in same (add_new_lem same g.0 c) c) ∷ []) (map (λ c. (p, number_in same ns c)) cs)
+      ∙ append_assoc g.1 ((p, number_in same (add_new same g.0 c) c) ∷ []) (map (λ c. (p, number_in same ns c)) cs)
       ∙ ap (λ (k : ℕ). g.1 ++ (p, k) ∷ map (λ c. (p, number_in same ns c)) cs) (sym number)
     where
-      number : number_in same ns c ≡ number_in same (add_new_lem same g.0 c) c
+      number : number_in same ns c ≡ number_in same (add_new same g.0 c) c
       number =
-          let r = add_firsts_behind (add_new_lem same g.0 c) cs in
+          let r = add_firsts_behind (add_new same g.0 c) cs in
           ap (λ (l : List B). number_in same l c)
-          (e ∙ ap (λ (l : List B). l ++ ss) r.1 ∙ append_assoc (add_new_lem same g.0 c) r.0 ss)
-          ∙ number_left same tells (add_new_lem same g.0 c) (r.0 ++ ss) c ((mem_add_new same tells g.0 c c).1 (inr refl))
+          (e ∙ ap (λ (l : List B). l ++ ss) r.1 ∙ append_assoc (add_new same g.0 c) r.0 ss)
+          ∙ number_left same tells (add_new same g.0 c) (r.0 ++ ss) c ((mem_add_new same tells g.0 c c).1 (inr refl))
 
 -- ---- what is found when the first i nodes have been expanded
 
@@ -129,7 +129,7 @@ module _ {B P : Type 0} (G : Setting B P) (L : Laws G) (a : ℕ) (E : EqualSteps
   edges_from t = map (λ c. (number t, number c)) (children t)
 
   pub found_zero : found_at G s 0 ≡ s ∷ []
-  unfolding found_at firsts add_firsts add_new_lem holds
+  unfolding found_at firsts add_firsts add_new holds
   found_zero = refl
 
   -- the nodes found are the first of the nodes

@@ -13,7 +13,7 @@ use mathlib.Core.List.Memᴰ.{of_map}
 use mathlib.Core.List.{List, [], ◌∷◌, ◌++◌, map, map-append, map-map, map-id, Memᴰ as Mem}
 use native.Mathlib.Omega.{arith}
 use Rattle.cells.specs.FirstsLaws.{Once, same_false, mem_cases, add_firsts_append, mem_firsts, once_firsts, Tells}
-use Rattle.cells.specs.Lists.{holds, add_new_lem, firsts}
+use Rattle.cells.specs.Lists.{holds, add_new, firsts}
 use Rattle.cells.specs.MemberLaws.{mem_split, map_ext}
 use Rattle.covers.specs.Counts.{Entry, boards, weight, gather}
 use Rattle.covers.specs.Inner.{add_paths}
@@ -44,8 +44,8 @@ module _ {B : Type 0} (same : B → B → Bool) where
   boards_gather es =
       map-map (λ (e : Entry B). e.0) _ (firsts same (boards es)) ∙ map-id (firsts same (boards es))
 
-  pub boards_add_paths : (c : B) (k : ℕ) (es : List (Entry B)) → boards (add_paths same c k es) ≡ add_new_lem same (boards es) c
-  unfolding add_paths add_new_lem
+  pub boards_add_paths : (c : B) (k : ℕ) (es : List (Entry B)) → boards (add_paths same c k es) ≡ add_new same (boards es) c
+  unfolding add_paths add_new
   boards_add_paths c k [] = refl
   boards_add_paths c k (e ∷ es) = go (same e.0 c) (holds same (boards es) c) (boards_add_paths c k es)
     where
@@ -149,13 +149,13 @@ module _ {B : Type 0} (same : B → B → Bool) where
     unfolding weight
     weight_snoc t es c k = weight_append t es ((c, k) ∷ []) ∙ omega arith
 
-    boards_snoc : (es : List (Entry B)) (c : B) (k : ℕ) → boards (gather same (es ++ (c, k) ∷ [])) ≡ add_new_lem same (boards (gather same es)) c
+    boards_snoc : (es : List (Entry B)) (c : B) (k : ℕ) → boards (gather same (es ++ (c, k) ∷ [])) ≡ add_new same (boards (gather same es)) c
     unfolding firsts
     boards_snoc es c k =
         boards_gather (es ++ (c, k) ∷ [])
         ∙ ap (firsts same) (map-append (λ e. e.0) es ((c, k) ∷ []))
         ∙ add_firsts_append same [] (boards es) (c ∷ [])
-        ∙ ap (λ (l : List B). add_new_lem same l c) (sym (boards_gather es))
+        ∙ ap (λ (l : List B). add_new same l c) (sym (boards_gather es))
 
     -- what is built of the shares one by one is what is built of all
     pub gather_snoc : (es : List (Entry B)) (c : B) (k : ℕ) → gather same (es ++ (c, k) ∷ []) ≡ add_paths same c k (gather same es)

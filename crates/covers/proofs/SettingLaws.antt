@@ -13,7 +13,7 @@ use Rattle.std.proofs.Math.Nat.{zero-mul, suc-mul, eq_of_mul-eq-mul_right}
 use Rattle.std.proofs.Math.Decide.{dec_lt}
 use native.Mathlib.Omega.{arith}
 use Rattle.cells.specs.FirstsLaws.{Once, add_firsts_append, add_firsts_apart, Tells}
-use Rattle.cells.specs.Lists.{any, holds, add_new_lem, add_firsts, firsts}
+use Rattle.cells.specs.Lists.{any, holds, add_new, add_firsts, firsts}
 use Rattle.cells.specs.MemberLaws.{no_member, mem_flat_map, flat_map_append, once_append}
 use Rattle.covers.specs.Setting.{Setting, child_boards, Laws, EqualSteps, nodes_of, path_count_of, layer_of}
 use Rattle.covers.specs.Counts.{counts, ChildSequence, Entry, boards, layer, layers, number_in}
@@ -173,7 +173,7 @@ module _ {B P : Type 0} (G : Setting B P) (L : Laws G) (a : ℕ) (E : EqualSteps
           omega arith
 
   pub found_layers : (n : ℕ) → firsts same (s ∷ flat_map children (boards (up_to n))) ≡ boards (up_to (suc n))
-  unfolding firsts add_firsts add_new_lem holds any layers layer
+  unfolding firsts add_firsts add_new holds any layers layer
   found_layers zero = found_next zero
   found_layers (suc n) =
       ap (λ (ss : List B). firsts same (s ∷ ss))

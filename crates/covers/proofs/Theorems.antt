@@ -6,8 +6,8 @@ use Rattle.std.proofs.Math.Bool.{So}
 use mathlib.Core.List.{List, [], ◌∷◌, map, flat_map, Memᴰ as Mem}
 use Rattle.cells.specs.FirstsLaws.{Once, Tells}
 use Rattle.cells.specs.Lists.{holds, firsts}
-use Rattle.covers.specs.Counts.{Numbering, Exactly, full_count_lem, Chain, ChildSequence, Entry, boards, sum_of, shares, weight, gather, node_list_to, pieces_of}
-use Rattle.covers.specs.Setting.{Setting, CuttingOf, PlacingSequence, child_boards, Laws, SoundPruning, EqualSteps, layer_of, SumRule, nodes_of, path_count_of, graph_edges, layer_count_of, graph_count_lem, tiling_of, cutting_at}
+use Rattle.covers.specs.Counts.{Numbering, Exactly, full_count, Chain, ChildSequence, Entry, boards, sum_of, shares, weight, gather, node_list_to, pieces_of}
+use Rattle.covers.specs.Setting.{Setting, CuttingOf, PlacingSequence, child_boards, Laws, SoundPruning, EqualSteps, layer_of, SumRule, nodes_of, path_count_of, graph_edges, layer_count_of, graph_count, tiling_of, cutting_at}
 use Rattle.covers.proofs.NumberingLaws.{exactly_unique, carry, exactly_pairs, product_of, OneOfEach, exactly_lists}
 use Rattle.covers.proofs.SequenceLaws.{sequence_cutting, sequence_unique, sequences_at_most, one_sequence, full_cutting}
 use Rattle.covers.proofs.ChildLaws.{child_once}
@@ -48,7 +48,7 @@ module _ {B P : Type 0} (G : Setting B P) (L : Laws G) (s : B) (ok : G.Ok s) whe
   pub full_has_one : So (G.full s) → Numbering (CuttingOf G s) 1 (λ m p. false)
   full_has_one = full_cutting G L s ok
 
-  pub full_counts_none : So (G.full s) → (layer_count_of G s ≡ 0) × (graph_count_lem G s ≡ 0)
+  pub full_counts_none : So (G.full s) → (layer_count_of G s ≡ 0) × (graph_count G s ≡ 0)
   full_counts_none f = (full_layer_count G L s ok f, full_graph_count G L s ok f)
 
   -- ---- 3. Placing sequences
@@ -145,30 +145,30 @@ chain_has_number = chain_tiling
 -- ---- 7. Joined, where every piece takes equally many free cells
 
 -- The layer count and the graph count are one number, whatever is pruned and also of a full start.
-pub counts_are_equal : {B P : Type 0} (G : Setting B P) → Laws G → (a : ℕ) → EqualSteps G a → (s : B) → G.Ok s → layer_count_of G s ≡ graph_count_lem G s
+pub counts_are_equal : {B P : Type 0} (G : Setting B P) → Laws G → (a : ℕ) → EqualSteps G a → (s : B) → G.Ok s → layer_count_of G s ≡ graph_count G s
 counts_are_equal = counts_agree
 
 -- Where no child sequence reaches a full board, it is 0.
 pub none_reached_counts_none : {B P : Type 0} (G : Setting B P) → Laws G → (a : ℕ) → EqualSteps G a → (s : B) → G.Ok s
-    → ((t : B) → So (G.full t) → (xs : List B) → ChildSequence (child_boards G) s t xs → ⊥) → graph_count_lem G s ≡ 0
+    → ((t : B) → So (G.full t) → (xs : List B) → ChildSequence (child_boards G) s t xs → ⊥) → graph_count G s ≡ 0
 none_reached_counts_none = none_reached
 
 module _ {B P : Type 0} (G : Setting B P) (L : Laws G) (a : ℕ) (E : EqualSteps G a) (s : B) (ok : G.Ok s) (notFull : G.full s ≡ false) where
   -- Of a start that is not full it is the number of child sequences to the full board, where one is reached;
   pub count_is_child_sequences : (t : B) → So (G.full t) → (xs : List B) → ChildSequence (child_boards G) s t xs
-      → Exactly (graph_count_lem G s) (ChildSequence (child_boards G) s t)
+      → Exactly (graph_count G s) (ChildSequence (child_boards G) s t)
   count_is_child_sequences = full_sequences G L a E s ok notFull
 
   -- and the number of placing sequences, whatever is pruned: the pieces of the tilings by number, in order.
-  pub tilings_are_sequences : Numbering (PlacingSequence G s) (graph_count_lem G s) (λ m. pieces_of G.step_piece (tiling_of G s m))
+  pub tilings_are_sequences : Numbering (PlacingSequence G s) (graph_count G s) (λ m. pieces_of G.step_piece (tiling_of G s m))
   tilings_are_sequences = sequences_by_number G L a E s ok notFull
 
   -- Where only boards without a cutting are pruned, the pieces of the tilings by number are the cuttings, each once and all.
-  pub tilings_are_cuttings : SoundPruning G → Numbering (CuttingOf G s) (graph_count_lem G s) (cutting_at G s)
+  pub tilings_are_cuttings : SoundPruning G → Numbering (CuttingOf G s) (graph_count G s) (cutting_at G s)
   tilings_are_cuttings = cuttings_by_number G L a E s ok notFull
 
   -- So the graph count and the layer count are both the number of cuttings.
-  pub graph_count_is_cuttings : SoundPruning G → Exactly (graph_count_lem G s) (CuttingOf G s)
+  pub graph_count_is_cuttings : SoundPruning G → Exactly (graph_count G s) (CuttingOf G s)
   graph_count_is_cuttings sound = (cutting_at G s, tilings_are_cuttings sound)
 
   pub layer_count_is_cuttings : SoundPruning G → Exactly (layer_count_of G s) (CuttingOf G s)
@@ -183,7 +183,7 @@ module _ {B : Type 0} (same : B → B → Bool) (tells : Tells same) (es ds : Li
   same_entries_same_weights = alike_order same tells es ds
 
   -- Where two layers have the same weights, the full board has the same path count in both;
-  pub full_count_by_weights : (full : B → Bool) → ((t : B) → weight same t es ≡ weight same t ds) → full_count_lem full es ≡ full_count_lem full ds
+  pub full_count_by_weights : (full : B → Bool) → ((t : B) → weight same t es ≡ weight same t ds) → full_count full es ≡ full_count full ds
   full_count_by_weights full = alike_full_count same tells full es ds
 
   module _ (children : B → List B) where

@@ -126,19 +126,19 @@ node_list_to es count v m = walk es count v v m
 
 module _ {B : Type 0} (full : B → Bool) where
   -- the path count of the full board among some entries, 0 if it is not there
-  unfoldable pub full_count_lem : List (Entry B) → ℕ
+  unfoldable pub full_count : List (Entry B) → ℕ
   unfolding sum_of
-  full_count_lem es = sum_of (λ e. cond (full e.0) e.1 0) es
+  full_count es = sum_of (λ e. cond (full e.0) e.1 0) es
 
   -- the number of the first full board, the numbers beginning with i
-  unfoldable pub full_from_lem : ℕ → List B → Option ℕ
-  full_from_lem i [] = none
-  full_from_lem i (s ∷ ss) = cond (full s) (some i) (full_from_lem (suc i) ss)
+  unfoldable pub full_from : ℕ → List B → Option ℕ
+  full_from i [] = none
+  full_from i (s ∷ ss) = cond (full s) (some i) (full_from (suc i) ss)
 
   -- "the full board's node, or none; node 0 is never that node"
-  unfoldable pub full_node_lem : List B → Option ℕ
-  unfolding full_from_lem
-  full_node_lem ss = full_from_lem 1 (tail ss)
+  unfoldable pub full_node : List B → Option ℕ
+  unfolding full_from
+  full_node ss = full_from 1 (tail ss)
 
 -- f of a node, 0 with none
 unfoldable pub at_node : (ℕ → ℕ) → Option ℕ → ℕ
@@ -166,6 +166,6 @@ module _ {B P : Type 0} (step : B → B → P) where
 -- cell, so that the number of free cells is an n that is large enough
 module _ {B : Type 0} (same : B → B → Bool) (children : B → List B) (full : B → Bool) (s : B) where
   unfoldable pub layer_count : ℕ → ℕ
-  unfolding full_count_lem layer
+  unfolding full_count layer
   layer_count zero = 0
-  layer_count (suc n) = layer_count n + full_count_lem full (layer same children s (suc n))
+  layer_count (suc n) = layer_count n + full_count full (layer same children s (suc n))

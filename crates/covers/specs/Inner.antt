@@ -4,7 +4,7 @@ use Rattle.std.specs.Prelude.{Bool, eqb}
 use Rattle.std.proofs.Math.Bool.{cond}
 use mathlib.Core.List.{List, [], ◌∷◌, ◌++◌}
 use Prim.Native.Nat.{ℕ, ◌+◌}
-use Rattle.cells.specs.Lists.{add_new_lem}
+use Rattle.cells.specs.Lists.{add_new}
 use Rattle.covers.specs.Counts.{Entry, number_in}
 
 -- an edge's share: what it adds to the count of node v
@@ -19,8 +19,8 @@ module _ {B : Type 0} (same : B → B → Bool) where
 
   -- one more child of the parent p: a node if it is new, and an edge
   unfoldable pub add_child : ℕ → B → List B × List (ℕ × ℕ) → List B × List (ℕ × ℕ)
-  unfolding add_new_lem number_in
-  add_child p c g = (add_new_lem same g.0 c, g.1 ++ (p, number_in same (add_new_lem same g.0 c) c) ∷ [])
+  unfolding add_new number_in
+  add_child p c g = (add_new same g.0 c, g.1 ++ (p, number_in same (add_new same g.0 c) c) ∷ [])
 
   -- more children of the parent p, in order
   unfoldable pub add_children : ℕ → List B → List B × List (ℕ × ℕ) → List B × List (ℕ × ℕ)

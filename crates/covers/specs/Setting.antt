@@ -6,7 +6,7 @@ use Rattle.std.proofs.Math.Bool.{So}
 use mathlib.Core.List.{List, [], ◌∷◌, map, Memᴰ as Mem}
 use Rattle.cells.specs.FirstsLaws.{Once, Tells}
 use Rattle.cells.specs.Lists.{holds}
-use Rattle.covers.specs.Counts.{Exactly, Entry, boards, counts, sum_of, layer, layers, edges_of, parents_of, full_node_lem, at_node, node_list, pieces_of, layer_count}
+use Rattle.covers.specs.Counts.{Exactly, Entry, boards, counts, sum_of, layer, layers, edges_of, parents_of, full_node, at_node, node_list, pieces_of, layer_count}
 
 -- ---- cuttings, of what a piece covers, of the pieces that are "a tile's cells moved unturned", and of the free cells; of nothing else. Pieces
 -- are 01's "cell sets" where P is ℕ and `covers` is `has_cell` (`CellSets`)
@@ -124,13 +124,13 @@ module _ {B P : Type 0} (G : Setting B P) (s : B) where
   layer_count_of = layer_count_to (G.free_count s)
 
   -- "The graph count is that node's path count, 0 with none"
-  unfoldable pub graph_count_lem : ℕ
-  unfolding layers full_node_lem at_node
-  graph_count_lem = at_node path_count_of (full_node_lem G.full nodes_of)
+  unfoldable pub graph_count : ℕ
+  unfolding layers full_node at_node
+  graph_count = at_node path_count_of (full_node G.full nodes_of)
 
   -- the boards of the node list with the number m to the full node, and "the set of pieces that its steps mark"
   abbrev pub tiling_of : ℕ → List B
-  tiling_of m = map (λ v. get_or nodes_of v s) (node_list graph_edges path_count_of (full_node_lem G.full nodes_of) m)
+  tiling_of m = map (λ v. get_or nodes_of v s) (node_list graph_edges path_count_of (full_node G.full nodes_of) m)
 
   abbrev pub cutting_at : ℕ → P → Bool
   cutting_at m = holds G.same_piece (pieces_of G.step_piece (tiling_of m))

@@ -69,8 +69,8 @@ module _ (width height : ℕ) (marks tiles : List ℕ) (small : Small marks)
   abbrev board_given : RectangularBoard
   board_given = board_in width height marks
 
-  abbrev tiles_given_lem : Tiles
-  tiles_given_lem = tiles_in tiles
+  abbrev tiles_given : Tiles
+  tiles_given = tiles_in tiles
 
   fixed_words : Sound board_given.fixed
   fixed_words = record { s0 = small 0; s1 = small 1; s2 = small 2; s3 = small 3 }
@@ -78,27 +78,27 @@ module _ (width height : ℕ) (marks tiles : List ℕ) (small : Small marks)
   laid_words : Sound board_given.laid
   laid_words = record { s0 = small 4; s1 = small 5; s2 = small 6; s3 = small 7 }
 
-  first : (n : ℕ) × (count_tilings board_given tiles_given_lem (layer_room (length boardsA) (length countsA) (length boardsB) (length countsB)) ≡ given n)
+  first : (n : ℕ) × (count_tilings board_given tiles_given (layer_room (length boardsA) (length countsA) (length boardsB) (length countsB)) ≡ given n)
       × (2 ≤ length answer) × (answer' ≡ padded (words_below 2 n) (length answer))
   first = count_given_lem width height marks tiles boardsA countsA boardsB countsB answer boardsA' countsA' boardsB' countsB' answer' count_told
 
   -- the number in the count's two words
-  abbrev count_given_lem : ℕ
-  count_given_lem = value (take 2 answer')
+  abbrev count_given : ℕ
+  count_given = value (take 2 answer')
 
-  told_n : count_tilings board_given tiles_given_lem (layer_room (length boardsA) (length countsA) (length boardsB) (length countsB)) ≡ given count_given_lem
+  told_n : count_tilings board_given tiles_given (layer_room (length boardsA) (length countsA) (length boardsB) (length countsB)) ≡ given count_given
   told_n =
       first.1
       ∙ ap given
       (sym (count_back first.0 (length answer)
-      (layers_small board_given fixed_words laid_words tiles_given_lem (layer_room (length boardsA) (length countsA) (length boardsB) (length countsB)) first.0 first.1) first.2 answer' first.3))
+      (layers_small board_given fixed_words laid_words tiles_given (layer_room (length boardsA) (length countsA) (length boardsB) (length countsB)) first.0 first.1) first.2 answer' first.3))
 
-  pub n_small : count_given_lem < count_limit
-  n_small = layers_small board_given fixed_words laid_words tiles_given_lem (layer_room (length boardsA) (length countsA) (length boardsB) (length countsB)) count_given_lem told_n
+  pub n_small : count_given < count_limit
+  n_small = layers_small board_given fixed_words laid_words tiles_given (layer_room (length boardsA) (length countsA) (length boardsB) (length countsB)) count_given told_n
 
-  pub n_cuttings : HasFreeCell (board_of board_given) → AllEdgeJoined (paths_in tiles_given_lem) → Exactly count_given_lem (IsCutting (board_of board_given) (paths_in tiles_given_lem))
+  pub n_cuttings : HasFreeCell (board_of board_given) → AllEdgeJoined (paths_in tiles_given) → Exactly count_given (IsCutting (board_of board_given) (paths_in tiles_given))
   n_cuttings free joined =
-      count_cuttings_lem board_given fixed_words laid_words tiles_given_lem free joined (layer_room (length boardsA) (length countsA) (length boardsB) (length countsB)) count_given_lem told_n
+      count_cuttings_lem board_given fixed_words laid_words tiles_given free joined (layer_room (length boardsA) (length countsA) (length boardsB) (length countsB)) count_given told_n
 
 -- ---- the three calls
 

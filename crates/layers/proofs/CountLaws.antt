@@ -20,8 +20,8 @@ use Rattle.board.specs.declared.RectangularBoard.{RectangularBoard}
 use Rattle.rectangle.specs.Board.{Board, marks}
 use Rattle.board.specs.Board.{board_of}
 use Rattle.children.specs.Children.{full_at, free_count_at}
-use Rattle.covers.specs.Setting.{Setting, child_boards, layer_of, layer_count_of, entries_of, nodes_of, path_count_of, graph_count_lem, cutting_at}
-use Rattle.covers.specs.Counts.{Exactly, Entry, counts, layer, layers, layer_count, full_node_lem, at_node}
+use Rattle.covers.specs.Setting.{Setting, child_boards, layer_of, layer_count_of, entries_of, nodes_of, path_count_of, graph_count, cutting_at}
+use Rattle.covers.specs.Counts.{Exactly, Entry, counts, layer, layers, layer_count, full_node, at_node}
 use Rattle.covers.proofs.Theorems.{counts_are_equal}
 use Rattle.path_count.specs.PathCounts.{count_limit}
 use Rattle.graph.specs.Graph.{layer_room}
@@ -56,7 +56,7 @@ counted_layers b ts room n e = go (judge_layers (layer_of (setting_of b ts) (sta
 
 module _ (b : RectangularBoard) (fixed : Sound b.fixed) (laid : Sound b.laid) (ts : Tiles) where
   -- a layer count that is given is the graph count of the definition
-  pub layers_count : (room n : ℕ) → count_tilings b ts room ≡ given n → Accepted b ts × (n ≡ graph_count_lem (setting_of b ts) (start_of b))
+  pub layers_count : (room n : ℕ) → count_tilings b ts room ≡ given n → Accepted b ts × (n ≡ graph_count (setting_of b ts) (start_of b))
   unfolding count_tilings
   layers_count room n told =
       let r = from_read b ts _ n told in (
@@ -116,9 +116,9 @@ entry_small es small =
     (λ n m. let r = of_map (λ (e : Entry ℕ). e.1) es m in subst (λ (x : ℕ). x < count_limit) r.2 (small r.0 r.1))
 
 -- where the layers have room and their counts fit, so does the count of the definition
-given_small : (S : Setting ℕ ℕ) (s room n : ℕ) → layers_answer S s room ≡ given n → graph_count_lem S s < count_limit
-unfolding layers_answer graph_count_lem at_node
-given_small S s room n e = go (full_node_lem S.full (nodes_of S s))
+given_small : (S : Setting ℕ ℕ) (s room n : ℕ) → layers_answer S s room ≡ given n → graph_count S s < count_limit
+unfolding layers_answer graph_count at_node
+given_small S s room n e = go (full_node S.full (nodes_of S s))
   where
     judged : (es : List (Entry ℕ)) × (judge_layers (layer_of S s) room (S.free_count s) ≡ given es)
     judged = let r = map_given (λ es. layer_count_of S s) (judge_layers (layer_of S s) room (S.free_count s)) n e in (r.0, r.1)

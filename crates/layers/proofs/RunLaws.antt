@@ -17,7 +17,7 @@ use Rattle.cells.specs.MemberLaws.{no_member, mem_flat_map}
 use Rattle.refusal.specs.Refusal.{Answer, refused, given, map_answer, bind_answer}
 use Rattle.refusal.specs.RefusalLaws.{refused_given}
 use Rattle.covers.specs.Setting.{Setting, child_boards, Laws, EqualSteps, layer_of, layer_count_to, layer_count_of}
-use Rattle.covers.specs.Counts.{Entry, boards, counts, sum_of, shares, gather, layer, full_count_lem, layer_count}
+use Rattle.covers.specs.Counts.{Entry, boards, counts, sum_of, shares, gather, layer, full_count, layer_count}
 use Rattle.covers.proofs.SumLaws.{sum_zero}
 use Rattle.covers.proofs.GatherLaws.{mem_boards, once_gather, mem_gather}
 use Rattle.covers.proofs.LayerLaws.{boards_shares}
@@ -75,7 +75,7 @@ module _ (S : Setting ℕ ℕ) where
 
   -- no board, no count
   count_none : (room k : ℕ) → count_from S room k [] ≡ given 0
-  unfolding count_from full_count_lem sum_of map_answer bind_answer
+  unfolding count_from full_count sum_of map_answer bind_answer
   count_none room zero = refl
   count_none room (suc k) =
       ap (λ (es : List (Entry ℕ)). map_answer (λ n. 0 + n) (bind_answer (judge_layer room es) (count_from S room k))) next_of_none
@@ -128,8 +128,8 @@ module _ (S : Setting ℕ ℕ) where
       full_some n h = fullIs n ∙ ne_eqb (S.free_count n) 0 (λ e. omega arith)
 
       -- a last layer has one board at most
-      last_full : (es : List (Entry ℕ)) → Ready S 0 es → full_count_lem S.full es ≡ get_or (counts es) 0 0
-      unfolding full_count_lem sum_of
+      last_full : (es : List (Entry ℕ)) → Ready S 0 es → full_count S.full es ≡ get_or (counts es) 0 0
+      unfolding full_count sum_of
       last_full [] R = refl
       last_full (e ∷ []) R = omega (arith, ap (λ (b : Bool). cond b e.1 0) (full_none e.0 (R.free e.0 (here refl))))
       last_full (e ∷ d ∷ es) R =
@@ -139,8 +139,8 @@ module _ (S : Setting ℕ ℕ) where
           (L.full_one e.0 d.0 (R.ok e.0 (here refl)) (R.ok d.0 (there (here refl)))
           (full_none e.0 (R.free e.0 (here refl))) (full_none d.0 (R.free d.0 (there (here refl)))))))
 
-      not_full : (left : ℕ) (es : List (Entry ℕ)) → Ready S left es → 0 < left → full_count_lem S.full es ≡ 0
-      unfolding full_count_lem
+      not_full : (left : ℕ) (es : List (Entry ℕ)) → Ready S left es → 0 < left → full_count S.full es ≡ 0
+      unfolding full_count
       not_full left es R h = sum_zero (λ e. cond (S.full e.0) e.1 0) es
           (λ e m.
           let f = R.free e.0 (mem_boards es e m) in
@@ -157,14 +157,14 @@ module _ (S : Setting ℕ ℕ) where
 
       module _ (a : ℕ) (E : EqualSteps S a) where
         -- nothing follows
-        none_follows : (room k : ℕ) (es : List (Entry ℕ)) → next_of S es ≡ [] → count_from S room k es ≡ given (full_count_lem S.full es)
+        none_follows : (room k : ℕ) (es : List (Entry ℕ)) → next_of S es ≡ [] → count_from S room k es ≡ given (full_count S.full es)
         unfolding count_from map_answer bind_answer
         none_follows room zero es e = refl
         none_follows room (suc k) es e =
-            ap (λ (x : Answer (List (Entry ℕ))). map_answer (λ n. full_count_lem S.full es + n) (bind_answer x (count_from S room k)))
+            ap (λ (x : Answer (List (Entry ℕ))). map_answer (λ n. full_count S.full es + n) (bind_answer x (count_from S room k)))
             (ap (judge_layer room) e ∙ judge_layer_none room)
-            ∙ ap (map_answer (λ n. full_count_lem S.full es + n)) (count_none room k)
-            ∙ ap given (add-zero (full_count_lem S.full es))
+            ∙ ap (map_answer (λ n. full_count S.full es + n)) (count_none room k)
+            ∙ ap given (add-zero (full_count S.full es))
 
         pub count_last : (room k : ℕ) (es : List (Entry ℕ)) → Ready S 0 es → 0 < a → count_from S room k es ≡ given (get_or (counts es) 0 0)
         count_last room k es R h = none_follows room k es (next_none a E 0 es R h) ∙ ap given (last_full es R)
@@ -179,14 +179,14 @@ module _ (S : Setting ℕ ℕ) (s room : ℕ) where
   W n = judge_layers (layer_of S s) room n
 
   -- the layers 0 to j and then what is answered from layer j on; b is the count of the layers before j
-  from_layer_lem : (k j b : ℕ) → layer_count_to S s j ≡ b + full_count_lem S.full (layer_of S s j)
+  from_layer_lem : (k j b : ℕ) → layer_count_to S s j ≡ b + full_count S.full (layer_of S s j)
       → map_answer (λ es. layer_count_to S s (j + k)) (W (j + k)) ≡ bind_answer (W j) (λ es. map_answer (λ n. b + n) (count_from S room k (layer_of S s j)))
   unfolding count_from map_answer bind_answer layer_count judge_layers next_of layer
   from_layer_lem zero j b e =
       ap (λ (i : ℕ). map_answer (λ es. layer_count_to S s i) (W i)) (add-zero j) ∙ go (W j)
     where
       go : (w : Answer (List (Entry ℕ)))
-          → map_answer (λ es. layer_count_to S s j) w ≡ bind_answer w (λ es. given (b + full_count_lem S.full (layer_of S s j)))
+          → map_answer (λ es. layer_count_to S s j) w ≡ bind_answer w (λ es. given (b + full_count S.full (layer_of S s j)))
       go (refused n) = refl
       go (given ds) = ap given e
   from_layer_lem (suc k) j b e =
@@ -197,19 +197,19 @@ module _ (S : Setting ℕ ℕ) (s room : ℕ) where
     where
       go : (w u : Answer (List (Entry ℕ))) → judge_layer room (layer_of S s (suc j)) ≡ u
           → bind_answer (bind_answer w (λ es. u)) (λ es. map_answer (λ n. layer_count_to S s j + n) (count_from S room k (layer_of S s (suc j))))
-          ≡ bind_answer w (λ es. map_answer (λ n. b + n) (map_answer (λ n. full_count_lem S.full (layer_of S s j) + n) (bind_answer u (count_from S room k))))
+          ≡ bind_answer w (λ es. map_answer (λ n. b + n) (map_answer (λ n. full_count S.full (layer_of S s j) + n) (bind_answer u (count_from S room k))))
       go (refused n) u q = refl
       go (given ds) (refused n) q = refl
       go (given ds) (given es) q =
-          map_plus b (full_count_lem S.full (layer_of S s j)) (layer_count_to S s j) (count_from S room k (layer_of S s (suc j))) e
-          ∙ ap (λ (x : List (Entry ℕ)). map_answer (λ n. b + n) (map_answer (λ n. full_count_lem S.full (layer_of S s j) + n) (count_from S room k x)))
+          map_plus b (full_count S.full (layer_of S s j)) (layer_count_to S s j) (count_from S room k (layer_of S s (suc j))) e
+          ∙ ap (λ (x : List (Entry ℕ)). map_answer (λ n. b + n) (map_answer (λ n. full_count S.full (layer_of S s j) + n) (count_from S room k x)))
           (judge_layer_given room (layer_of S s (suc j)) es q)
 
   -- of a start that is not full, and room for it
   pub layers_from : S.full s ≡ false → 0 < room → layers_answer S s room ≡ count_from S room (S.free_count s) ((s, 1) ∷ [])
-  unfolding layers_answer layer_count judge_layers layer full_count_lem sum_of bind_answer
+  unfolding layers_answer layer_count judge_layers layer full_count sum_of bind_answer
   layers_from f h =
-      let none : 0 ≡ 0 + full_count_lem S.full ((s, 1) ∷ []) = omega (arith, ap {B = ℕ} (λ (b : Bool). cond b 1 0) f) in
+      let none : 0 ≡ 0 + full_count S.full ((s, 1) ∷ []) = omega (arith, ap {B = ℕ} (λ (b : Bool). cond b 1 0) f) in
       ap (λ (i : ℕ). map_answer (λ es. layer_count_to S s i) (W i)) (sym (zero-add (S.free_count s)))
       ∙ from_layer_lem (S.free_count s) 0 0 none
       ∙ ap (λ (x : Answer (List (Entry ℕ))). bind_answer x (λ es. map_answer (λ n. 0 + n) (count_from S room (S.free_count s) ((s, 1) ∷ []))))

@@ -6,7 +6,7 @@ use Rattle.cells.specs.FirstsLaws.{Once}
 use Rattle.cells.specs.Lists.{list_of, set_at}
 use Rattle.refusal.specs.Refusal.{Answer, refused, given, map_answer, bind_answer, refusal_number}
 use Rattle.covers.specs.Setting.{Setting, child_boards, layer_of, layer_count_of}
-use Rattle.covers.specs.Counts.{Entry, boards, counts, full_count_lem, shares, gather, layer, layer_count}
+use Rattle.covers.specs.Counts.{Entry, boards, counts, full_count, shares, gather, layer, layer_count}
 use Rattle.covers.specs.Inner.{add_paths}
 use Rattle.path_count.specs.PathCounts.{count_room, count_in}
 use Rattle.tiles.specs.Paths.{paths_in}
@@ -76,9 +76,9 @@ next_of S es = gather S.same_board (shares (child_boards S) es)
 
 -- what is answered from a layer on, of k more layers
 unfoldable pub count_from : Setting ℕ ℕ → ℕ → ℕ → List (Entry ℕ) → Answer ℕ
-unfolding full_count_lem judge_layer next_of map_answer bind_answer
-count_from S room zero es = given (full_count_lem S.full es)
-count_from S room (suc k) es = map_answer (λ n. full_count_lem S.full es + n) (bind_answer (judge_layer room (next_of S es)) (count_from S room k))
+unfolding full_count judge_layer next_of map_answer bind_answer
+count_from S room zero es = given (full_count S.full es)
+count_from S room (suc k) es = map_answer (λ n. full_count S.full es + n) (bind_answer (judge_layer room (next_of S es)) (count_from S room k))
 
 -- an answer is right from a layer on whose boards have so many free cells, whatever number of layers is enough
 abbrev pub Right : Setting ℕ ℕ → ℕ → ℕ → List (Entry ℕ) → Answer ℕ → Type 0

@@ -112,17 +112,17 @@ module _ (n : ℕ) (es : List (ℕ × ℕ)) (count : ℕ → ℕ) where
       sound (suc v) h = S.sums (suc v) (omega arith) h
 
 module _ (r : GraphResult) (node_words : ℕ) (counts edges : List ℕ) where
-  abbrev no_nodes_lem : Bool
-  no_nodes_lem = eqb r.nodes 0
+  abbrev no_nodes : Bool
+  no_nodes = eqb r.nodes 0
 
-  abbrev nodes_pass_lem : Bool
-  nodes_pass_lem = ltb (node_room node_words (length counts)) r.nodes
+  abbrev nodes_pass : Bool
+  nodes_pass = ltb (node_room node_words (length counts)) r.nodes
 
-  abbrev edges_pass_lem : Bool
-  edges_pass_lem = ltb (edge_room (length edges)) r.edges
+  abbrev edges_pass : Bool
+  edges_pass = ltb (edge_room (length edges)) r.edges
 
-  abbrev full_past_lem : Bool
-  full_past_lem = is_past r.nodes (complete_node r.complete)
+  abbrev full_past : Bool
+  full_past = is_past r.nodes (complete_node r.complete)
 
   abbrev some_edge_bad : Bool
   some_edge_bad = any (bad_edge r.nodes) (edges_in edges r.edges)
@@ -133,11 +133,11 @@ module _ (r : GraphResult) (node_words : ℕ) (counts edges : List ℕ) where
   pub not_bad_sound : bad_graph r node_words counts edges ≡ false → SoundGraph r node_words counts edges
   unfolding bad_graph
   not_bad_sound h =
-      let f = (neither (no_nodes_lem || nodes_pass_lem || edges_pass_lem || full_past_lem || some_edge_bad) some_count_bad).0 h in
-      let e = (neither (no_nodes_lem || nodes_pass_lem || edges_pass_lem || full_past_lem) some_edge_bad).0 f.0 in
-      let d = (neither (no_nodes_lem || nodes_pass_lem || edges_pass_lem) full_past_lem).0 e.0 in
-      let c = (neither (no_nodes_lem || nodes_pass_lem) edges_pass_lem).0 d.0 in
-      let b = (neither no_nodes_lem nodes_pass_lem).0 c.0 in
+      let f = (neither (no_nodes || nodes_pass || edges_pass || full_past || some_edge_bad) some_count_bad).0 h in
+      let e = (neither (no_nodes || nodes_pass || edges_pass || full_past) some_edge_bad).0 f.0 in
+      let d = (neither (no_nodes || nodes_pass || edges_pass) full_past).0 e.0 in
+      let c = (neither (no_nodes || nodes_pass) edges_pass).0 d.0 in
+      let b = (neither no_nodes nodes_pass).0 c.0 in
       let some-nodes : 0 < r.nodes = omega (arith, eqb-false r.nodes 0 b.0) in
       record {
         some_nodes = some-nodes;

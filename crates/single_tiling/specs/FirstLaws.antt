@@ -15,7 +15,7 @@ use mathlib.Core.List.{List, [], ◌∷◌, ◌++◌, map, flat_map, nil≢cons,
 use Prim.Native.Nat.{ℕ, zero, suc, ◌+◌, ◌-◌, ◌≤◌, ◌<◌}
 use native.Mathlib.Omega.{arith}
 use Rattle.cells.specs.FirstsLaws.{Tells, holds_iff, add_new_old, add_new_new}
-use Rattle.cells.specs.Lists.{holds, add_new_lem, add_firsts, firsts, list_from, list_of}
+use Rattle.cells.specs.Lists.{holds, add_new, add_firsts, firsts, list_from, list_of}
 use Rattle.cells.specs.MemberLaws.{mem_list_of}
 use Rattle.covers.specs.Counts.{Steps, ChildSequence}
 use Rattle.single_tiling.specs.Inner.{or_else, first_of, in_front, first_tiling}
@@ -112,11 +112,11 @@ module _ {A B : Type 0} (f : A → List B) where
 
   -- what appears again makes no difference
   module _ (same : A → A → Bool) (tells : Tells same) where
-    first_of_add_new : (xs : List A) (y : A) → first_of f (add_new_lem same xs y) ≡ or_else (first_of f xs) (f y)
+    first_of_add_new : (xs : List A) (y : A) → first_of f (add_new same xs y) ≡ or_else (first_of f xs) (f y)
     unfolding first_of
     first_of_add_new xs y = go (holds same xs y) refl
       where
-        go : (t : Bool) → holds same xs y ≡ t → first_of f (add_new_lem same xs y) ≡ or_else (first_of f xs) (f y)
+        go : (t : Bool) → holds same xs y ≡ t → first_of f (add_new same xs y) ≡ or_else (first_of f xs) (f y)
         go true e =
             ap (first_of f) (add_new_old same xs y e)
             ∙ sym (or_else_same (first_of f xs) (f y) (λ q. first_of_none xs q y ((holds_iff same tells xs y).0 e)))
@@ -126,7 +126,7 @@ module _ {A B : Type 0} (f : A → List B) where
     unfolding first_of add_firsts
     first_of_add_firsts xs [] = sym (or_else_nil (first_of f xs))
     first_of_add_firsts xs (y ∷ ys) =
-        first_of_add_firsts (add_new_lem same xs y) ys
+        first_of_add_firsts (add_new same xs y) ys
         ∙ ap (λ (l : List B). or_else l (first_of f ys)) (first_of_add_new xs y)
         ∙ or_else_assoc (first_of f xs) (f y) (first_of f ys)
 

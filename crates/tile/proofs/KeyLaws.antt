@@ -10,7 +10,7 @@ use lib.Dec.{eqb, lit≤}
 use lib.IntN.{ℤ, pos, negsuc, ◌+ℤ◌, +ℤ_assoc, +ℤ_comm, +ℤ_idr, +ℤ-neg_ℤ_cancel, pos-+ℤ-pos}
 use lib.ListN.{length, get_or, take, drop, set, length-map, get_or-eq_default}
 use lib.Seq.{drop-cons, drop-length, take-suc-set}
-use Rattle.cells.specs.Lists.{holds, add_new_lem, add_firsts, firsts}
+use Rattle.cells.specs.Lists.{holds, add_new, add_firsts, firsts}
 use Rattle.cells.specs.FirstsLaws.{firsts_map, so_eq}
 use Rattle.tile.specs.declared.points.Keys.{Keys}
 use Rattle.direction.specs.Direction.{Position, at, shift, same_position, step}
@@ -117,7 +117,7 @@ cell_count_keys path ok h =
 
 -- the keys that are left, one by one
 pub add_firsts_step : (path : Path) (i k : ℕ) (ks : List ℕ) → i < length path
-    → add_firsts eqb ks (keys_after k (drop i path)) ≡ add_firsts eqb (add_new_lem eqb ks (k + key_step (get_or path i 0) - 101)) (keys_after (k + key_step (get_or path i 0) - 101) (drop (i + 1) path))
+    → add_firsts eqb ks (keys_after k (drop i path)) ≡ add_firsts eqb (add_new eqb ks (k + key_step (get_or path i 0) - 101)) (keys_after (k + key_step (get_or path i 0) - 101) (drop (i + 1) path))
 unfolding add_firsts keys_after
 add_firsts_step path i k ks h = rw (add-one, drop-cons path i 0 h)
 
@@ -130,10 +130,10 @@ unfolding key_step
 key_step_past code h = sym (get_or-eq_default (1 ∷ 201 ∷ 100 ∷ 102 ∷ 0 ∷ 2 ∷ 202 ∷ 200 ∷ []) 101 h)
 
 -- a new key is stored behind the keys that were seen
-pub keys_in_new : (s r : Keys) (k : ℕ) → s.n < length s.keys → r ≡ record { n = s.n + 1; keys = set s.keys s.n k } → holds eqb (keys_in s) k ≡ false → keys_in r ≡ add_new_lem eqb (keys_in s) k
-unfolding add_new_lem
+pub keys_in_new : (s r : Keys) (k : ℕ) → s.n < length s.keys → r ≡ record { n = s.n + 1; keys = set s.keys s.n k } → holds eqb (keys_in s) k ≡ false → keys_in r ≡ add_new eqb (keys_in s) k
+unfolding add_new
 keys_in_new s r k h e n = ap keys_in e ∙ ap (λ (j : ℕ). take j (set s.keys s.n k)) (add-one s.n) ∙ take-suc-set s.keys s.n k h ∙ rw n
 
-pub keys_in_old : (s : Keys) (k : ℕ) → holds eqb (keys_in s) k ≡ true → keys_in s ≡ add_new_lem eqb (keys_in s) k
-unfolding add_new_lem
+pub keys_in_old : (s : Keys) (k : ℕ) → holds eqb (keys_in s) k ≡ true → keys_in s ≡ add_new eqb (keys_in s) k
+unfolding add_new
 keys_in_old s k e = rw e

@@ -27,7 +27,7 @@ use Rattle.board.specs.declared.AllMarked.TheVariants as M
 use Rattle.rectangle.specs.Board.{Board, board_at, is_full, valid}
 use Rattle.board.specs.Board.{board_of, read_board, all_marked_answer}
 use Rattle.covers.specs.Setting.{Setting, Laws, EqualSteps, entries_of, nodes_of, graph_edges}
-use Rattle.covers.specs.Counts.{counts, full_from_lem, full_node_lem}
+use Rattle.covers.specs.Counts.{counts, full_from, full_node}
 use Rattle.covers.proofs.SettingLaws.{node_ok}
 use Rattle.covers.proofs.PassLaws.{edge_in}
 use Rattle.graph.specs.Graph.{edge_at, edges_for, node_room, edge_room, complete_node}
@@ -88,16 +88,16 @@ module _ (test : ℕ → Bool) (i : ℕ) (missed : (k : ℕ) → 1 ≤ k → k <
 
 -- the places hold a list's boards
 full_from_lem : (full : ℕ → Bool) (f : ℕ → ℕ) (ss : List ℕ) (i : ℕ) → ((k : ℕ) → k < length ss → f (i + k) ≡ get_or ss k 0)
-    → first_from (λ i. full (f i)) i (length ss) ≡ full_from_lem full i ss
-unfolding first_from full_from_lem
+    → first_from (λ i. full (f i)) i (length ss) ≡ full_from full i ss
+unfolding first_from full_from
 full_from_lem full f [] i h = refl
 full_from_lem full f (s ∷ ss) i h =
     let first : f i ≡ s = ap f (sym (add-zero i)) ∙ h 0 (omega arith) in
     rw (first, full_from_lem full f ss (suc i) (λ k l. let q : suc i + k ≡ i + suc k = omega arith in ap f q ∙ h (suc k) (omega arith)))
 
 full_node_lem : (full : ℕ → Bool) (f : ℕ → ℕ) (ss : List ℕ) → list_of f (length ss) ≡ ss
-    → first_from (λ i. full (f i)) 1 (length ss - 1) ≡ full_node_lem full ss
-unfolding full_node_lem first_from full_from_lem
+    → first_from (λ i. full (f i)) 1 (length ss - 1) ≡ full_node full ss
+unfolding full_node first_from full_from
 full_node_lem full f [] e = refl
 full_node_lem full f (s ∷ ss) e =
     let l : suc (length ss) - 1 ≡ length ss = omega arith in
@@ -228,7 +228,7 @@ module _ (b : RectangularBoard) (ts : Tiles) (accepted : Accepted b ts) (fixed :
             ∙ ap (λ (k : ℕ). cleared_from (2 * k) es) all_edges.0
             ∙ cleared_edges es edges (omega (arith, all_edges.1)) (holds.edges sized.0 all_edges.1)
 
-        finished_complete : complete_node r.graph.complete ≡ full_node_lem S.full nodes
+        finished_complete : complete_node r.graph.complete ≡ full_node S.full nodes
         unfolding setting
         finished_complete =
             finish.complete

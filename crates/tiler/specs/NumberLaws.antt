@@ -22,8 +22,8 @@ use Rattle.tiles.specs.Paths.{paths_in}
 use Rattle.board.specs.declared.RectangularBoard.{RectangularBoard}
 use Rattle.board.specs.Board.{board_of}
 use Rattle.rectangle.specs.Board.{free_count}
-use Rattle.covers.specs.Counts.{Numbering, Chain, node_list_to, full_node_lem, at_node, node_list}
-use Rattle.covers.specs.Setting.{Setting, nodes_of, path_count_of, graph_edges, graph_count_lem, tiling_of, cutting_at}
+use Rattle.covers.specs.Counts.{Numbering, Chain, node_list_to, full_node, at_node, node_list}
+use Rattle.covers.specs.Setting.{Setting, nodes_of, path_count_of, graph_edges, graph_count, tiling_of, cutting_at}
 use Rattle.covers.proofs.Theorems.{full_counts_none}
 use Rattle.covers.proofs.NumberingLaws.{renumber}
 use Rattle.covers.proofs.CountLaws.{tiling_length}
@@ -95,11 +95,11 @@ module _ (b : RectangularBoard) (fixed : Sound b.fixed) (laid : Sound b.laid) (t
           (subst (Mem v) (sym (list_to f.0 f.1)) i)
 
       -- and there is at most one more than there are free cells
-      list_is : node_list_of g m ≡ node_list (graph_edges S start) (path_count_of S start) (full_node_lem S.full (nodes_of S start)) m
+      list_is : node_list_of g m ≡ node_list (graph_edges S start) (path_count_of S start) (full_node S.full (nodes_of S start)) m
       unfolding node_list_of graph_in
       list_is = ap (λ (k : Graph). node_list_of k m) (sym (graph_is b fixed laid ts node_words count_words edge_words g made))
 
-      counted : m < graph_count_lem S start
+      counted : m < graph_count S start
       counted = subst (λ (n : ℕ). m < n) (graph_count_lem b fixed laid ts node_words count_words edge_words g made) below
 
       counted_not_full : S.full start ≡ false
@@ -122,7 +122,7 @@ module _ (b : RectangularBoard) (fixed : Sound b.fixed) (laid : Sound b.laid) (t
             tiling_length S (graph_laws b fixed laid ts node_words count_words edge_words g made) (step_of (paths_in ts)) (graph_steps b fixed laid ts node_words count_words edge_words g made) start
                 (graph_start b fixed laid ts node_words count_words edge_words g made) counted_not_full m counted,
             ap length list_is,
-            length-map (node_list (graph_edges S start) (path_count_of S start) (full_node_lem S.full (nodes_of S start)) m) (λ v. get_or (nodes_of S start) v start),
+            length-map (node_list (graph_edges S start) (path_count_of S start) (full_node S.full (nodes_of S start)) m) (λ v. get_or (nodes_of S start) v start),
             accepted_free b ts (plot_accepted b fixed laid ts node_words count_words edge_words g made) (number_lt b.fixed fixed) (number_lt b.laid laid),
           )
 

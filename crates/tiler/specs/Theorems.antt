@@ -25,7 +25,7 @@ use Rattle.board.specs.Board.{board_of}
 use Rattle.rectangle.specs.Board.{board_at, is_full}
 use Rattle.children.specs.Children.{children_at}
 use Rattle.covers.specs.Counts.{Exactly, ChildSequence, counts}
-use Rattle.covers.specs.Setting.{child_boards, Laws, EqualSteps, graph_count_lem, graph_edges, nodes_of, path_count_of}
+use Rattle.covers.specs.Setting.{child_boards, Laws, EqualSteps, graph_count, graph_edges, nodes_of, path_count_of}
 use Rattle.covers.proofs.Theorems.{nodes_are_reached, nodes_by_first_finding, graph_edges_are_children, graph_edges_once, graph_tilings, full_counts_none, none_reached_counts_none, count_is_child_sequences}
 use Rattle.covers.proofs.SettingLaws.{start_node}
 use Rattle.tiler.specs.declared.MadeGraph.{MadeGraph}
@@ -155,7 +155,7 @@ module _ (b : RectangularBoard) (fixed : Sound b.fixed) (laid : Sound b.laid) (t
     plot : Accepted b ts
     plot = (layers_count b fixed laid ts room n told).0
 
-    count_is : n ≡ graph_count_lem (setting_of b ts) (start_of b)
+    count_is : n ≡ graph_count (setting_of b ts) (start_of b)
     count_is = (layers_count b fixed laid ts room n told).1
 
     start : (setting_of b ts).Ok (start_of b)

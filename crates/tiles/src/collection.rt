@@ -3,7 +3,7 @@
 // lengths are in range.
 ghost use Rattle.std.specs.Prelude.{◌≡◌, ◌&&◌, ◌+◌, ◌≤◌, ◌<◌, leb, length, get_or, take, drop};
 ghost use Rattle.std.proofs.Math.Bool.{So};
-ghost use Rattle.cells.specs.Lists.{list_of, all_below, holds, add_new_lem, add_firsts};
+ghost use Rattle.cells.specs.Lists.{list_of, all_below, holds, add_new, add_firsts};
 ghost use Rattle.refusal.specs.Refusal.{given};
 ghost use Rattle.tile.specs.Path.{codes_ok, is_path, cell_count, path_in};
 ghost use Rattle.tile.specs.Inner.{CleanTile};
@@ -192,7 +192,7 @@ pub fn appended(tiles: Tiles, tile: Tile) -> Tiles
 // The tiles with one more, unless it is there.
 fn with_new(tiles: Tiles, tile: Tile) -> Tiles
     requires { Clean tiles × CleanTile tile × (tiles.count < 64) }
-    ensures { result ≡ tiles_of (add_new_lem same_path (paths_in tiles) (path_in tile)) }
+    ensures { result ≡ tiles_of (add_new same_path (paths_in tiles) (path_in tile)) }
 {
     let len = tile.len;
     let codes = tile.codes;
