@@ -1,6 +1,6 @@
-/* Counts of cuttings, for programs in C. The functions stand in the static library of the crate
-   `exports` (`rt staticlib exports` writes target/staticlib/libexports.a, for x86-64 under Linux; it
-   needs memcpy and memset of the C library).
+/* Counts of cuttings, for programs in C. The functions are those of the crate `exports`; they stand in
+   the static library of the crate `exports_c` (tools/host/build writes target/staticlib/libexports.a,
+   for x86-64 under Linux; it needs memcpy and memset of the C library).
 
    A slice is a pointer and the number of its elements. The pointer is not null, also where the
    number is 0, and is aligned for its elements; as many elements as the number says can be read, and

@@ -19,7 +19,6 @@ import sys
 
 HERE = os.path.dirname(os.path.abspath(__file__))
 WORD = re.compile(r"(?<![\w'’-])[a-z][\w'′’₀-₉-]*")
-GHOST = re.compile(r"ghost use\b[^;]*;|(?<=\{) [^{}\n]*(?:\{[^{}\n]*\}[^{}\n]*)*(?=\})|^\s*(?:requires|ensures)\b.*$", re.M)
 STEP = re.compile(r"(?:\bc|\.before)\.$")
 USE = re.compile(r"\buse ([\w.+◌-]+)\.\{([^}]*)\}")
 
@@ -52,15 +51,12 @@ def turned(text, names, keep_steps=False, only_capitals=False):
 
 
 def turned_rt(text, names):
-    text = turned(text, names, only_capitals=True)
     out, inside = [], False
     for line in text.split("\n"):
         clause = re.match(r"\s*(requires|ensures|ghost)\b", line)
-        if clause or inside:
-            line = turned(line, names)
-            opened = line.count("{") - line.count("}")
-            inside = (inside or clause) and (not line.rstrip().endswith((";", "}")))
-        out.append(line)
+        inside = bool(inside or clause)
+        out.append(turned(line, names, only_capitals=not inside))
+        inside = inside and not line.rstrip().endswith((";", "}"))
     return "\n".join(out)
 
 
@@ -69,7 +65,8 @@ def turned_edit(text, names):
 
 
 def turned_md(text, names):
-    return re.sub(r"`[^`\n]+`", lambda m: turned(m.group(), names), text)
+    """A name of a plot file stays."""
+    return re.sub(r"`[^`\n]+`", lambda m: m.group() if ".plot" in m.group() else turned(m.group(), names), text)
 
 
 def files(tree):

@@ -127,51 +127,51 @@ ahead_ext file all f g place at same ahead = record { there = ahead.there; withi
 
 module _ (file : List ℕ) where
   -- what is left to count
-  abbrev pub toCount : ℕ → List Record → Outcome ℕ
-  toCount place rs = answered (place + length rs)
+  abbrev pub to_count : ℕ → List Record → Outcome ℕ
+  to_count place rs = answered (place + length rs)
 
-  pub count_start : Ahead file (count_records file) (toCount 0) 0 0
+  pub count_start : Ahead file (count_records file) (to_count 0) 0 0
   unfolding count_records map_outcome bind_outcome
-  count_start = ahead_start file (count_records file) (toCount 0) (counted (records_of file))
+  count_start = ahead_start file (count_records file) (to_count 0) (counted (records_of file))
     where
-      counted : (a : Outcome (List Record)) → map_outcome length a ≡ bind_outcome a (toCount 0)
+      counted : (a : Outcome (List Record)) → map_outcome length a ≡ bind_outcome a (to_count 0)
       counted (answered rs) = ap answered (sym (zero-add (length rs)))
       counted (refused_at n place) = refl
       counted (refused_by n) = refl
 
-  module _ (place at : ℕ) (ahead : Ahead file (count_records file) (toCount place) place at) where
-    pub count_step : is_whole (drop at file) ≡ true → Ahead file (count_records file) (toCount (place + 1)) (place + 1) (at + 24)
+  module _ (place at : ℕ) (ahead : Ahead file (count_records file) (to_count place) place at) where
+    pub count_step : is_whole (drop at file) ≡ true → Ahead file (count_records file) (to_count (place + 1)) (place + 1) (at + 24)
     count_step e =
-        ahead_ext file (count_records file) (λ rs. toCount place (record_in (drop at file) ∷ rs)) (toCount (place + 1)) (place + 1) (at + 24)
-        (λ rs. ap answered (one_more place (length rs))) (ahead_step file (count_records file) (toCount place) place at ahead e)
+        ahead_ext file (count_records file) (λ rs. to_count place (record_in (drop at file) ∷ rs)) (to_count (place + 1)) (place + 1) (at + 24)
+        (λ rs. ap answered (one_more place (length rs))) (ahead_step file (count_records file) (to_count place) place at ahead e)
       where
         one_more : (p n : ℕ) → p + suc n ≡ p + 1 + n
         one_more p n = omega arith
 
     pub count_end : length file ≤ at → answered place ≡ count_records file
-    count_end h = ap answered (sym (add-zero place)) ∙ ahead_end file (count_records file) (toCount place) place at ahead h
+    count_end h = ap answered (sym (add-zero place)) ∙ ahead_end file (count_records file) (to_count place) place at ahead h
 
   module _ (id : ℕ) where
     -- what is left to be compared
-    abbrev pub toCompare : Option Record → List Record → Outcome Record
-    toCompare current rs = or_absent (current_among id current rs)
+    abbrev pub to_compare : Option Record → List Record → Outcome Record
+    to_compare current rs = or_absent (current_among id current rs)
 
-    pub current_start : Ahead file (current_record file id) (toCompare none) 0 0
+    pub current_start : Ahead file (current_record file id) (to_compare none) 0 0
     unfolding current_record
-    current_start = ahead_start file (current_record file id) (toCompare none) refl
+    current_start = ahead_start file (current_record file id) (to_compare none) refl
 
-    module _ (current : Option Record) (place at : ℕ) (ahead : Ahead file (current_record file id) (toCompare current) place at) where
+    module _ (current : Option Record) (place at : ℕ) (ahead : Ahead file (current_record file id) (to_compare current) place at) where
       pub current_step : (next : Option Record) (r : Record) → r ≡ record_in (drop at file) → next ≡ current_of id current r → is_whole (drop at file) ≡ true
-          → Ahead file (current_record file id) (toCompare next) (place + 1) (at + 24)
+          → Ahead file (current_record file id) (to_compare next) (place + 1) (at + 24)
       unfolding current_among
       current_step next r is e w =
-          ahead_ext file (current_record file id) (λ rs. toCompare current (record_in (drop at file) ∷ rs)) (toCompare next) (place + 1) (at + 24)
+          ahead_ext file (current_record file id) (λ rs. to_compare current (record_in (drop at file) ∷ rs)) (to_compare next) (place + 1) (at + 24)
           (λ rs. ap (λ (o : Option Record). or_absent (current_among id o rs)) (sym (e ∙ ap (current_of id current) is)))
-          (ahead_step file (current_record file id) (toCompare current) place at ahead w)
+          (ahead_step file (current_record file id) (to_compare current) place at ahead w)
 
       pub current_end : length file ≤ at → (a : Outcome Record) → a ≡ or_absent current → a ≡ current_record file id
       unfolding current_among
-      current_end h a e = e ∙ ahead_end file (current_record file id) (toCompare current) place at ahead h
+      current_end h a e = e ∙ ahead_end file (current_record file id) (to_compare current) place at ahead h
 
 -- ---- the record at a place
 

@@ -2,3 +2,4 @@
 pub mod ShapeLaws
 pub mod MadeLaws
 pub mod WithoutLaws
+pub mod SoundLaws

@@ -6,6 +6,7 @@
 // `mark_tile_at_position` put sets together, which any numbers have. What each call answers is a
 // definition of specs/Board.antt. The struct is put together in `of_marks` alone.
 #![tactic(auto)]
+
 ghost use Rattle.std.specs.Prelude.{◌≡◌, true, [], ◌∷◌};
 ghost use Rattle.cells.specs.Set.{union_of, value, number};
 ghost use Rattle.refusal.specs.Refusal.{map_answer, refusal_of, refusal_number, verdict_number};

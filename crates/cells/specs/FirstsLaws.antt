@@ -19,7 +19,7 @@ use Prim.Native.Nat.{ℕ, zero, suc, ◌+◌, ◌≤◌, ◌<◌}
 use native.Mathlib.Omega.{arith}
 use Rattle.std.proofs.Math.ListN.{length, length-append}
 use Rattle.std.proofs.Math.Seq.{drop-cons, drop-length}
-use Rattle.cells.specs.Lists.{any, holds, addNew, addFirsts, firsts}
+use Rattle.cells.specs.Lists.{any, holds, add_new, add_firsts, firsts}
 
 -- the test tells equal elements
 module _ {A : Type 0} (same : A → A → Bool) where
@@ -92,37 +92,37 @@ module _ {A : Type 0} (p : A → Bool) (xs : List A) (i : ℕ) (d : A) where
 module _ {A : Type 0} (same : A → A → Bool) where
   -- ---- without looking at the test
 
-  pub add_firsts_append : (xs ys zs : List A) → addFirsts same xs (ys ++ zs) ≡ addFirsts same (addFirsts same xs ys) zs
-  unfolding addFirsts
+  pub add_firsts_append : (xs ys zs : List A) → add_firsts same xs (ys ++ zs) ≡ add_firsts same (add_firsts same xs ys) zs
+  unfolding add_firsts
   add_firsts_append xs [] zs = refl
-  add_firsts_append xs (y ∷ ys) zs = add_firsts_append (addNew same xs y) ys zs
+  add_firsts_append xs (y ∷ ys) zs = add_firsts_append (add_new same xs y) ys zs
 
-  length_add_new : (xs : List A) (y : A) → (length xs ≤ length (addNew same xs y)) × (length (addNew same xs y) ≤ suc (length xs))
-  unfolding addNew
+  length_add_new : (xs : List A) (y : A) → (length xs ≤ length (add_new same xs y)) × (length (add_new same xs y) ≤ suc (length xs))
+  unfolding add_new
   length_add_new xs y = go (holds same xs y)
     where
       go : (b : Bool) → (length xs ≤ length (cond b xs (xs ++ y ∷ []))) × (length (cond b xs (xs ++ y ∷ [])) ≤ suc (length xs))
       go true = (omega arith, omega arith)
       go false = (omega (arith, length-append xs (y ∷ [])), omega (arith, length-append xs (y ∷ [])))
 
-  pub length_add_firsts : (xs ys : List A) → (length xs ≤ length (addFirsts same xs ys)) × (length (addFirsts same xs ys) ≤ length xs + length ys)
-  unfolding addFirsts
+  pub length_add_firsts : (xs ys : List A) → (length xs ≤ length (add_firsts same xs ys)) × (length (add_firsts same xs ys) ≤ length xs + length ys)
+  unfolding add_firsts
   length_add_firsts xs [] = (omega arith, omega arith)
-  length_add_firsts xs (y ∷ ys) = let a = length_add_new xs y in let b = length_add_firsts (addNew same xs y) ys in (omega arith, omega arith)
+  length_add_firsts xs (y ∷ ys) = let a = length_add_new xs y in let b = length_add_firsts (add_new same xs y) ys in (omega arith, omega arith)
 
   -- a list with nothing new adds nothing, and a new element is added at the end
-  pub add_new_old : (xs : List A) (y : A) → holds same xs y ≡ true → addNew same xs y ≡ xs
-  unfolding addNew
+  pub add_new_old : (xs : List A) (y : A) → holds same xs y ≡ true → add_new same xs y ≡ xs
+  unfolding add_new
   add_new_old xs y e = rw e
 
-  pub add_new_new : (xs : List A) (y : A) → holds same xs y ≡ false → addNew same xs y ≡ xs ++ y ∷ []
-  unfolding addNew
+  pub add_new_new : (xs : List A) (y : A) → holds same xs y ≡ false → add_new same xs y ≡ xs ++ y ∷ []
+  unfolding add_new
   add_new_new xs y e = rw e
 
-  pub add_firsts_old : (xs ys : List A) → ((y : A) → Mem y ys → holds same xs y ≡ true) → addFirsts same xs ys ≡ xs
-  unfolding addFirsts
+  pub add_firsts_old : (xs ys : List A) → ((y : A) → Mem y ys → holds same xs y ≡ true) → add_firsts same xs ys ≡ xs
+  unfolding add_firsts
   add_firsts_old xs [] h = refl
-  add_firsts_old xs (y ∷ ys) h = ap (λ l. addFirsts same l ys) (add_new_old xs y (h y (here refl))) ∙ add_firsts_old xs ys (λ z m. h z (there m))
+  add_firsts_old xs (y ∷ ys) h = ap (λ l. add_firsts same l ys) (add_new_old xs y (h y (here refl))) ∙ add_firsts_old xs ys (λ z m. h z (there m))
 
   -- ---- where the test tells equal elements
 
@@ -161,10 +161,10 @@ module _ {A : Type 0} (same : A → A → Bool) where
         go true e = inl ((holds_iff xs y).0 e)
         go false e = inr (λ m. false≢true (sym e ∙ (holds_iff xs y).1 m))
 
-    pub mem_add_new : (xs : List A) (y z : A) → Mem z (addNew same xs y) ↔ (Mem z xs ⊎ (z ≡ y))
+    pub mem_add_new : (xs : List A) (y z : A) → Mem z (add_new same xs y) ↔ (Mem z xs ⊎ (z ≡ y))
     mem_add_new xs y z = go (holds same xs y) refl
       where
-        go : (b : Bool) → holds same xs y ≡ b → Mem z (addNew same xs y) ↔ (Mem z xs ⊎ (z ≡ y))
+        go : (b : Bool) → holds same xs y ≡ b → Mem z (add_new same xs y) ↔ (Mem z xs ⊎ (z ≡ y))
         go true e =
             let same-list = add_new_old xs y e in (
               λ m. inl (subst (Mem z) same-list m),
@@ -176,27 +176,27 @@ module _ {A : Type 0} (same : A → A → Bool) where
               λ s. subst (Mem z) (sym longer) (⊎_elim (λ m. append_left (y ∷ []) m) (λ p. append_right xs (here p)) s),
             )
 
-    pub once_add_new : (xs : List A) (y : A) → Once xs → Once (addNew same xs y)
+    pub once_add_new : (xs : List A) (y : A) → Once xs → Once (add_new same xs y)
     once_add_new xs y o = go (holds same xs y) refl
       where
-        go : (b : Bool) → holds same xs y ≡ b → Once (addNew same xs y)
+        go : (b : Bool) → holds same xs y ≡ b → Once (add_new same xs y)
         go true e = subst Once (sym (add_new_old xs y e)) o
         go false e = subst Once (sym (add_new_new xs y e)) (once_snoc xs y o (λ m. false≢true (sym e ∙ (holds_iff xs y).1 m)))
 
-    pub mem_add_firsts : (xs ys : List A) (z : A) → Mem z (addFirsts same xs ys) ↔ (Mem z xs ⊎ Mem z ys)
-    unfolding addFirsts
+    pub mem_add_firsts : (xs ys : List A) (z : A) → Mem z (add_firsts same xs ys) ↔ (Mem z xs ⊎ Mem z ys)
+    unfolding add_firsts
     mem_add_firsts xs [] z = (λ m. inl m, λ s. ⊎_elim (λ m. m) (λ m. absurd (not-nil m)) s)
     mem_add_firsts xs (y ∷ ys) z =
-        let more = mem_add_firsts (addNew same xs y) ys z in
+        let more = mem_add_firsts (add_new same xs y) ys z in
         let one = mem_add_new xs y z in (
           λ m. ⊎_elim (λ k. ⊎_elim (λ a. inl a) (λ p. inr (here p)) (one.0 k)) (λ k. inr (there k)) (more.0 m),
           λ s. more.1 (⊎_elim (λ a. inl (one.1 (inl a))) (λ k. ⊎_elim (λ p. inl (one.1 (inr p))) (λ q. inr q) (cases_cons k)) s),
         )
 
-    pub once_add_firsts : (xs ys : List A) → Once xs → Once (addFirsts same xs ys)
-    unfolding addFirsts
+    pub once_add_firsts : (xs ys : List A) → Once xs → Once (add_firsts same xs ys)
+    unfolding add_firsts
     once_add_firsts xs [] o = o
-    once_add_firsts xs (y ∷ ys) o = once_add_firsts (addNew same xs y) ys (once_add_new xs y o)
+    once_add_firsts xs (y ∷ ys) o = once_add_firsts (add_new same xs y) ys (once_add_new xs y o)
 
     -- the same elements, each once
     pub mem_firsts : (xs : List A) (z : A) → Mem z (firsts same xs) ↔ Mem z xs
@@ -210,20 +210,20 @@ module _ {A : Type 0} (same : A → A → Bool) where
     once_firsts xs = once_add_firsts [] xs tt
 
     -- a list of new elements, each once, is added whole
-    pub add_firsts_new : (xs ys : List A) → Once ys → ((y : A) → Mem y ys → Mem y xs → ⊥) → addFirsts same xs ys ≡ xs ++ ys
-    unfolding addFirsts
+    pub add_firsts_new : (xs ys : List A) → Once ys → ((y : A) → Mem y ys → Mem y xs → ⊥) → add_firsts same xs ys ≡ xs ++ ys
+    unfolding add_firsts
     add_firsts_new xs [] o n = sym (append-nil xs)
     add_firsts_new xs (y ∷ ys) o n =
-        ap (λ l. addFirsts same l ys) (add_new_new xs y (holds_false xs y (n y (here refl))))
+        ap (λ l. add_firsts same l ys) (add_new_new xs y (holds_false xs y (n y (here refl))))
         ∙ add_firsts_new (xs ++ y ∷ []) ys o.1
         (λ z m k. ⊎_elim (λ a. n z (there m) a) (λ a. o.0 (subst (λ w. Mem w ys) (eq_of_singleton a) m)) (append_cases xs k))
         ∙ append_assoc xs (y ∷ []) ys
 
     -- what a list has none of is added behind it as it would be without it
-    add_new_apart : (xs ys : List A) (z : A) → (Mem z xs → ⊥) → addNew same (xs ++ ys) z ≡ xs ++ addNew same ys z
+    add_new_apart : (xs ys : List A) (z : A) → (Mem z xs → ⊥) → add_new same (xs ++ ys) z ≡ xs ++ add_new same ys z
     add_new_apart xs ys z n = go (holds same ys z) refl
       where
-        go : (b : Bool) → holds same ys z ≡ b → addNew same (xs ++ ys) z ≡ xs ++ addNew same ys z
+        go : (b : Bool) → holds same ys z ≡ b → add_new same (xs ++ ys) z ≡ xs ++ add_new same ys z
         go true e =
             add_new_old (xs ++ ys) z ((holds_iff (xs ++ ys) z).1 (append_right xs ((holds_iff ys z).0 e)))
             ∙ ap (λ l. xs ++ l) (sym (add_new_old ys z e))
@@ -232,11 +232,11 @@ module _ {A : Type 0} (same : A → A → Bool) where
             (holds_false (xs ++ ys) z (λ m. ⊎_elim n (λ k. false≢true (sym e ∙ (holds_iff ys z).1 k)) (append_cases xs m)))
             ∙ append_assoc xs ys (z ∷ []) ∙ ap (λ l. xs ++ l) (sym (add_new_new ys z e))
 
-    pub add_firsts_apart : (xs ys zs : List A) → ((z : A) → Mem z zs → Mem z xs → ⊥) → addFirsts same (xs ++ ys) zs ≡ xs ++ addFirsts same ys zs
-    unfolding addFirsts
+    pub add_firsts_apart : (xs ys zs : List A) → ((z : A) → Mem z zs → Mem z xs → ⊥) → add_firsts same (xs ++ ys) zs ≡ xs ++ add_firsts same ys zs
+    unfolding add_firsts
     add_firsts_apart xs ys [] n = refl
     add_firsts_apart xs ys (z ∷ zs) n =
-        ap (λ l. addFirsts same l zs) (add_new_apart xs ys z (n z (here refl))) ∙ add_firsts_apart xs (addNew same ys z) zs (λ w m. n w (there m))
+        ap (λ l. add_firsts same l zs) (add_new_apart xs ys z (n z (here refl))) ∙ add_firsts_apart xs (add_new same ys z) zs (λ w m. n w (there m))
 
 -- ---- the image under a map that keeps the tests
 
@@ -246,18 +246,18 @@ module _ {A B : Type 0} (sameA : A → A → Bool) (sameB : B → B → Bool) (f
   holds_map [] y = refl
   holds_map (x ∷ xs) y = ap₂ ◌||◌ (keeps x y) (holds_map xs y)
 
-  add_new_map : (xs : List A) (y : A) → addNew sameB (map f xs) (f y) ≡ map f (addNew sameA xs y)
-  unfolding addNew
+  add_new_map : (xs : List A) (y : A) → add_new sameB (map f xs) (f y) ≡ map f (add_new sameA xs y)
+  unfolding add_new
   add_new_map xs y = ap (λ b. cond b (map f xs) (map f xs ++ f y ∷ [])) (holds_map xs y) ∙ go (holds sameA xs y)
     where
       go : (b : Bool) → cond b (map f xs) (map f xs ++ f y ∷ []) ≡ map f (cond b xs (xs ++ y ∷ []))
       go true = refl
       go false = sym (map-append f xs (y ∷ []))
 
-  add_firsts_map : (xs ys : List A) → addFirsts sameB (map f xs) (map f ys) ≡ map f (addFirsts sameA xs ys)
-  unfolding addFirsts
+  add_firsts_map : (xs ys : List A) → add_firsts sameB (map f xs) (map f ys) ≡ map f (add_firsts sameA xs ys)
+  unfolding add_firsts
   add_firsts_map xs [] = refl
-  add_firsts_map xs (y ∷ ys) = ap (λ l. addFirsts sameB l (map f ys)) (add_new_map xs y) ∙ add_firsts_map (addNew sameA xs y) ys
+  add_firsts_map xs (y ∷ ys) = ap (λ l. add_firsts sameB l (map f ys)) (add_new_map xs y) ∙ add_firsts_map (add_new sameA xs y) ys
 
   pub firsts_map : (xs : List A) → firsts sameB (map f xs) ≡ map f (firsts sameA xs)
   unfolding firsts

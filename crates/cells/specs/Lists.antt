@@ -45,20 +45,20 @@ module _ {A : Type 0} (same : A → A → Bool) where
   holds xs x = any (λ y. same y x) xs
 
   -- the list with x behind it, unless it holds x
-  unfoldable pub addNew : List A → A → List A
+  unfoldable pub add_new : List A → A → List A
   unfolding holds
-  addNew xs x = cond (holds xs x) xs (xs ++ x ∷ [])
+  add_new xs x = cond (holds xs x) xs (xs ++ x ∷ [])
 
   -- the list xs with those elements of a second list behind it that it does not hold, each where it first appears
-  unfoldable pub addFirsts : List A → List A → List A
-  unfolding addNew
-  addFirsts xs [] = xs
-  addFirsts xs (y ∷ ys) = addFirsts (addNew xs y) ys
+  unfoldable pub add_firsts : List A → List A → List A
+  unfolding add_new
+  add_firsts xs [] = xs
+  add_firsts xs (y ∷ ys) = add_firsts (add_new xs y) ys
 
   -- the list with first appearances kept
   unfoldable pub firsts : List A → List A
-  unfolding addFirsts
-  firsts xs = addFirsts [] xs
+  unfolding add_firsts
+  firsts xs = add_firsts [] xs
 
 -- set i of the words, where its four words are all lent; 0 elsewhere
 unfoldable pub set_at : List ℕ → ℕ → ℕ

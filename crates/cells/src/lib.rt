@@ -4,6 +4,7 @@
 // the first word. Each contract reads the words as one number and gives the answer by a definition
 // of specs/Set.antt. Nothing is asked of the caller: a number past 255 is no cell and is in no set.
 #![tactic(auto)]
+
 ghost use Rattle.std.specs.Prelude.{◌≡◌, [], ◌∷◌, ◌^◌, ◌<◌, eqb};
 ghost use Rattle.cells.specs.Set.{has_cell, with_cell, union_of, value, number};
 ghost use Rattle.cells.specs.Parts.{shares_cell};

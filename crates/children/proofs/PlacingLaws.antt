@@ -9,7 +9,7 @@ use Prim.Native.Nat.{ℕ, ◌+◌, ◌-◌, ◌*◌, ◌/◌, ◌^◌, ◌≤◌
 use native.Mathlib.Omega.{arith}
 use borrow.Author.Tests.{le-leb, lt-leb, leb-true, leb-false, ne_eqb}
 use lib.Dec.{eqb, leb}
-use Rattle.cells.specs.Lists.{holds, addNew, addFirsts, firsts, list_from, list_of, set_at}
+use Rattle.cells.specs.Lists.{holds, add_new, add_firsts, firsts, list_from, list_of, set_at}
 use Rattle.cells.specs.Parts.{with_set}
 use Rattle.cells.specs.ListLaws.{sets_in, length_with_set, set_at_same, set_at_other}
 use Rattle.cells.specs.FirstsLaws.{add_firsts_append, add_new_old, add_new_new}
@@ -82,10 +82,10 @@ module _ (ns ws : List ℕ) (st : Stored) (k : Keeps ns ws st) (x : ℕ) where
   past h = record { state = stored_past (length ws / 4) (length (ns ++ x ∷ [])) h; sets = λ l. absurd (omega arith) }
 
   -- room was gone before
-  pub add_full : st ≡ S.Full → Keeps (addNew eqb ns x) ws S.Full
+  pub add_full : st ≡ S.Full → Keeps (add_new eqb ns x) ws S.Full
   add_full e = go (holds eqb ns x) refl
     where
-      go : (t : Bool) → holds eqb ns x ≡ t → Keeps (addNew eqb ns x) ws S.Full
+      go : (t : Bool) → holds eqb ns x ≡ t → Keeps (add_new eqb ns x) ws S.Full
       go true q = rw (add_new_old eqb ns x q) record { state = sym e ∙ k.state; sets = k.sets }
       go false q = rw (add_new_new eqb ns x q) (past (omega (arith, longer, stored_full (length ws / 4) (length ns) (sym e ∙ k.state))))
 
@@ -103,15 +103,15 @@ module _ (ns ws : List ℕ) (st : Stored) (k : Keeps ns ws st) (x : ℕ) where
       held : (b : Bool) → t ≡ b → holds eqb ns x ≡ b
       held b q = ap (λ (l : List ℕ). holds eqb l x) (sym read_back) ∙ sym f ∙ q
 
-      pub add_old : t ≡ true → Keeps (addNew eqb ns x) ws (S.Number n)
+      pub add_old : t ≡ true → Keeps (add_new eqb ns x) ws (S.Number n)
       add_old q = rw (add_new_old eqb ns x (held true q)) record { state = sym e ∙ k.state; sets = k.sets }
 
       -- there is no room for it
-      pub add_over : t ≡ false → length ws / 4 ≤ n → Keeps (addNew eqb ns x) ws S.Full
+      pub add_over : t ≡ false → length ws / 4 ≤ n → Keeps (add_new eqb ns x) ws S.Full
       add_over q h = rw (add_new_new eqb ns x (held false q)) (past (omega (arith, longer, fits.1)))
 
       -- it is stored behind the others
-      pub add_put : x < 2 ^ 256 → t ≡ false → n < length ws / 4 → (vs : List ℕ) → vs ≡ with_set ws n x → Keeps (addNew eqb ns x) vs (S.Number (n + 1))
+      pub add_put : x < 2 ^ 256 → t ≡ false → n < length ws / 4 → (vs : List ℕ) → vs ≡ with_set ws n x → Keeps (add_new eqb ns x) vs (S.Number (n + 1))
       add_put hx q h vs g =
           rw (add_new_new eqb ns x (held false q))
           record {
@@ -141,13 +141,13 @@ module _ (ns ws : List ℕ) (st : Stored) (k : Keeps ns ws st) (x : ℕ) where
 
 module _ (b : Board) (ns ws : List ℕ) where
   -- no piece, no child
-  pub fit_none : (st : Stored) (ps : List ℕ) → [] ≡ ps → Keeps ns ws st → Keeps (addFirsts eqb ns (map (child_of b) ps)) ws st
-  unfolding addFirsts
+  pub fit_none : (st : Stored) (ps : List ℕ) → [] ≡ ps → Keeps ns ws st → Keeps (add_firsts eqb ns (map (child_of b) ps)) ws st
+  unfolding add_firsts
   fit_none st ps e k = rw (← e) k
 
   -- one piece, one child
-  pub fit_one : (st : Stored) (ps : List ℕ) (n x : ℕ) → n ∷ [] ≡ ps → x ≡ child_of b n → Keeps (addNew eqb ns x) ws st → Keeps (addFirsts eqb ns (map (child_of b) ps)) ws st
-  unfolding addFirsts
+  pub fit_one : (st : Stored) (ps : List ℕ) (n x : ℕ) → n ∷ [] ≡ ps → x ≡ child_of b n → Keeps (add_new eqb ns x) ws st → Keeps (add_firsts eqb ns (map (child_of b) ps)) ws st
+  unfolding add_firsts
   fit_one st ps n x e f k = rw (← e, ← f) k
 
 -- ---- fits one behind the other
@@ -158,16 +158,16 @@ unfolding flat_map list_of
 children_of_first b f g n = map (child_of b) (flat_map f (list_of g n))
 
 module _ {A : Type 0} (b : Board) (f : A → List ℕ) (g : ℕ → A) where
-  pub children_of_first_none : (ns : List ℕ) → addFirsts eqb ns (children_of_first b f g 0) ≡ ns
-  unfolding children_of_first addFirsts flat_map list_of list_from
+  pub children_of_first_none : (ns : List ℕ) → add_firsts eqb ns (children_of_first b f g 0) ≡ ns
+  unfolding children_of_first add_firsts flat_map list_of list_from
   children_of_first_none ns = refl
 
-  pub children_of_first_more : (ns : List ℕ) (n : ℕ) → addFirsts eqb (addFirsts eqb ns (children_of_first b f g n)) (map (child_of b) (f (g n))) ≡ addFirsts eqb ns (children_of_first b f g (n + 1))
+  pub children_of_first_more : (ns : List ℕ) (n : ℕ) → add_firsts eqb (add_firsts eqb ns (children_of_first b f g n)) (map (child_of b) (f (g n))) ≡ add_firsts eqb ns (children_of_first b f g (n + 1))
   unfolding children_of_first
   children_of_first_more ns n =
       sym
-      (ap (λ (l : List ℕ). addFirsts eqb ns (map (child_of b) l)) (ap (flat_map f) (list_of_snoc g n) ∙ flat_map_snoc f (list_of g n) (g n))
-      ∙ ap (addFirsts eqb ns) (map-append (child_of b) (flat_map f (list_of g n)) (f (g n)))
+      (ap (λ (l : List ℕ). add_firsts eqb ns (map (child_of b) l)) (ap (flat_map f) (list_of_snoc g n) ∙ flat_map_snoc f (list_of g n) (g n))
+      ∙ ap (add_firsts eqb ns) (map-append (child_of b) (flat_map f (list_of g n)) (f (g n)))
       ∙ add_firsts_append eqb ns (map (child_of b) (flat_map f (list_of g n))) (map (child_of b) (f (g n))))
 
 -- those of a tile's first points on a cell, and those of the first tiles
@@ -180,37 +180,37 @@ unfolding children_of_first fits_of
 tile_children b cell lens codes n = children_of_first b (fits_of b cell) (path_at lens codes) n
 
 module _ (b : Board) (cell : ℕ) (path : Path) (ns ws : List ℕ) (st : Stored) where
-  pub points_none : Keeps ns ws st → Keeps (addFirsts eqb ns (point_children b cell path 0)) ws st
+  pub points_none : Keeps ns ws st → Keeps (add_firsts eqb ns (point_children b cell path 0)) ws st
   unfolding point_children
   points_none k = subst (λ (l : List ℕ). Keeps l ws st) (sym (children_of_first_none b (λ j. fit_at b path j cell) (λ j. j) ns)) k
 
-  pub points_more : (n : ℕ) → Keeps (addFirsts eqb (addFirsts eqb ns (point_children b cell path n)) (map (child_of b) (fit_at b path n cell))) ws st → Keeps (addFirsts eqb ns (point_children b cell path (n + 1))) ws st
+  pub points_more : (n : ℕ) → Keeps (add_firsts eqb (add_firsts eqb ns (point_children b cell path n)) (map (child_of b) (fit_at b path n cell))) ws st → Keeps (add_firsts eqb ns (point_children b cell path (n + 1))) ws st
   unfolding point_children
   points_more n k = subst (λ (l : List ℕ). Keeps l ws st) (children_of_first_more b (λ j. fit_at b path j cell) (λ j. j) ns n) k
 
-  pub points_all : (n : ℕ) → n ≤ length path + 1 → length path < n → Keeps (addFirsts eqb ns (point_children b cell path n)) ws st → Keeps (addFirsts eqb ns (map (child_of b) (fits_of b cell path))) ws st
+  pub points_all : (n : ℕ) → n ≤ length path + 1 → length path < n → Keeps (add_firsts eqb ns (point_children b cell path n)) ws st → Keeps (add_firsts eqb ns (map (child_of b) (fits_of b cell path))) ws st
   unfolding point_children children_of_first fits_of
   points_all n h i k =
       let e : n ≡ length path + 1 = omega arith in
-      subst (λ (m : ℕ). Keeps (addFirsts eqb ns (map (child_of b) (flat_map (λ j. fit_at b path j cell) (list_of (λ j. j) m)))) ws st) e k
+      subst (λ (m : ℕ). Keeps (add_firsts eqb ns (map (child_of b) (flat_map (λ j. fit_at b path j cell) (list_of (λ j. j) m)))) ws st) e k
 
 module _ (b : Board) (cell : ℕ) (lens codes ws : List ℕ) (st : Stored) where
-  pub tiles_none : Keeps [] ws st → Keeps (addFirsts eqb [] (tile_children b cell lens codes 0)) ws st
+  pub tiles_none : Keeps [] ws st → Keeps (add_firsts eqb [] (tile_children b cell lens codes 0)) ws st
   unfolding tile_children
   tiles_none k = subst (λ (l : List ℕ). Keeps l ws st) (sym (children_of_first_none b (fits_of b cell) (path_at lens codes) [])) k
 
-  pub tiles_more : (n : ℕ) (path : Path) → path ≡ path_at lens codes n → Keeps (addFirsts eqb (addFirsts eqb [] (tile_children b cell lens codes n)) (map (child_of b) (fits_of b cell path))) ws st → Keeps (addFirsts eqb [] (tile_children b cell lens codes (n + 1))) ws st
+  pub tiles_more : (n : ℕ) (path : Path) → path ≡ path_at lens codes n → Keeps (add_firsts eqb (add_firsts eqb [] (tile_children b cell lens codes n)) (map (child_of b) (fits_of b cell path))) ws st → Keeps (add_firsts eqb [] (tile_children b cell lens codes (n + 1))) ws st
   unfolding tile_children
   tiles_more n path e k =
       subst (λ (l : List ℕ). Keeps l ws st)
-      (ap (λ (p : Path). addFirsts eqb (addFirsts eqb [] (children_of_first b (fits_of b cell) (path_at lens codes) n)) (map (child_of b) (fits_of b cell p))) e ∙ children_of_first_more b (fits_of b cell) (path_at lens codes) [] n)
+      (ap (λ (p : Path). add_firsts eqb (add_firsts eqb [] (children_of_first b (fits_of b cell) (path_at lens codes) n)) (map (child_of b) (fits_of b cell p))) e ∙ children_of_first_more b (fits_of b cell) (path_at lens codes) [] n)
       k
 
-  pub tiles_all : (n count : ℕ) → n ≤ count → count ≤ n → Keeps (addFirsts eqb [] (tile_children b cell lens codes n)) ws st → Keeps (addFirsts eqb [] (map (child_of b) (fits_of_all b cell (list_of (path_at lens codes) count)))) ws st
+  pub tiles_all : (n count : ℕ) → n ≤ count → count ≤ n → Keeps (add_firsts eqb [] (tile_children b cell lens codes n)) ws st → Keeps (add_firsts eqb [] (map (child_of b) (fits_of_all b cell (list_of (path_at lens codes) count)))) ws st
   unfolding tile_children children_of_first fits_of_all
   tiles_all n count h i k =
       let e : n ≡ count = omega arith in
-      subst (λ (m : ℕ). Keeps (addFirsts eqb [] (map (child_of b) (flat_map (fits_of b cell) (list_of (path_at lens codes) m)))) ws st) e k
+      subst (λ (m : ℕ). Keeps (add_firsts eqb [] (map (child_of b) (flat_map (fits_of b cell) (list_of (path_at lens codes) m)))) ws st) e k
 
 -- the part of the codes that is lent is the tile's path
 pub part_path : (lens codes : List ℕ) (i : ℕ) → take (32 * i + get_or lens i 0 - 32 * i) (drop (32 * i) codes) ≡ path_at lens codes i
@@ -265,7 +265,7 @@ module _ (b : Board) (paths : List Path) (ws : List ℕ) where
   kept_none e = subst (λ (l : List ℕ). Keeps l ws (S.Number 0)) (sym e) (keeps_none ws)
 
   -- children are compared instead of pieces
-  pub kept_all : (cell : ℕ) → chosen b ≡ some cell → pruned b paths ≡ false → (st : Stored) → Keeps (addFirsts eqb [] (map (child_of b) (fits_of_all b cell paths))) ws st → Keeps (children b paths) ws st
+  pub kept_all : (cell : ℕ) → chosen b ≡ some cell → pruned b paths ≡ false → (st : Stored) → Keeps (add_firsts eqb [] (map (child_of b) (fits_of_all b cell paths))) ws st → Keeps (children b paths) ws st
   unfolding firsts fits_of_all
   kept_all cell e f st k =
       subst (λ (l : List ℕ). Keeps l ws st) (firsts_children b paths cell ∙ sym (children_chosen b paths f cell e)) k

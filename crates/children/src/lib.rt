@@ -2,6 +2,7 @@
 // tested and refused. What the call answers and leaves in the lent words is a definition of
 // specs/Children.antt.
 #![tactic(auto)]
+
 ghost use Rattle.std.specs.Prelude.{◌≡◌};
 ghost use Rattle.refusal.specs.Refusal.{refusal_of, verdict_number};
 ghost use Rattle.board.specs.Board.{board_of};

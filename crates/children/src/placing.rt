@@ -2,7 +2,7 @@
 // ask that board and tiles have been tested.
 ghost use Rattle.std.specs.Prelude.{◌≡◌, true, not, ◌&&◌, List, [], map, ℕ, ◌≤◌, eqb, length};
 ghost use Rattle.std.proofs.Math.Bool.{So};
-ghost use Rattle.cells.specs.Lists.{addNew, addFirsts};
+ghost use Rattle.cells.specs.Lists.{add_new, add_firsts};
 ghost use Rattle.cells.specs.Set.{number};
 ghost use Rattle.refusal.specs.Refusal.{given};
 ghost use Rattle.tile.specs.Path.{is_path};
@@ -29,7 +29,7 @@ pub enum Stored {
 
 // One child more, unless it is stored already.
 fn add_child(out: &mut [u64], stored: Stored, child: Cells) -> Stored
-    ensures { (ns : List ℕ) → Keeps ns out.old stored → Keeps (addNew eqb ns (number child)) out.new result }
+    ensures { (ns : List ℕ) → Keeps ns out.old stored → Keeps (add_new eqb ns (number child)) out.new result }
 {
     let Stored::Number(n) = stored else {
         return Stored::Full;
@@ -56,7 +56,7 @@ fn add_fit(
     cell: usize,
 ) -> Stored
     requires { (valid (board_of board) ≡ true) × (number marked ≡ marks (board_of board)) × So (is_path path.now) × (point ≤ length path.now) }
-    ensures { (ns : List ℕ) → Keeps ns out.old stored → Keeps (addFirsts eqb ns (map (child_of (board_of board)) (fit_at (board_of board) path.now point cell))) out.new result }
+    ensures { (ns : List ℕ) → Keeps ns out.old stored → Keeps (add_firsts eqb ns (map (child_of (board_of board)) (fit_at (board_of board) path.now point cell))) out.new result }
 {
     let fit = fit::tile_fits_at_position(marked, board.width, board.height, path, point, cell);
     let Fit::Piece(w0, w1, w2, w3) = fit else {
@@ -76,7 +76,7 @@ fn add_fits(
     cell: usize,
 ) -> Stored
     requires { (valid (board_of board) ≡ true) × (number marked ≡ marks (board_of board)) × So (is_path path.now) }
-    ensures { (ns : List ℕ) → Keeps ns out.old stored → Keeps (addFirsts eqb ns (map (child_of (board_of board)) (fits_of (board_of board) cell path.now))) out.new result }
+    ensures { (ns : List ℕ) → Keeps ns out.old stored → Keeps (add_firsts eqb ns (map (child_of (board_of board)) (fits_of (board_of board) cell path.now))) out.new result }
 {
     let mut state = stored;
     let mut point = 0;
@@ -96,7 +96,7 @@ fn add_tiles(
     cell: usize,
 ) -> Stored
     requires { (valid (board_of board) ≡ true) × (number marked ≡ marks (board_of board)) × (read_tiles tiles ≡ given (paths_in tiles)) × (tiles.count ≤ 64) }
-    ensures { Keeps (addFirsts eqb [] (map (child_of (board_of board)) (fits_of_all (board_of board) cell (paths_in tiles)))) out.new result }
+    ensures { Keeps (add_firsts eqb [] (map (child_of (board_of board)) (fits_of_all (board_of board) cell (paths_in tiles)))) out.new result }
 {
     let count = tiles.count;
     let lens = tiles.lens;

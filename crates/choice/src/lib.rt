@@ -1,6 +1,7 @@
 // Neighbour counts and the chosen cell. Nothing is asked of a caller: any numbers and any marks have an
 // answer, which is a definition of specs/Parts.antt.
 #![tactic(auto)]
+
 ghost use Rattle.std.specs.Prelude.{◌≡◌};
 ghost use Rattle.cells.specs.Set.{number};
 ghost use Rattle.choice.specs.Parts.{chosen_for};

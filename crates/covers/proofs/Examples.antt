@@ -10,8 +10,8 @@ use Rattle.cells.specs.Set.{bit, has_cell, size}
 use Rattle.cells.specs.Lists.{any, holds}
 use Rattle.cells.specs.FirstsLaws.{holds_iff}
 use Rattle.cells.specs.MemberLaws.{eqb_tells}
-use Rattle.covers.specs.Counts.{Exactly, counts, sum_of, layers, edgesOf, number_in, parents_of, turn, node_list_to, fullNode, at_node, layerCount}
-use Rattle.covers.specs.Setting.{CuttingOf, Laws, SoundPruning, EqualSteps, SumRule, entriesOf, nodesOf, graphEdges, layerCountOf, graphCount, tiling_of}
+use Rattle.covers.specs.Counts.{Exactly, counts, sum_of, layers, edges_of, number_in, parents_of, turn, node_list_to, full_node, at_node, layer_count}
+use Rattle.covers.specs.Setting.{CuttingOf, Laws, SoundPruning, EqualSteps, SumRule, entries_of, nodes_of, graph_edges, layer_count_of, graph_count, tiling_of}
 use Rattle.covers.proofs.Theorems.{number_unique, layer_count_is_cuttings}
 use Rattle.covers.specs.CellSets.{cell_setting}
 use Rattle.covers.proofs.ExamplePlots.{Plot, all, is_within, setting_of, is_plot, cuts, plot_laws, plot_steps, plot_pruning, plot_ok, plot_cutting}
@@ -48,12 +48,12 @@ unfolding setting_of
 two_by_two_not_full = refl
 
 -- both counts are 2
-two_layers_lem : layerCountOf (setting_of two_by_two) 0 ≡ 2
-unfolding setting_of size layerCount
+two_layers_lem : layer_count_of (setting_of two_by_two) 0 ≡ 2
+unfolding setting_of size layer_count
 two_layers_lem = refl
 
-two_graph : graphCount (setting_of two_by_two) 0 ≡ 2
-unfolding setting_of size graphCount
+two_graph : graph_count (setting_of two_by_two) 0 ≡ 2
+unfolding setting_of size graph_count
 two_graph = refl
 
 -- so there are exactly two cuttings
@@ -63,24 +63,24 @@ two_cuttings =
     (layer_count_is_cuttings (setting_of two_by_two) two_by_two_lem 2 two_by_two_steps 0 two_by_two_ok two_by_two_not_full two_by_two_pruning)
 
 -- the graph: its boards, their path counts, its edges
-nodes : nodesOf (setting_of two_by_two) 0 ≡ 0 ∷ 3 ∷ 5 ∷ 15 ∷ []
+nodes : nodes_of (setting_of two_by_two) 0 ≡ 0 ∷ 3 ∷ 5 ∷ 15 ∷ []
 unfolding setting_of size layers
 nodes = refl
 
-path_counts : counts (entriesOf (setting_of two_by_two) 0) ≡ 1 ∷ 1 ∷ 1 ∷ 2 ∷ []
+path_counts : counts (entries_of (setting_of two_by_two) 0) ≡ 1 ∷ 1 ∷ 1 ∷ 2 ∷ []
 unfolding setting_of size layers
 path_counts = refl
 
-edges : graphEdges (setting_of two_by_two) 0 ≡ (0, 1) ∷ (0, 2) ∷ (1, 3) ∷ (2, 3) ∷ []
-unfolding setting_of size layers edgesOf
+edges : graph_edges (setting_of two_by_two) 0 ≡ (0, 1) ∷ (0, 2) ∷ (1, 3) ∷ (2, 3) ∷ []
+unfolding setting_of size layers edges_of
 edges = refl
 
 tiling_0 : tiling_of (setting_of two_by_two) 0 0 ≡ 0 ∷ 3 ∷ 15 ∷ []
-unfolding setting_of size layers edgesOf node_list_to fullNode at_node
+unfolding setting_of size layers edges_of node_list_to full_node at_node
 tiling_0 = refl
 
 tiling_1 : tiling_of (setting_of two_by_two) 0 1 ≡ 0 ∷ 5 ∷ 15 ∷ []
-unfolding setting_of size layers edgesOf node_list_to fullNode at_node
+unfolding setting_of size layers edges_of node_list_to full_node at_node
 tiling_1 = refl
 
 -- what is left of the number goes on: two lists to node 3, and on to node 4
@@ -94,12 +94,12 @@ unfolding turn number_in
 nothing_left = (refl, refl, refl)
 
 -- a full start counts 0, though the empty set is a cutting
-full_start_layers : layerCountOf (setting_of two_by_two) 15 ≡ 0
-unfolding setting_of size layerCount
+full_start_layers : layer_count_of (setting_of two_by_two) 15 ≡ 0
+unfolding setting_of size layer_count
 full_start_layers = refl
 
-full_start_graph : graphCount (setting_of two_by_two) 15 ≡ 0
-unfolding setting_of size graphCount
+full_start_graph : graph_count (setting_of two_by_two) 15 ≡ 0
+unfolding setting_of size graph_count
 full_start_graph = refl
 
 full_start_cutting : CuttingOf (setting_of two_by_two) 15 (holds eqb [])
@@ -141,12 +141,12 @@ slanted_steps : EqualSteps (setting_of slanted) 2
 unfolding is_plot flat_map all size
 slanted_steps = plot_steps slanted refl 2 refl
 
-slanted_layers : layerCountOf (setting_of slanted) 0 ≡ 0
-unfolding setting_of size layerCount flat_map beside has_four
+slanted_layers : layer_count_of (setting_of slanted) 0 ≡ 0
+unfolding setting_of size layer_count flat_map beside has_four
 slanted_layers = refl
 
-slanted_graph : graphCount (setting_of slanted) 0 ≡ 0
-unfolding setting_of size graphCount flat_map beside has_four
+slanted_graph : graph_count (setting_of slanted) 0 ≡ 0
+unfolding setting_of size graph_count flat_map beside has_four
 slanted_graph = refl
 
 -- one cutting exists: its pieces, and that there is no other, which the count with no pruning tells
@@ -160,8 +160,8 @@ slanted_cutting = plot_cutting slanted refl 0 slanted_pieces (plot_ok slanted re
 abbrev unpruned : Plot
 unpruned = slanted_with (λ s. false)
 
-unpruned_layers : layerCountOf (setting_of unpruned) 0 ≡ 1
-unfolding setting_of size layerCount flat_map beside
+unpruned_layers : layer_count_of (setting_of unpruned) 0 ≡ 1
+unfolding setting_of size layer_count flat_map beside
 unpruned_layers = refl
 
 slanted_one : Exactly 1 (CuttingOf (setting_of slanted) 0)
@@ -172,7 +172,7 @@ slanted_one =
     (plot_ok unpruned refl 0 refl) refl (plot_pruning unpruned refl (λ s. refl)))
 
 -- without the pruning condition the layer count is not the number of cuttings
-slanted_unequal : Exactly (layerCountOf (setting_of slanted) 0) (CuttingOf (setting_of slanted) 0) → ⊥
+slanted_unequal : Exactly (layer_count_of (setting_of slanted) 0) (CuttingOf (setting_of slanted) 0) → ⊥
 slanted_unequal E = omega (arith, number_unique E slanted_one, slanted_layers)
 
 -- so the pruning is not sound: with the cells 3 and 6 free, 6 has count 4 and the board is pruned, but a tile covers both
@@ -203,11 +203,11 @@ mixed_pruning : SoundPruning (setting_of mixed)
 unfolding is_plot
 mixed_pruning = plot_pruning mixed refl (λ s. refl)
 
-mixed_counts : (layerCountOf (setting_of mixed) 0 ≡ 2) × (graphCount (setting_of mixed) 0 ≡ 1)
-unfolding setting_of size layerCount graphCount
+mixed_counts : (layer_count_of (setting_of mixed) 0 ≡ 2) × (graph_count (setting_of mixed) 0 ≡ 1)
+unfolding setting_of size layer_count graph_count
 mixed_counts = (refl, refl)
 
-mixed_nodes : nodesOf (setting_of mixed) 0 ≡ 0 ∷ 1 ∷ 3 ∷ 3 ∷ []
+mixed_nodes : nodes_of (setting_of mixed) 0 ≡ 0 ∷ 1 ∷ 3 ∷ 3 ∷ []
 unfolding setting_of size layers
 mixed_nodes = refl
 

@@ -14,11 +14,11 @@ use Rattle.std.proofs.Math.Decide.{dec_lt}
 use native.Mathlib.Omega.{arith}
 use Rattle.std.proofs.Math.ListN.{get_or, length-append, get_or-append}
 use Rattle.cells.specs.FirstsLaws.{Tells, mem_get_d, add_firsts_append, length_add_firsts, mem_add_new, mem_firsts}
-use Rattle.cells.specs.Lists.{holds, addNew, addFirsts, firsts}
+use Rattle.cells.specs.Lists.{holds, add_new, add_firsts, firsts}
 use Rattle.cells.specs.MemberLaws.{mem_flat_map, flat_map_append, flat_map_snoc}
-use Rattle.covers.specs.Setting.{Setting, childBoards, Laws, EqualSteps, nodesOf, graphEdges}
-use Rattle.covers.specs.Counts.{number_in, edgesOf}
-use Rattle.covers.specs.Inner.{addChild, addChildren}
+use Rattle.covers.specs.Setting.{Setting, child_boards, Laws, EqualSteps, nodes_of, graph_edges}
+use Rattle.covers.specs.Counts.{number_in, edges_of}
+use Rattle.covers.specs.Inner.{add_child, add_children}
 use Rattle.covers.proofs.NodeLaws.{number_lt, get_d_number, number_get_d, number_left, edge_mem}
 use Rattle.covers.proofs.GraphLaws.{once_nodes, nodes_found, edge_rises}
 
@@ -26,69 +26,69 @@ use Rattle.covers.proofs.GraphLaws.{once_nodes, nodes_found, edge_rises}
 
 module _ {B : Type 0} (same : B → B → Bool) where
   pub add_children_snoc : (p : ℕ) (cs : List B) (c : B) (g : List B × List (ℕ × ℕ))
-      → addChildren same p (cs ++ c ∷ []) g ≡ addChild same p c (addChildren same p cs g)
-  unfolding addChildren
+      → add_children same p (cs ++ c ∷ []) g ≡ add_child same p c (add_children same p cs g)
+  unfolding add_children
   add_children_snoc p [] c g = refl
-  add_children_snoc p (d ∷ cs) c g = add_children_snoc p cs c (addChild same p d g)
+  add_children_snoc p (d ∷ cs) c g = add_children_snoc p cs c (add_child same p d g)
 
   -- the nodes: the new children, each where it is first found
-  pub add_children_nodes : (p : ℕ) (cs : List B) (g : List B × List (ℕ × ℕ)) → (addChildren same p cs g).0 ≡ addFirsts same g.0 cs
-  unfolding addChildren addChild addFirsts
+  pub add_children_nodes : (p : ℕ) (cs : List B) (g : List B × List (ℕ × ℕ)) → (add_children same p cs g).0 ≡ add_firsts same g.0 cs
+  unfolding add_children add_child add_firsts
   add_children_nodes p [] g = refl
-  add_children_nodes p (c ∷ cs) g = add_children_nodes p cs (addChild same p c g)
+  add_children_nodes p (c ∷ cs) g = add_children_nodes p cs (add_child same p c g)
 
   -- the edges: one more for each child
-  pub add_children_count : (p : ℕ) (cs : List B) (g : List B × List (ℕ × ℕ)) → length (addChildren same p cs g).1 ≡ length g.1 + length cs
-  unfolding addChildren addChild
+  pub add_children_count : (p : ℕ) (cs : List B) (g : List B × List (ℕ × ℕ)) → length (add_children same p cs g).1 ≡ length g.1 + length cs
+  unfolding add_children add_child
   add_children_count p [] g = omega arith
   add_children_count p (c ∷ cs) g =
       omega (
         arith,
-        length-append g.1 ((p, number_in same (addNew same g.0 c) c) ∷ []),
-        add_children_count p cs (addChild same p c g),
+        length-append g.1 ((p, number_in same (add_new same g.0 c) c) ∷ []),
+        add_children_count p cs (add_child same p c g),
       )
 
   -- nothing is lost
   pub add_children_longer : (p : ℕ) (cs : List B) (g : List B × List (ℕ × ℕ))
-      → (length g.0 ≤ length (addChildren same p cs g).0) × (length g.1 ≤ length (addChildren same p cs g).1)
+      → (length g.0 ≤ length (add_children same p cs g).0) × (length g.1 ≤ length (add_children same p cs g).1)
   add_children_longer p cs g = (
     omega (arith, ap length (add_children_nodes p cs g), (length_add_firsts same g.0 cs).0),
     omega (arith, add_children_count p cs g),
   )
 
   -- what is added stands behind what was there
-  add_new_behind : (xs : List B) (y : B) → (zs : List B) × (addNew same xs y ≡ xs ++ zs)
-  unfolding addNew
+  add_new_behind : (xs : List B) (y : B) → (zs : List B) × (add_new same xs y ≡ xs ++ zs)
+  unfolding add_new
   add_new_behind xs y = go (holds same xs y)
     where
       go : (b : Bool) → (zs : List B) × (cond b xs (xs ++ y ∷ []) ≡ xs ++ zs)
       go true = ([], sym (append-nil xs))
       go false = (y ∷ [], refl)
 
-  pub add_firsts_behind : (xs ys : List B) → (zs : List B) × (addFirsts same xs ys ≡ xs ++ zs)
-  unfolding addFirsts
+  pub add_firsts_behind : (xs ys : List B) → (zs : List B) × (add_firsts same xs ys ≡ xs ++ zs)
+  unfolding add_firsts
   add_firsts_behind xs [] = ([], sym (append-nil xs))
   add_firsts_behind xs (y ∷ ys) =
       let a = add_new_behind xs y in
-      let r = add_firsts_behind (addNew same xs y) ys in
+      let r = add_firsts_behind (add_new same xs y) ys in
       (a.0 ++ r.0, r.1 ∙ ap (λ (l : List B). l ++ r.0) a.1 ∙ append_assoc xs a.0 r.0)
 
   -- where the nodes are the first of a list, the numbers of the edges are those of that list
   pub add_children_edges : Tells same → (ns : List B) (p : ℕ) (cs : List B) (g : List B × List (ℕ × ℕ)) (ss : List B)
-      → ns ≡ addFirsts same g.0 cs ++ ss → (addChildren same p cs g).1 ≡ g.1 ++ map (λ c. (p, number_in same ns c)) cs
-  unfolding addChildren addChild addFirsts
+      → ns ≡ add_firsts same g.0 cs ++ ss → (add_children same p cs g).1 ≡ g.1 ++ map (λ c. (p, number_in same ns c)) cs
+  unfolding add_children add_child add_firsts
   add_children_edges tells ns p [] g ss e = sym (append-nil g.1)
   add_children_edges tells ns p (c ∷ cs) g ss e =
-      add_children_edges tells ns p cs (addChild same p c g) ss e
-      ∙ append_assoc g.1 ((p, number_in same (addNew same g.0 c) c) ∷ []) (map (λ c. (p, number_in same ns c)) cs)
+      add_children_edges tells ns p cs (add_child same p c g) ss e
+      ∙ append_assoc g.1 ((p, number_in same (add_new same g.0 c) c) ∷ []) (map (λ c. (p, number_in same ns c)) cs)
       ∙ ap (λ (k : ℕ). g.1 ++ (p, k) ∷ map (λ c. (p, number_in same ns c)) cs) (sym number)
     where
-      number : number_in same ns c ≡ number_in same (addNew same g.0 c) c
+      number : number_in same ns c ≡ number_in same (add_new same g.0 c) c
       number =
-          let r = add_firsts_behind (addNew same g.0 c) cs in
+          let r = add_firsts_behind (add_new same g.0 c) cs in
           ap (λ (l : List B). number_in same l c)
-          (e ∙ ap (λ (l : List B). l ++ ss) r.1 ∙ append_assoc (addNew same g.0 c) r.0 ss)
-          ∙ number_left same tells (addNew same g.0 c) (r.0 ++ ss) c ((mem_add_new same tells g.0 c c).1 (inr refl))
+          (e ∙ ap (λ (l : List B). l ++ ss) r.1 ∙ append_assoc (add_new same g.0 c) r.0 ss)
+          ∙ number_left same tells (add_new same g.0 c) (r.0 ++ ss) c ((mem_add_new same tells g.0 c c).1 (inr refl))
 
 -- ---- what is found when the first i nodes have been expanded
 
@@ -96,14 +96,14 @@ module _ {B P : Type 0} (G : Setting B P) (s : B) where
   -- the nodes found
   unfoldable pub found_at : ℕ → List B
   unfolding firsts flat_map
-  found_at i = firsts G.same_board (s ∷ flat_map (childBoards G) (take i (nodesOf G s)))
+  found_at i = firsts G.same_board (s ∷ flat_map (child_boards G) (take i (nodes_of G s)))
 
   -- the edges out of the first i nodes
   unfoldable pub edges_at : ℕ → List (ℕ × ℕ)
   unfolding flat_map number_in
   edges_at i =
-      flat_map (λ t. map (λ c. (number_in G.same_board (nodesOf G s) t, number_in G.same_board (nodesOf G s) c)) (childBoards G t))
-      (take i (nodesOf G s))
+      flat_map (λ t. map (λ c. (number_in G.same_board (nodes_of G s) t, number_in G.same_board (nodes_of G s) c)) (child_boards G t))
+      (take i (nodes_of G s))
 
 module _ {B P : Type 0} (G : Setting B P) (L : Laws G) (a : ℕ) (E : EqualSteps G a) (s : B) (ok : G.Ok s) where
   abbrev same : B → B → Bool
@@ -113,10 +113,10 @@ module _ {B P : Type 0} (G : Setting B P) (L : Laws G) (a : ℕ) (E : EqualSteps
   tells = L.board_eq
 
   abbrev children : B → List B
-  children = childBoards G
+  children = child_boards G
 
   abbrev nodes : List B
-  nodes = nodesOf G s
+  nodes = nodes_of G s
 
   abbrev number : B → ℕ
   number = number_in same nodes
@@ -129,7 +129,7 @@ module _ {B P : Type 0} (G : Setting B P) (L : Laws G) (a : ℕ) (E : EqualSteps
   edges_from t = map (λ c. (number t, number c)) (children t)
 
   pub found_zero : found_at G s 0 ≡ s ∷ []
-  unfolding found_at firsts addFirsts addNew holds
+  unfolding found_at firsts add_firsts add_new holds
   found_zero = refl
 
   -- the nodes found are the first of the nodes
@@ -146,7 +146,7 @@ module _ {B P : Type 0} (G : Setting B P) (L : Laws G) (a : ℕ) (E : EqualSteps
       )
 
   -- node i expanded: its children that are not there yet, each where it is first found
-  pub found_suc : (i : ℕ) → i < length nodes → found_at G s (suc i) ≡ addFirsts same (found_at G s i) (children (get_or nodes i s))
+  pub found_suc : (i : ℕ) → i < length nodes → found_at G s (suc i) ≡ add_firsts same (found_at G s i) (children (get_or nodes i s))
   unfolding found_at firsts
   found_suc i h =
       ap (λ (ts : List B). firsts same (s ∷ flat_map children ts)) (take-suc nodes i s h)
@@ -225,19 +225,19 @@ module _ {B P : Type 0} (G : Setting B P) (L : Laws G) (a : ℕ) (E : EqualSteps
       ∙ ap (λ (k : ℕ). edges_at G s i ++ map (λ c. (k, number c)) (children (get_or nodes i s)))
       (number_get_d same tells nodes i s (once_nodes G L a E s ok) h)
 
-  pub edges_all : (i : ℕ) → length nodes ≤ i → edges_at G s i ≡ graphEdges G s
-  unfolding edges_at edgesOf edges_from
+  pub edges_all : (i : ℕ) → length nodes ≤ i → edges_at G s i ≡ graph_edges G s
+  unfolding edges_at edges_of edges_from
   edges_all i h = ap (flat_map edges_from) (take_all i nodes h)
 
   -- ---- node i expanded, one child after another
 
   pub expanded : (i : ℕ) → i < length nodes
-      → addChildren same i (children (get_or nodes i s)) (found_at G s i, edges_at G s i) ≡ (found_at G s (suc i), edges_at G s (suc i))
+      → add_children same i (children (get_or nodes i s)) (found_at G s i, edges_at G s i) ≡ (found_at G s (suc i), edges_at G s (suc i))
   expanded i h =
       let cs = children (get_or nodes i s) in
       let g : List B × List (ℕ × ℕ) = (found_at G s i, edges_at G s i) in
       let r = found_prefix (suc i) in
-      let p : (addChildren same i cs g).0 ≡ found_at G s (suc i) = add_children_nodes same i cs g ∙ sym (found_suc i h) in
-      let q : (addChildren same i cs g).1 ≡ edges_at G s (suc i) =
+      let p : (add_children same i cs g).0 ≡ found_at G s (suc i) = add_children_nodes same i cs g ∙ sym (found_suc i h) in
+      let q : (add_children same i cs g).1 ≡ edges_at G s (suc i) =
       add_children_edges same tells nodes i cs g r.0 (r.1 ∙ ap (λ (l : List B). l ++ r.0) (found_suc i h)) ∙ sym (edges_suc i h) in
       λ t. (p t, q t)

@@ -13,10 +13,10 @@ use mathlib.Core.List.Memᴰ.{of_map}
 use mathlib.Core.List.{List, [], ◌∷◌, ◌++◌, map, map-append, map-map, map-id, Memᴰ as Mem}
 use native.Mathlib.Omega.{arith}
 use Rattle.cells.specs.FirstsLaws.{Once, same_false, mem_cases, add_firsts_append, mem_firsts, once_firsts, Tells}
-use Rattle.cells.specs.Lists.{holds, addNew, firsts}
+use Rattle.cells.specs.Lists.{holds, add_new, firsts}
 use Rattle.cells.specs.MemberLaws.{mem_split, map_ext}
 use Rattle.covers.specs.Counts.{Entry, boards, weight, gather}
-use Rattle.covers.specs.Inner.{addPaths}
+use Rattle.covers.specs.Inner.{add_paths}
 use Rattle.covers.proofs.SumLaws.{sum_append, sum_zero}
 
 -- ---- an entry and its board
@@ -44,13 +44,13 @@ module _ {B : Type 0} (same : B → B → Bool) where
   boards_gather es =
       map-map (λ (e : Entry B). e.0) _ (firsts same (boards es)) ∙ map-id (firsts same (boards es))
 
-  pub boards_add_paths : (c : B) (k : ℕ) (es : List (Entry B)) → boards (addPaths same c k es) ≡ addNew same (boards es) c
-  unfolding addPaths addNew
+  pub boards_add_paths : (c : B) (k : ℕ) (es : List (Entry B)) → boards (add_paths same c k es) ≡ add_new same (boards es) c
+  unfolding add_paths add_new
   boards_add_paths c k [] = refl
   boards_add_paths c k (e ∷ es) = go (same e.0 c) (holds same (boards es) c) (boards_add_paths c k es)
     where
-      go : (b h : Bool) → boards (addPaths same c k es) ≡ cond h (boards es) (boards es ++ c ∷ [])
-          → boards (cond b ((e.0, e.1 + k) ∷ es) (e ∷ addPaths same c k es)) ≡ cond (b || h) (e.0 ∷ boards es) (e.0 ∷ boards es ++ c ∷ [])
+      go : (b h : Bool) → boards (add_paths same c k es) ≡ cond h (boards es) (boards es ++ c ∷ [])
+          → boards (cond b ((e.0, e.1 + k) ∷ es) (e ∷ add_paths same c k es)) ≡ cond (b || h) (e.0 ∷ boards es) (e.0 ∷ boards es ++ c ∷ [])
       go true h ih = refl
       go false true ih = ap (λ (l : List B). e.0 ∷ l) ih
       go false false ih = ap (λ (l : List B). e.0 ∷ l) ih
@@ -116,8 +116,8 @@ module _ {B : Type 0} (same : B → B → Bool) where
 
     -- ---- one child more
 
-    pub weight_add_paths : (t c : B) (k : ℕ) (es : List (Entry B)) → weight same t (addPaths same c k es) ≡ weight same t es + cond (same c t) k 0
-    unfolding addPaths weight
+    pub weight_add_paths : (t c : B) (k : ℕ) (es : List (Entry B)) → weight same t (add_paths same c k es) ≡ weight same t es + cond (same c t) k 0
+    unfolding add_paths weight
     weight_add_paths t c k [] = omega arith
     weight_add_paths t c k (e ∷ es) = go (same e.0 c) refl (weight_add_paths t c k es)
       where
@@ -125,8 +125,8 @@ module _ {B : Type 0} (same : B → B → Bool) where
         plus true = refl
         plus false = refl
 
-        go : (b : Bool) → same e.0 c ≡ b → weight same t (addPaths same c k es) ≡ weight same t es + cond (same c t) k 0
-            → weight same t (cond b ((e.0, e.1 + k) ∷ es) (e ∷ addPaths same c k es)) ≡ weight same t (e ∷ es) + cond (same c t) k 0
+        go : (b : Bool) → same e.0 c ≡ b → weight same t (add_paths same c k es) ≡ weight same t es + cond (same c t) k 0
+            → weight same t (cond b ((e.0, e.1 + k) ∷ es) (e ∷ add_paths same c k es)) ≡ weight same t (e ∷ es) + cond (same c t) k 0
         go true q ih = omega (arith, plus (same e.0 t), ap (λ (s : B). cond (same s t) k 0) ((tells e.0 c).0 q))
         go false q ih = omega arith
 
@@ -149,18 +149,18 @@ module _ {B : Type 0} (same : B → B → Bool) where
     unfolding weight
     weight_snoc t es c k = weight_append t es ((c, k) ∷ []) ∙ omega arith
 
-    boards_snoc : (es : List (Entry B)) (c : B) (k : ℕ) → boards (gather same (es ++ (c, k) ∷ [])) ≡ addNew same (boards (gather same es)) c
+    boards_snoc : (es : List (Entry B)) (c : B) (k : ℕ) → boards (gather same (es ++ (c, k) ∷ [])) ≡ add_new same (boards (gather same es)) c
     unfolding firsts
     boards_snoc es c k =
         boards_gather (es ++ (c, k) ∷ [])
         ∙ ap (firsts same) (map-append (λ e. e.0) es ((c, k) ∷ []))
         ∙ add_firsts_append same [] (boards es) (c ∷ [])
-        ∙ ap (λ (l : List B). addNew same l c) (sym (boards_gather es))
+        ∙ ap (λ (l : List B). add_new same l c) (sym (boards_gather es))
 
     -- what is built of the shares one by one is what is built of all
-    pub gather_snoc : (es : List (Entry B)) (c : B) (k : ℕ) → gather same (es ++ (c, k) ∷ []) ≡ addPaths same c k (gather same es)
+    pub gather_snoc : (es : List (Entry B)) (c : B) (k : ℕ) → gather same (es ++ (c, k) ∷ []) ≡ add_paths same c k (gather same es)
     gather_snoc es c k =
-        entries_ext (gather same (es ++ (c, k) ∷ [])) (addPaths same c k (gather same es))
+        entries_ext (gather same (es ++ (c, k) ∷ [])) (add_paths same c k (gather same es))
         (boards_snoc es c k ∙ sym (boards_add_paths c k (gather same es)))
         (once_gather (es ++ (c, k) ∷ []))
         (λ t. omega (arith, weight_gather t (es ++ (c, k) ∷ []), weight_snoc t es c k, weight_add_paths t c k (gather same es), weight_gather t es))

@@ -12,7 +12,7 @@ use Rattle.cells.specs.FirstsLaws.{Once, mem_get_d, Tells}
 use Rattle.cells.specs.Lists.{firsts}
 use Rattle.cells.specs.MemberLaws.{map_back}
 use Rattle.covers.specs.Counts.{Numbering, Exactly, Chain, ChildSequence, Entry, boards, sum_of, weight, layers, number_in, parents_of, node_list_to}
-use Rattle.covers.specs.Setting.{Setting, childBoards, Laws, EqualSteps, SumRule, layerOf, nodesOf, pathCountOf, graphEdges}
+use Rattle.covers.specs.Setting.{Setting, child_boards, Laws, EqualSteps, SumRule, layer_of, nodes_of, path_count_of, graph_edges}
 use Rattle.covers.proofs.NumberingLaws.{carry}
 use Rattle.covers.proofs.NodeLaws.{chain_good, chain_map, number_lt, get_d_number, number_get_d, count_number, mem_edges, edge_mem, once_edges, sum_edges}
 use Rattle.covers.proofs.GatherLaws.{mem_boards, mem_entry, weight_entry, weight_none}
@@ -30,22 +30,22 @@ module _ {B P : Type 0} (G : Setting B P) (L : Laws G) (a : ℕ) (E : EqualSteps
   tells = L.board_eq
 
   abbrev children : B → List B
-  children = childBoards G
+  children = child_boards G
 
   abbrev at : ℕ → List (Entry B)
-  at = layerOf G s
+  at = layer_of G s
 
   abbrev up_to : ℕ → List (Entry B)
-  up_to n = layers G.same_board (childBoards G) s n
+  up_to n = layers G.same_board (child_boards G) s n
 
   abbrev nodes : List B
-  nodes = nodesOf G s
+  nodes = nodes_of G s
 
   abbrev edges : List (ℕ × ℕ)
-  edges = graphEdges G s
+  edges = graph_edges G s
 
   abbrev count : ℕ → ℕ
-  count = pathCountOf G s
+  count = path_count_of G s
 
   abbrev top : ℕ
   top = G.free_count s

@@ -16,7 +16,7 @@ use mathlib.Core.List.{List, [], ◌∷◌, ◌++◌, map, Memᴰ as Mem}
 use Prim.Native.Nat.{ℕ, zero, suc, ◌+◌, ◌<◌}
 use Rattle.cells.specs.FirstsLaws.{Once, mem_get_d, so_eq, same_false, same_cases, Tells}
 use Rattle.cells.specs.MemberLaws.{mem_rest, eqb_tells, mem_flat_map, once_map, once_flat_map}
-use Rattle.covers.specs.Counts.{Steps, Chain, Entry, boards, counts, sum_of, shares, weight, number_in, edgesOf}
+use Rattle.covers.specs.Counts.{Steps, Chain, Entry, boards, counts, sum_of, shares, weight, number_in, edges_of}
 use Rattle.covers.proofs.GatherLaws.{mem_boards}
 use Rattle.covers.proofs.SumLaws.{sum_ext, sum_map, sum_flat_map}
 
@@ -58,16 +58,16 @@ module _ {B : Type 0} (same : B → B → Bool) (children : B → List B) where
   edges_from : List B → B → List (ℕ × ℕ)
   edges_from ss s = map (λ t. (number_in same ss s, number_in same ss t)) (children s)
 
-  pub mem_edges : (ss : List B) (p c : ℕ) → Mem (p, c) (edgesOf same children ss)
+  pub mem_edges : (ss : List B) (p c : ℕ) → Mem (p, c) (edges_of same children ss)
       → (s : B) × Mem s ss × ((t : B) × Mem t (children s) × (p ≡ number_in same ss s) × (c ≡ number_in same ss t))
-  unfolding edgesOf edges_from
+  unfolding edges_of edges_from
   mem_edges ss p c m =
       let r = (mem_flat_map (edges_from ss) ss (p, c)).0 m in
       let q = of_map {B = ℕ × ℕ} (λ t. (number_in same ss r.0, number_in same ss t)) (children r.0) r.2 in
       (r.0, r.1, (q.0, q.1, ap (λ (x : ℕ × ℕ). x.0) (sym q.2), ap (λ (x : ℕ × ℕ). x.1) (sym q.2)))
 
-  pub edge_mem : (ss : List B) (s t : B) → Mem s ss → Mem t (children s) → Mem (number_in same ss s, number_in same ss t) (edgesOf same children ss)
-  unfolding edgesOf edges_from
+  pub edge_mem : (ss : List B) (s t : B) → Mem s ss → Mem t (children s) → Mem (number_in same ss s, number_in same ss t) (edges_of same children ss)
+  unfolding edges_of edges_from
   edge_mem ss s t m k =
       (mem_flat_map (edges_from ss) ss (number_in same ss s, number_in same ss t)).1
       (s, m, to_map {B = ℕ × ℕ} (λ t. (number_in same ss s, number_in same ss t)) k)
@@ -128,10 +128,10 @@ module _ {B : Type 0} (same : B → B → Bool) (tells : Tells same) where
 
   -- an edge leads from a node's number to the number of a child of it
   pub edge_iff : (children : B → List B) (ss : List B) (d : B) → Once ss → ((s t : B) → Mem s ss → Mem t (children s) → Mem t ss) → (p c : ℕ)
-      → Mem (p, c) (edgesOf same children ss) ↔ ((p < length ss) × (c < length ss) × Mem (get_or ss c d) (children (get_or ss p d)))
+      → Mem (p, c) (edges_of same children ss) ↔ ((p < length ss) × (c < length ss) × Mem (get_or ss c d) (children (get_or ss p d)))
   edge_iff children ss d once closed p c = (to, from)
     where
-      to : Mem (p, c) (edgesOf same children ss) → (p < length ss) × (c < length ss) × Mem (get_or ss c d) (children (get_or ss p d))
+      to : Mem (p, c) (edges_of same children ss) → (p < length ss) × (c < length ss) × Mem (get_or ss c d) (children (get_or ss p d))
       to m =
           let r = mem_edges same children ss p c m in
           let x = r.2 in
@@ -143,9 +143,9 @@ module _ {B : Type 0} (same : B → B → Bool) (tells : Tells same) where
             subst (λ (s : B). Mem (get_or ss c d) (children s)) parent (subst (λ (t : B). Mem t (children r.0)) child x.1),
           )
 
-      from : (p < length ss) × (c < length ss) × Mem (get_or ss c d) (children (get_or ss p d)) → Mem (p, c) (edgesOf same children ss)
+      from : (p < length ss) × (c < length ss) × Mem (get_or ss c d) (children (get_or ss p d)) → Mem (p, c) (edges_of same children ss)
       from h =
-          subst (λ (e : ℕ × ℕ). Mem e (edgesOf same children ss)) (ap₂ (λ (x y : ℕ). (x, y)) (number_get_d ss p d once h.0) (number_get_d ss c d once h.1))
+          subst (λ (e : ℕ × ℕ). Mem e (edges_of same children ss)) (ap₂ (λ (x y : ℕ). (x, y)) (number_get_d ss p d once h.0) (number_get_d ss c d once h.1))
           (edge_mem same children ss (get_or ss p d) (get_or ss c d) (mem_get_d ss p d h.0) h.2)
 
   -- ---- the count at a board's number
@@ -166,8 +166,8 @@ module _ {B : Type 0} (same : B → B → Bool) (tells : Tells same) where
   module _ (children : B → List B) where
     -- where each child of each board stands once, and is a board of the list, each edge stands once
     pub once_edges : (ss : List B) → Once ss → ((s : B) → Mem s ss → Once (children s)) → ((s t : B) → Mem s ss → Mem t (children s) → Mem t ss)
-        → Once (edgesOf same children ss)
-    unfolding edgesOf edges_from
+        → Once (edges_of same children ss)
+    unfolding edges_of edges_from
     once_edges ss o u closed = once_flat_map (edges_from same children ss) ss o
         (λ s m. once_map {B = ℕ × ℕ} (λ t. (number_in same ss s, number_in same ss t)) (children s)
         (λ t u k j e. number_inj ss t u (closed s t m k) (closed s u m j) (ap (λ (x : ℕ × ℕ). x.1) e)) (u s m))
@@ -179,9 +179,9 @@ module _ {B : Type 0} (same : B → B → Bool) (tells : Tells same) where
     -- the counts over the edges into a board's node add up to the board's weight among the children of the list's boards
     pub sum_edges : (es : List (Entry B)) (t : B) → Once (boards es) → Mem t (boards es)
         → ((s u : B) → Mem s (boards es) → Mem u (children s) → Mem u (boards es))
-        → sum_of (λ e. cond (eqb e.1 (number_in same (boards es) t)) (get_or (counts es) e.0 0) 0) (edgesOf same children (boards es))
+        → sum_of (λ e. cond (eqb e.1 (number_in same (boards es) t)) (get_or (counts es) e.0 0) 0) (edges_of same children (boards es))
         ≡ weight same t (shares children es)
-    unfolding edgesOf edges_from weight shares
+    unfolding edges_of edges_from weight shares
     sum_edges es t o m closed =
         sum_flat_map into (edges_from same children (boards es)) (boards es)
         ∙ sum_map (λ s. sum_of into (edges_from same children (boards es) s)) (λ e. e.0) es

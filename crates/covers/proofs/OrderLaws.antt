@@ -17,7 +17,7 @@ use Rattle.std.proofs.lemmas.List.{length-map}
 use Rattle.cells.specs.FirstsLaws.{Once, mem_cases, mem_firsts, once_firsts, Tells}
 use Rattle.cells.specs.Lists.{firsts}
 use Rattle.cells.specs.MemberLaws.{once_length}
-use Rattle.covers.specs.Counts.{fullCount, Entry, boards, sum_of, shares, weight, gather}
+use Rattle.covers.specs.Counts.{full_count, Entry, boards, sum_of, shares, weight, gather}
 use Rattle.covers.proofs.SumLaws.{sum_ext, sum_zero, sum_single, sum_plus, sum_times}
 use Rattle.covers.proofs.GatherLaws.{Nonzero, mem_boards, mem_entry, once_gather, gather_positive, cond_same, cond_other, weight_none, weight_entry, weight_least, weight_gather}
 use Rattle.covers.proofs.LayerLaws.{weight_shares, shares_positive}
@@ -92,8 +92,8 @@ module _ {B : Type 0} (same : B → B → Bool) where
         back m = let r = mem_entry ds t m in cast (sym r.2) (mem_boards es r.0 ((h r.0).1 r.1))
 
     -- the full board's path count is a sum that is linear in the counts
-    pub alike_full_count : (full : B → Bool) (es ds : List (Entry B)) → Alike es ds → fullCount full es ≡ fullCount full ds
-    unfolding fullCount
+    pub alike_full_count : (full : B → Bool) (es ds : List (Entry B)) → Alike es ds → full_count full es ≡ full_count full ds
+    unfolding full_count
     alike_full_count full es ds a = linear es ∙ alike_sum (λ s. cond (full s) 1 0) es ds a ∙ sym (linear ds)
       where
         linear : (es : List (Entry B)) → sum_of (λ e. cond (full e.0) e.1 0) es ≡ sum_of (λ e. e.1 * cond (full e.0) 1 0) es

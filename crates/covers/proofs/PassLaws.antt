@@ -19,7 +19,7 @@ use Rattle.std.proofs.lemmas.Bool.{eqb-false}
 use Rattle.std.proofs.lemmas.List.{length-map}
 use Rattle.std.proofs.Math.ListN.{get_or-eq_default}
 use Rattle.cells.specs.FirstsLaws.{mem_get_d}
-use Rattle.covers.specs.Setting.{Setting, childBoards, Laws, EqualSteps, entriesOf, nodesOf, pathCountOf, graphEdges}
+use Rattle.covers.specs.Setting.{Setting, child_boards, Laws, EqualSteps, entries_of, nodes_of, path_count_of, graph_edges}
 use Rattle.covers.specs.Counts.{Entry, counts, sum_of, parents_of, number_in}
 use Rattle.covers.proofs.SumLaws.{sum_append, sum_zero}
 use Rattle.covers.specs.Inner.{share}
@@ -57,21 +57,21 @@ module _ {B P : Type 0} (G : Setting B P) (s : B) where
   -- the count of node v when the first j edges have been passed
   unfoldable pub passed : ℕ → ℕ → ℕ
   unfolding sum_of parents_of
-  passed j v = cond (eqb v 0) 1 0 + sum_of (pathCountOf G s) (parents_of (take j (graphEdges G s)) v)
+  passed j v = cond (eqb v 0) 1 0 + sum_of (path_count_of G s) (parents_of (take j (graph_edges G s)) v)
 
-  passed_shares : (j v : ℕ) → passed j v ≡ cond (eqb v 0) 1 0 + sum_of (share (pathCountOf G s) v) (take j (graphEdges G s))
+  passed_shares : (j v : ℕ) → passed j v ≡ cond (eqb v 0) 1 0 + sum_of (share (path_count_of G s) v) (take j (graph_edges G s))
   unfolding passed
-  passed_shares j v = ap (λ (n : ℕ). cond (eqb v 0) 1 0 + n) (sum_parents_of (pathCountOf G s) (take j (graphEdges G s)) v)
+  passed_shares j v = ap (λ (n : ℕ). cond (eqb v 0) 1 0 + n) (sum_parents_of (path_count_of G s) (take j (graph_edges G s)) v)
 
 module _ {B P : Type 0} (G : Setting B P) (L : Laws G) (a : ℕ) (E : EqualSteps G a) (s : B) (ok : G.Ok s) where
   abbrev nodes : List B
-  nodes = nodesOf G s
+  nodes = nodes_of G s
 
   abbrev edges : List (ℕ × ℕ)
-  edges = graphEdges G s
+  edges = graph_edges G s
 
   abbrev count : ℕ → ℕ
-  count = pathCountOf G s
+  count = path_count_of G s
 
   abbrev edge : ℕ → ℕ × ℕ
   edge j = get_or edges j (0, 0)
@@ -99,11 +99,11 @@ module _ {B P : Type 0} (G : Setting B P) (L : Laws G) (a : ℕ) (E : EqualSteps
       )
     where
       new : List (ℕ × ℕ)
-      new = map (λ c. (i, number_in G.same_board nodes c)) (childBoards G (get_or nodes i s))
+      new = map (λ c. (i, number_in G.same_board nodes c)) (child_boards G (get_or nodes i s))
 
       parent : (x : ℕ × ℕ) → Mem x new → x.0 ≡ i
       parent x m =
-          let r = of_map {B = ℕ × ℕ} (λ c. (i, number_in G.same_board nodes c)) (childBoards G (get_or nodes i s)) m in
+          let r = of_map {B = ℕ × ℕ} (λ c. (i, number_in G.same_board nodes c)) (child_boards G (get_or nodes i s)) m in
           ap (λ (y : ℕ × ℕ). y.0) (sym r.2)
 
   sorted_edges : Sorted edges
@@ -129,8 +129,8 @@ module _ {B P : Type 0} (G : Setting B P) (L : Laws G) (a : ℕ) (E : EqualSteps
           omega (
             arith,
             other,
-            get_or-eq_default (counts (entriesOf G s)) 0 {n = suc v}
-                (omega (arith, length-map (entriesOf G s) (λ (e : Entry B). e.0), length-map (entriesOf G s) (λ (e : Entry B). e.1))),
+            get_or-eq_default (counts (entries_of G s)) 0 {n = suc v}
+                (omega (arith, length-map (entries_of G s) (λ (e : Entry B). e.0), length-map (entries_of G s) (λ (e : Entry B). e.1))),
             no_parents (suc v) (λ p m. omega (arith, (edge_rises G L a E s ok p (suc v) m).1)),
           )
 

@@ -13,9 +13,9 @@ use Rattle.std.proofs.Math.Nat.{zero-mul, suc-mul, eq_of_mul-eq-mul_right}
 use Rattle.std.proofs.Math.Decide.{dec_lt}
 use native.Mathlib.Omega.{arith}
 use Rattle.cells.specs.FirstsLaws.{Once, add_firsts_append, add_firsts_apart, Tells}
-use Rattle.cells.specs.Lists.{any, holds, addNew, addFirsts, firsts}
+use Rattle.cells.specs.Lists.{any, holds, add_new, add_firsts, firsts}
 use Rattle.cells.specs.MemberLaws.{no_member, mem_flat_map, flat_map_append, once_append}
-use Rattle.covers.specs.Setting.{Setting, childBoards, Laws, EqualSteps, nodesOf, pathCountOf, layerOf}
+use Rattle.covers.specs.Setting.{Setting, child_boards, Laws, EqualSteps, nodes_of, path_count_of, layer_of}
 use Rattle.covers.specs.Counts.{counts, ChildSequence, Entry, boards, layer, layers, number_in}
 use Rattle.covers.proofs.NodeLaws.{chain_end_good, number_lt, number_left, number_right}
 use Rattle.covers.proofs.GatherLaws.{mem_boards}
@@ -25,84 +25,84 @@ use Rattle.covers.proofs.ChildLaws.{child_ok, child_cell, child_equal}
 -- ---- the layers of a setting
 
 module _ {B P : Type 0} (G : Setting B P) (L : Laws G) (s : B) (ok : G.Ok s) where
-  pub layer_ok : (n : ℕ) (t : B) → Mem t (boards (layerOf G s n)) → G.Ok t
+  pub layer_ok : (n : ℕ) (t : B) → Mem t (boards (layer_of G s n)) → G.Ok t
   unfolding layer
   layer_ok zero t m = subst G.Ok (sym (eq_of_singleton m)) ok
   layer_ok (suc n) t m =
-      let r = (mem_layer G.same_board L.board_eq (childBoards G) s n t).0 m in child_ok G L r.0 t (layer_ok n r.0 r.1) r.2
+      let r = (mem_layer G.same_board L.board_eq (child_boards G) s n t).0 m in child_ok G L r.0 t (layer_ok n r.0 r.1) r.2
 
   -- each layer has one free cell fewer at least
-  pub layer_fewer : (n : ℕ) (t : B) → Mem t (boards (layerOf G s n)) → G.free_count t + n ≤ G.free_count s
+  pub layer_fewer : (n : ℕ) (t : B) → Mem t (boards (layer_of G s n)) → G.free_count t + n ≤ G.free_count s
   unfolding layer
   layer_fewer zero t m = omega (arith, ap G.free_count (eq_of_singleton m))
   layer_fewer (suc n) t m =
-      let r = (mem_layer G.same_board L.board_eq (childBoards G) s n t).0 m in
+      let r = (mem_layer G.same_board L.board_eq (child_boards G) s n t).0 m in
       omega (arith, child_cell G L r.0 t (layer_ok n r.0 r.1) r.2, layer_fewer n r.0 r.1)
 
   -- after as many layers as free cells nothing is left
-  pub layer_empty : (n : ℕ) → G.free_count s < n → layerOf G s n ≡ []
-  layer_empty n h = no_member (layerOf G s n)
-      (λ e m. let l = layer_fewer n e.0 (mem_boards (layerOf G s n) e m) in omega arith)
+  pub layer_empty : (n : ℕ) → G.free_count s < n → layer_of G s n ≡ []
+  layer_empty n h = no_member (layer_of G s n)
+      (λ e m. let l = layer_fewer n e.0 (mem_boards (layer_of G s n) e m) in omega arith)
 
   -- every board that a child sequence reaches stands in a layer
-  pub reached_layer : (t : B) (xs : List B) → ChildSequence (childBoards G) s t xs → (n : ℕ) × (n ≤ G.free_count s) × Mem t (boards (layerOf G s n))
+  pub reached_layer : (t : B) (xs : List B) → ChildSequence (child_boards G) s t xs → (n : ℕ) × (n ≤ G.free_count s) × Mem t (boards (layer_of G s n))
   reached_layer t xs c =
-      let r = chain_end_good (λ t u. Mem u (childBoards G t)) (λ u. (n : ℕ) × Mem u (boards (layerOf G s n))) next s t xs (0, first) c in
+      let r = chain_end_good (λ t u. Mem u (child_boards G t)) (λ u. (n : ℕ) × Mem u (boards (layer_of G s n))) next s t xs (0, first) c in
       let l = layer_fewer r.0 t r.1 in
       (r.0, omega arith, r.1)
     where
-      first : Mem s (boards (layerOf G s 0))
-      first = start_entry G.same_board (childBoards G) s
+      first : Mem s (boards (layer_of G s 0))
+      first = start_entry G.same_board (child_boards G) s
 
-      next : (t u : B) → (n : ℕ) × Mem t (boards (layerOf G s n)) → Mem u (childBoards G t) → (n : ℕ) × Mem u (boards (layerOf G s n))
-      next t u r m = (suc r.0, (mem_layer G.same_board L.board_eq (childBoards G) s r.0 u).1 (t, r.1, m))
+      next : (t u : B) → (n : ℕ) × Mem t (boards (layer_of G s n)) → Mem u (child_boards G t) → (n : ℕ) × Mem u (boards (layer_of G s n))
+      next t u r m = (suc r.0, (mem_layer G.same_board L.board_eq (child_boards G) s r.0 u).1 (t, r.1, m))
 
   -- and every board of a layer is reached
-  layer_reached : (n : ℕ) (t : B) → Mem t (boards (layerOf G s n)) → (xs : List B) × ChildSequence (childBoards G) s t xs
+  layer_reached : (n : ℕ) (t : B) → Mem t (boards (layer_of G s n)) → (xs : List B) × ChildSequence (child_boards G) s t xs
   unfolding layer
   layer_reached zero t m = (s ∷ [], (refl, sym (eq_of_singleton m)))
   layer_reached (suc n) t m =
-      let r = (mem_layer G.same_board L.board_eq (childBoards G) s n t).0 m in
+      let r = (mem_layer G.same_board L.board_eq (child_boards G) s n t).0 m in
       let c = layer_reached n r.0 r.1 in
-      (c.0 ++ t ∷ [], chain_snoc (λ t u. Mem u (childBoards G t)) s r.0 t c.0 c.1 r.2)
+      (c.0 ++ t ∷ [], chain_snoc (λ t u. Mem u (child_boards G t)) s r.0 t c.0 c.1 r.2)
 
   -- ---- the nodes
 
   -- a board of a layer is a node
-  pub layer_node : (n : ℕ) (t : B) → Mem t (boards (layerOf G s n)) → Mem t (nodesOf G s)
-  layer_node n t m = (mem_layers G.same_board (childBoards G) s (G.free_count s) t).1 (n, omega (arith, layer_fewer n t m), m)
+  pub layer_node : (n : ℕ) (t : B) → Mem t (boards (layer_of G s n)) → Mem t (nodes_of G s)
+  layer_node n t m = (mem_layers G.same_board (child_boards G) s (G.free_count s) t).1 (n, omega (arith, layer_fewer n t m), m)
 
-  pub node_layer : (t : B) → Mem t (nodesOf G s) → (n : ℕ) × (n ≤ G.free_count s) × Mem t (boards (layerOf G s n))
-  node_layer t = (mem_layers G.same_board (childBoards G) s (G.free_count s) t).0
+  pub node_layer : (t : B) → Mem t (nodes_of G s) → (n : ℕ) × (n ≤ G.free_count s) × Mem t (boards (layer_of G s n))
+  node_layer t = (mem_layers G.same_board (child_boards G) s (G.free_count s) t).0
 
-  pub node_ok : (t : B) → Mem t (nodesOf G s) → G.Ok t
+  pub node_ok : (t : B) → Mem t (nodes_of G s) → G.Ok t
   node_ok t m = let r = node_layer t m in layer_ok r.0 t r.2
 
   -- a child of a node is a node
-  pub child_node : (t u : B) → Mem t (nodesOf G s) → Mem u (childBoards G t) → Mem u (nodesOf G s)
+  pub child_node : (t u : B) → Mem t (nodes_of G s) → Mem u (child_boards G t) → Mem u (nodes_of G s)
   child_node t u m k =
-      let r = node_layer t m in layer_node (suc r.0) u ((mem_layer G.same_board L.board_eq (childBoards G) s r.0 u).1 (t, r.2, k))
+      let r = node_layer t m in layer_node (suc r.0) u ((mem_layer G.same_board L.board_eq (child_boards G) s r.0 u).1 (t, r.2, k))
 
   -- the nodes are the boards that child sequences reach
-  pub node_reached : (t : B) → Mem t (nodesOf G s) ↔ ((xs : List B) × ChildSequence (childBoards G) s t xs)
+  pub node_reached : (t : B) → Mem t (nodes_of G s) ↔ ((xs : List B) × ChildSequence (child_boards G) s t xs)
   node_reached t = (
     λ m. let r = node_layer t m in layer_reached r.0 t r.2,
     λ c. let r = reached_layer t c.0 c.1 in layer_node r.0 t r.2,
   )
 
   -- node 0 is the start, with count 1
-  pub start_mem : Mem s (nodesOf G s)
-  start_mem = layer_node 0 s (start_entry G.same_board (childBoards G) s)
+  pub start_mem : Mem s (nodes_of G s)
+  start_mem = layer_node 0 s (start_entry G.same_board (child_boards G) s)
 
-  pub start_node : get_or (nodesOf G s) 0 s ≡ s
-  start_node = let r = layers_first G.same_board (childBoards G) s (G.free_count s) in ap (λ (es : List (Entry B)). get_or (boards es) 0 s) r.1
+  pub start_node : get_or (nodes_of G s) 0 s ≡ s
+  start_node = let r = layers_first G.same_board (child_boards G) s (G.free_count s) in ap (λ (es : List (Entry B)). get_or (boards es) 0 s) r.1
 
-  pub some_node : 0 < length (nodesOf G s)
+  pub some_node : 0 < length (nodes_of G s)
   some_node =
-      let r = layers_first G.same_board (childBoards G) s (G.free_count s) in omega (arith, ap (λ (es : List (Entry B)). length (boards es)) r.1)
+      let r = layers_first G.same_board (child_boards G) s (G.free_count s) in omega (arith, ap (λ (es : List (Entry B)). length (boards es)) r.1)
 
-  pub first_count : pathCountOf G s 0 ≡ 1
-  first_count = let r = layers_first G.same_board (childBoards G) s (G.free_count s) in ap (λ (es : List (Entry B)). get_or (counts es) 0 0) r.1
+  pub first_count : path_count_of G s 0 ≡ 1
+  first_count = let r = layers_first G.same_board (child_boards G) s (G.free_count s) in ap (λ (es : List (Entry B)). get_or (counts es) 0 0) r.1
 
 -- ---- where every piece takes equally many free cells
 
@@ -114,13 +114,13 @@ module _ {B P : Type 0} (G : Setting B P) (L : Laws G) (a : ℕ) (E : EqualSteps
   tells = L.board_eq
 
   abbrev children : B → List B
-  children = childBoards G
+  children = child_boards G
 
   abbrev at : ℕ → List (Entry B)
-  at = layerOf G s
+  at = layer_of G s
 
   abbrev up_to : ℕ → List (Entry B)
-  up_to n = layers G.same_board (childBoards G) s n
+  up_to n = layers G.same_board (child_boards G) s n
 
   layer_size : (n : ℕ) (t : B) → Mem t (boards (at n)) → G.free_count t + n * a ≡ G.free_count s
   unfolding layer
@@ -157,10 +157,10 @@ module _ {B P : Type 0} (G : Setting B P) (L : Laws G) (a : ℕ) (E : EqualSteps
       omega arith))
 
   -- one more layer: the children of the last that are not there yet, each where it is first found
-  pub found_next : (n : ℕ) → addFirsts same (boards (up_to n)) (flat_map children (boards (at n))) ≡ boards (up_to (suc n))
+  pub found_next : (n : ℕ) → add_firsts same (boards (up_to n)) (flat_map children (boards (at n))) ≡ boards (up_to (suc n))
   unfolding firsts
   found_next n =
-      ap (λ (ss : List B). addFirsts same ss (flat_map children (boards (at n)))) (sym (append-nil (boards (up_to n))))
+      ap (λ (ss : List B). add_firsts same ss (flat_map children (boards (at n)))) (sym (append-nil (boards (up_to n))))
       ∙ add_firsts_apart same tells (boards (up_to n)) [] (flat_map children (boards (at n))) apart
       ∙ ap (λ (ss : List B). boards (up_to n) ++ ss) (sym (layer_found same children s n)) ∙ sym (boards_suc same children s n)
     where
@@ -173,13 +173,13 @@ module _ {B P : Type 0} (G : Setting B P) (L : Laws G) (a : ℕ) (E : EqualSteps
           omega arith
 
   pub found_layers : (n : ℕ) → firsts same (s ∷ flat_map children (boards (up_to n))) ≡ boards (up_to (suc n))
-  unfolding firsts addFirsts addNew holds any layers layer
+  unfolding firsts add_firsts add_new holds any layers layer
   found_layers zero = found_next zero
   found_layers (suc n) =
       ap (λ (ss : List B). firsts same (s ∷ ss))
       (ap (flat_map children) (boards_suc same children s n) ∙ flat_map_append children (boards (up_to n)) (boards (at (suc n))))
       ∙ add_firsts_append same [] (s ∷ flat_map children (boards (up_to n))) (flat_map children (boards (at (suc n))))
-      ∙ ap (λ (ss : List B). addFirsts same ss (flat_map children (boards (at (suc n))))) (found_layers n) ∙ found_next (suc n)
+      ∙ ap (λ (ss : List B). add_firsts same ss (flat_map children (boards (at (suc n))))) (found_layers n) ∙ found_next (suc n)
 
   -- a board of a later layer has a higher number
   pub number_layers : (n i j : ℕ) (t u : B) → i < j → j ≤ n → Mem t (boards (at i)) → Mem u (boards (at j))

@@ -92,9 +92,9 @@ module _ {B : Type 0} (same : B → B → Bool) where
     layers s (suc n) = layers s n ++ layer s (suc n)
 
     -- "Edges are (parent, child), in the order found": "parents in number order, children in order"
-    unfoldable pub edgesOf : List B → List (ℕ × ℕ)
+    unfoldable pub edges_of : List B → List (ℕ × ℕ)
     unfolding flat_map number_in
-    edgesOf ss = flat_map (λ s. map (λ c. (number_in ss s, number_in ss c)) (children s)) ss
+    edges_of ss = flat_map (λ s. map (λ c. (number_in ss s, number_in ss c)) (children s)) ss
 
 -- ---- the tiling by number. A graph is its edges and the path count of each node
 
@@ -126,19 +126,19 @@ node_list_to es count v m = walk es count v v m
 
 module _ {B : Type 0} (full : B → Bool) where
   -- the path count of the full board among some entries, 0 if it is not there
-  unfoldable pub fullCount : List (Entry B) → ℕ
+  unfoldable pub full_count : List (Entry B) → ℕ
   unfolding sum_of
-  fullCount es = sum_of (λ e. cond (full e.0) e.1 0) es
+  full_count es = sum_of (λ e. cond (full e.0) e.1 0) es
 
   -- the number of the first full board, the numbers beginning with i
-  unfoldable pub fullFrom : ℕ → List B → Option ℕ
-  fullFrom i [] = none
-  fullFrom i (s ∷ ss) = cond (full s) (some i) (fullFrom (suc i) ss)
+  unfoldable pub full_from : ℕ → List B → Option ℕ
+  full_from i [] = none
+  full_from i (s ∷ ss) = cond (full s) (some i) (full_from (suc i) ss)
 
   -- "the full board's node, or none; node 0 is never that node"
-  unfoldable pub fullNode : List B → Option ℕ
-  unfolding fullFrom
-  fullNode ss = fullFrom 1 (tail ss)
+  unfoldable pub full_node : List B → Option ℕ
+  unfolding full_from
+  full_node ss = full_from 1 (tail ss)
 
 -- f of a node, 0 with none
 unfoldable pub at_node : (ℕ → ℕ) → Option ℕ → ℕ
@@ -151,21 +151,21 @@ node_list es count o m = node_list_to es count (at_node (λ v. v) o) m
 
 module _ {B P : Type 0} (step : B → B → P) where
   -- the pieces of the steps from t on over a list of boards, `step` giving the piece of a step
-  abbrev pub piecesFrom : B → List B → List P
-  piecesFrom t [] = []
-  piecesFrom t (u ∷ us) = step t u ∷ piecesFrom u us
+  abbrev pub pieces_from : B → List B → List P
+  pieces_from t [] = []
+  pieces_from t (u ∷ us) = step t u ∷ pieces_from u us
 
   -- the pieces of the steps of a list of boards
   abbrev pub pieces_of : List B → List P
   pieces_of [] = []
-  pieces_of (t ∷ ts) = piecesFrom t ts
+  pieces_of (t ∷ ts) = pieces_from t ts
 
 -- ---- the layer count
 
 -- "The answer is the path count of the full board, 0 if none is reached after at least one piece": of the layers 1 to n of a start s. Each piece takes a free
 -- cell, so that the number of free cells is an n that is large enough
 module _ {B : Type 0} (same : B → B → Bool) (children : B → List B) (full : B → Bool) (s : B) where
-  unfoldable pub layerCount : ℕ → ℕ
-  unfolding fullCount layer
-  layerCount zero = 0
-  layerCount (suc n) = layerCount n + fullCount full (layer same children s (suc n))
+  unfoldable pub layer_count : ℕ → ℕ
+  unfolding full_count layer
+  layer_count zero = 0
+  layer_count (suc n) = layer_count n + full_count full (layer same children s (suc n))

@@ -6,7 +6,7 @@ use Rattle.std.proofs.Math.Bool.{So}
 use mathlib.Core.List.{List, [], ◌∷◌, map, Memᴰ as Mem}
 use Rattle.cells.specs.FirstsLaws.{Once, Tells}
 use Rattle.cells.specs.Lists.{holds}
-use Rattle.covers.specs.Counts.{Exactly, Entry, boards, counts, sum_of, layer, layers, edgesOf, parents_of, fullNode, at_node, node_list, pieces_of, layerCount}
+use Rattle.covers.specs.Counts.{Exactly, Entry, boards, counts, sum_of, layer, layers, edges_of, parents_of, full_node, at_node, node_list, pieces_of, layer_count}
 
 -- ---- cuttings, of what a piece covers, of the pieces that are "a tile's cells moved unturned", and of the free cells; of nothing else. Pieces
 -- are 01's "cell sets" where P is ℕ and `covers` is `has_cell` (`CellSets`)
@@ -53,8 +53,8 @@ module _ {B P : Type 0} (G : Setting B P) where
   CuttingOf s = Cutting G.covers G.IsTile (G.free s)
 
   -- the children: the boards with one of the pieces laid, in order
-  abbrev pub childBoards : B → List B
-  childBoards s = map (G.lay s) (G.pieces s)
+  abbrev pub child_boards : B → List B
+  child_boards s = map (G.lay s) (G.pieces s)
 
   -- a placing sequence: pieces laid one after another from s on, each one of the pieces of the board that it is laid on, until no cell is free
   abbrev pub PlacingSequence : B → List P → Type 0
@@ -100,37 +100,37 @@ pub record SumRule (n : ℕ) (es : List (ℕ × ℕ)) (count : ℕ → ℕ) : Ty
   pub sums : (v : ℕ) → 0 < v → v < n → count v ≡ sum_of count (parents_of es v)
 
 module _ {B P : Type 0} (G : Setting B P) (s : B) where
-  abbrev pub layerOf : ℕ → List (Entry B)
-  layerOf n = layer G.same_board (childBoards G) s n
+  abbrev pub layer_of : ℕ → List (Entry B)
+  layer_of n = layer G.same_board (child_boards G) s n
 
   -- the nodes, "numbered by first finding", with their path counts, and their edges: the boards of the layers 0 to the number of free cells
-  abbrev pub entriesOf : List (Entry B)
-  entriesOf = layers G.same_board (childBoards G) s (G.free_count s)
+  abbrev pub entries_of : List (Entry B)
+  entries_of = layers G.same_board (child_boards G) s (G.free_count s)
 
-  abbrev pub nodesOf : List B
-  nodesOf = boards entriesOf
+  abbrev pub nodes_of : List B
+  nodes_of = boards entries_of
 
-  abbrev pub pathCountOf : ℕ → ℕ
-  pathCountOf v = get_or (counts entriesOf) v 0
+  abbrev pub path_count_of : ℕ → ℕ
+  path_count_of v = get_or (counts entries_of) v 0
 
-  abbrev pub graphEdges : List (ℕ × ℕ)
-  graphEdges = edgesOf G.same_board (childBoards G) nodesOf
+  abbrev pub graph_edges : List (ℕ × ℕ)
+  graph_edges = edges_of G.same_board (child_boards G) nodes_of
 
   -- the layer count, of the layers 1 to n and of all
-  abbrev pub layerCountTo : ℕ → ℕ
-  layerCountTo n = layerCount G.same_board (childBoards G) G.full s n
+  abbrev pub layer_count_to : ℕ → ℕ
+  layer_count_to n = layer_count G.same_board (child_boards G) G.full s n
 
-  abbrev pub layerCountOf : ℕ
-  layerCountOf = layerCountTo (G.free_count s)
+  abbrev pub layer_count_of : ℕ
+  layer_count_of = layer_count_to (G.free_count s)
 
   -- "The graph count is that node's path count, 0 with none"
-  unfoldable pub graphCount : ℕ
-  unfolding layers fullNode at_node
-  graphCount = at_node pathCountOf (fullNode G.full nodesOf)
+  unfoldable pub graph_count : ℕ
+  unfolding layers full_node at_node
+  graph_count = at_node path_count_of (full_node G.full nodes_of)
 
   -- the boards of the node list with the number m to the full node, and "the set of pieces that its steps mark"
   abbrev pub tiling_of : ℕ → List B
-  tiling_of m = map (λ v. get_or nodesOf v s) (node_list graphEdges pathCountOf (fullNode G.full nodesOf) m)
+  tiling_of m = map (λ v. get_or nodes_of v s) (node_list graph_edges path_count_of (full_node G.full nodes_of) m)
 
-  abbrev pub cuttingAt : ℕ → P → Bool
-  cuttingAt m = holds G.same_piece (pieces_of G.step_piece (tiling_of m))
+  abbrev pub cutting_at : ℕ → P → Bool
+  cutting_at m = holds G.same_piece (pieces_of G.step_piece (tiling_of m))

@@ -107,9 +107,9 @@ module _ (b : RectangularBoard) (ts : Tiles) where
           ap (map_answer (cuttings_of (board_of b))) (accepted_count p e room ∙ full_layers (read_accepted b ts p e).1 room h) ∙ ap given (full_of (board_of b) 0 full)
 
       -- the layer count that is given is 0
-      pub full_count : (room n : ℕ) → count_tilings b ts room ≡ given n → n ≡ 0
-      full_count zero n e = absurd (refused_given 8 n (sym (no_room_count (board_of b) (paths_in ts)) ∙ (counted_accepted 0 n e).1))
-      full_count (suc room) n e =
+      pub full_count_lem : (room n : ℕ) → count_tilings b ts room ≡ given n → n ≡ 0
+      full_count_lem zero n e = absurd (refused_given 8 n (sym (no_room_count (board_of b) (paths_in ts)) ∙ (counted_accepted 0 n e).1))
+      full_count_lem (suc room) n e =
           let r = counted_accepted (suc room) n e in
           given_inj n 0 (sym r.1 ∙ full_layers r.0 (suc room) (omega arith))
 
@@ -124,7 +124,7 @@ module _ (b : RectangularBoard) (ts : Tiles) where
             → (t ≡ true) × (a ≡ given 0) × (map_answer (cuttings_of (board_of b)) a ≡ given 1)
         go (refused k) e t f other = absurd (other refl)
         go (given n) e false f other = absurd (other (ap given (free_of (board_of b) n f)))
-        go (given n) e true f other = (refl, ap given (full_count f room n e), ap given (full_of (board_of b) n f))
+        go (given n) e true f other = (refl, ap given (full_count_lem f room n e), ap given (full_of (board_of b) n f))
 
     -- ---- exact covers
 

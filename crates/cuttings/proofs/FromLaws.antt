@@ -30,9 +30,9 @@ module _ (b : RectangularBoard) (k : Count) where
     of_number = ap (λ (x : Count). cuttings_from b (count_answer x)) number
 
     -- a board that is accepted
-    pub figure_told : (full : Bool) → m ≡ M.Is full → (r : PathCount) → count_value r ≡ cond full 1 (count_value n) → given (count_value r) ≡ cuttings_from b (count_answer k)
+    pub figure_told_lem : (full : Bool) → m ≡ M.Is full → (r : PathCount) → count_value r ≡ cond full 1 (count_value n) → given (count_value r) ≡ cuttings_from b (count_answer k)
     unfolding cuttings_of map_answer
-    figure_told full e r is =
+    figure_told_lem full e r is =
         let read = map_given is_full (read_board b) full (sym judged ∙ ap all_marked_answer e) in
         ap given (is ∙ sym (ap (λ (t : Bool). cond t 1 (count_value n)) read.2))
         ∙ sym (ap (map_answer (λ (d : Board). cuttings_of d (count_value n))) read.1)

@@ -5,6 +5,7 @@
 // What is answered is a definition of specs/Cuttings.antt, and what it means is on
 // proofs/Theorems.antt.
 #![tactic(auto)]
+
 ghost use Rattle.std.specs.Prelude.{◌≡◌, cond};
 ghost use Rattle.path_count.specs.PathCounts.{count_value};
 ghost use Rattle.layers.specs.LayerCounts.{count_answer};

@@ -1,6 +1,7 @@
 // Directions by their codes: 0 to 7 are Up, Down, Left, Right, UpLeft, UpRight, DownRight,
 // DownLeft, as the Rust's enum has them. Every other code is refused.
 #![tactic(auto)]
+
 ghost use Rattle.std.specs.Prelude.{◌≡◌};
 ghost use Rattle.direction.specs.Direction.{step, opposite, rotate, reflect, on_code, offset_answer, code_answer};
 

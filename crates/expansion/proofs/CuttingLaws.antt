@@ -24,7 +24,7 @@ use Rattle.rectangle.proofs.BoardLaws.{valid_width, valid_height}
 use Rattle.choice.specs.ChosenLaws.{chosen_none}
 use Rattle.children.specs.PruneLaws.{pruned_none}
 use Rattle.fit.proofs.PieceLaws.{piece_cell, mem_pieces}
-use Rattle.covers.specs.Setting.{FitsOn, CuttingOf, SoundPruning, Setting, graphCount, cuttingAt}
+use Rattle.covers.specs.Setting.{FitsOn, CuttingOf, SoundPruning, Setting, graph_count, cutting_at}
 use Rattle.covers.specs.Counts.{Numbering}
 use Rattle.covers.proofs.Theorems.{numbering_carried, tilings_are_cuttings}
 use Rattle.covers.proofs.SequenceLaws.{free_not_full}
@@ -99,7 +99,7 @@ module _ (b : RectangularBoard) (fixed : Sound b.fixed) (laid : Sound b.laid) (t
   codes path m = ((read_tiles_storable ts (paths_in ts) (read_equal_tiles_given ts (paths_in ts) ok.tiles).0).0 path m).1
 
   pub cuttings_numbered : AllEdgeJoined (paths_in ts)
-      → Numbering (IsCutting (board_of b) (paths_in ts)) (graphCount S start) (cuttingAt S start)
+      → Numbering (IsCutting (board_of b) (paths_in ts)) (graph_count S start) (cutting_at S start)
   cuttings_numbered joined =
       let same = cutting_start (board_of b) (paths_in ts) ok.board (number_lt b.fixed fixed) (number_lt b.laid laid) in
       numbering_carried (λ X. X) (λ X u. (same X).0 u) (λ X Y u v e. e) (λ X u. (X, (same X).1 u, refl))

@@ -28,7 +28,7 @@ use Rattle.fit.specs.Parts.{most_children}
 use Rattle.children.specs.ChildLaws.{child_lt, length_children}
 use Rattle.children.specs.WriteLaws.{few_children}
 use Rattle.board.specs.BoardLaws.{with_within}
-use Rattle.covers.specs.Setting.{childBoards}
+use Rattle.covers.specs.Setting.{child_boards}
 use Rattle.expansion.specs.declared.Judged.{Judged}
 use Rattle.expansion.specs.declared.Judged.TheVariants as J
 use Rattle.expansion.specs.Boards.{From, setting_of, Accepted}
@@ -150,7 +150,7 @@ module _ (b : RectangularBoard) (ts : Tiles) (ok : Accepted b ts) (m : ℕ) (fro
   written : new ≡ words_for all (length old)
   written = x.words ∙ ap (λ (ns : List ℕ). words_for ns (length old)) placed
 
-  pub expanded_children : (r ≡ length (childBoards (setting_of b ts) m)) × (list_of (set_at new) r ≡ childBoards (setting_of b ts) m)
+  pub expanded_children : (r ≡ length (child_boards (setting_of b ts) m)) × (list_of (set_at new) r ≡ child_boards (setting_of b ts) m)
   expanded_children =
       subst (λ (ns : List ℕ). (r ≡ length ns) × (list_of (set_at new) r ≡ ns)) (sym (children_are (board_of b) (paths_in ts) m)) (
         many,

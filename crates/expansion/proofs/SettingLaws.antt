@@ -26,7 +26,7 @@ use Rattle.rectangle.proofs.BoardLaws.{marks_lt, none_full, full_none, valid_wid
 use Rattle.choice.specs.ChosenLaws.{chosen_best, chosen_none}
 use Rattle.fit.proofs.PieceLaws.{mem_pieces, once_pieces}
 use Rattle.fit.proofs.LayLaws.{piece_lt, piece_apart, marks_lay, lay_valid, piece_iff, piece_some, piece_size, lay_free, lay_count}
-use Rattle.covers.specs.Setting.{FitsOn, childBoards, Laws, EqualSteps}
+use Rattle.covers.specs.Setting.{FitsOn, child_boards, Laws, EqualSteps}
 use Rattle.graph.specs.Graph.{step_piece}
 use Rattle.rectangle.proofs.FreeLaws.{free_lt, full_marks_lem}
 use Rattle.tile.specs.PathLaws.{cell_count_pos}
@@ -35,7 +35,7 @@ use Rattle.expansion.specs.Boards.{From, cell_or, pieces_on, setting}
 -- ---- the children
 
 -- the boards of a setting's children are the board's children, of any number
-pub children_are : (b : Board) (paths : List Path) (n : ℕ) → childBoards (setting b paths) n ≡ children (board_at b n) paths
+pub children_are : (b : Board) (paths : List Path) (n : ℕ) → child_boards (setting b paths) n ≡ children (board_at b n) paths
 unfolding setting children pieces_on children_on
 children_are b paths n = go (pruned (board_at b n) paths) (chosen (board_at b n))
   where
@@ -45,7 +45,7 @@ children_are b paths n = go (pruned (board_at b n) paths) (chosen (board_at b n)
     go false (some cell) = refl
 
 -- and so they are as functions of the number
-pub same_children : (b : Board) (paths : List Path) → childBoards (setting b paths) ≡ children_at b paths
+pub same_children : (b : Board) (paths : List Path) → child_boards (setting b paths) ≡ children_at b paths
 same_children b paths = fun_ext (children_are b paths)
 
 -- a piece of the setting is a piece on the chosen cell

@@ -6,6 +6,7 @@
 // and what a cutting is, is defined in specs/Plots.antt; specs/Boards.antt is the setting by which the
 // laws of the crate `covers` speak of boards.
 #![tactic(auto)]
+
 ghost use Rattle.std.specs.Prelude.{◌≡◌, cond, ◌≤◌, eqb};
 ghost use Rattle.cells.specs.Set.{number};
 ghost use Rattle.refusal.specs.Refusal.{given, map_answer};

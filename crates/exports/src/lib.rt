@@ -12,6 +12,7 @@
 // After any refusal every lent word and byte is zero, but that with 13 the first answer word is the place
 // of the earliest broken record.
 #![tactic(auto)]
+
 ghost use Rattle.std.specs.Prelude.{length};
 ghost use Rattle.graph.specs.Graph.{layer_room};
 ghost use Rattle.host_plots.specs.Calls.{placed, orbit_for, read_file, AnswersPlot};

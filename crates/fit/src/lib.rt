@@ -1,6 +1,7 @@
 // The fit: where a path lies with one of its points on a cell. Nothing is asked of a caller: any marks,
 // numbers and codes have an answer, which is a definition of specs/Parts.antt.
 #![tactic(auto)]
+
 ghost use Rattle.std.specs.Prelude.{◌≡◌};
 ghost use Rattle.cells.specs.Set.{number};
 ghost use Rattle.fit.specs.Parts.{fit_in, fit_pieces};

@@ -3,6 +3,7 @@
 // in stored order. The Rust has Vec<RectangularBoard> and HashMap<usize, HashSet<usize>>. A node or an
 // edge whose words are not all lent reads as none, so that nothing is asked of a caller.
 #![tactic(auto)]
+
 ghost use Rattle.std.specs.Prelude.{◌≡◌, ◌/◌, min, length, set};
 ghost use Rattle.path_count.specs.PathCounts.{count_value};
 ghost use Rattle.graph.specs.Graph.{node_part, edges_in, edges_from, GetsEdges, complete_node, count_from_graph};

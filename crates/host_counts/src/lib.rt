@@ -2,6 +2,7 @@
 // tests the shapes of its slices and then hands on what the call of the lower crate answers; after a
 // refusal every lent word is zero. Nothing is asked of a caller.
 #![tactic(auto)]
+
 ghost use Rattle.std.specs.Prelude.{length};
 ghost use Rattle.graph.specs.Graph.{layer_room};
 ghost use Rattle.host_counts.specs.Calls.{counted, cuttings_counted, AnswersCount, generated, AnswersGraph};

@@ -2,6 +2,7 @@
 // children of a board. Each tests the shapes of its slices and then hands on what the call of the
 // lower crate answers; after a refusal every lent word and byte is zero. Nothing is asked of a caller.
 #![tactic(auto)]
+
 ghost use Rattle.std.specs.Prelude.{length};
 ghost use Rattle.host_plots.specs.Calls.{placed, orbit_for, read_file, AnswersPlot};
 ghost use Rattle.host_words.specs.Layout.{AnswersList};

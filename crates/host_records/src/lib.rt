@@ -2,6 +2,7 @@
 // record at a place, and the record of a plot id that counts. Each reading call tests the number of its
 // answer words and then hands on what the call of `archive` answers; nothing is asked of a caller.
 #![tactic(auto)]
+
 ghost use Rattle.std.specs.Prelude.{length};
 ghost use Rattle.archive.specs.Archive.{LeavesOutcome, write_record};
 ghost use Rattle.host_records.specs.Calls.{record_for, records_counted, record_found, current_found};

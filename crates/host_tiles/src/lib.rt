@@ -3,6 +3,7 @@
 // is not lent reads as 0, and as many bytes are written as are lent, so that nothing is asked of a
 // caller.
 #![tactic(auto)]
+
 ghost use Rattle.std.specs.Prelude.{◌≡◌, ◌+◌, ◌*◌, ◌/◌, ◌%◌, length, get_or};
 ghost use Rattle.cells.specs.Lists.{list_of};
 ghost use Rattle.host_tiles.specs.TileBytes.{tile_in, tiles_in, stored_byte, struct_bytes};

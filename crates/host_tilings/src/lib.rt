@@ -2,6 +2,7 @@
 // graph. Each tests the shapes of its slices and then hands on what the call of the lower crate
 // answers; after a refusal every lent word is zero. Nothing is asked of a caller.
 #![tactic(auto)]
+
 ghost use Rattle.std.specs.Prelude.{length};
 ghost use Rattle.host_tilings.specs.Calls.{numbered, searched, AnswersSingle};
 ghost use Rattle.host_words.specs.Layout.{AnswersList};

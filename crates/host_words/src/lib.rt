@@ -3,6 +3,7 @@
 // not lent reads as 0, and as many words are written as are lent, so that nothing is asked of a
 // caller.
 #![tactic(auto)]
+
 ghost use Rattle.std.specs.Prelude.{◌≡◌, [], ◌∷◌, length, get_or};
 ghost use Rattle.refusal.specs.Refusal.{refused, given, refusal_number, verdict_number};
 ghost use Rattle.board.specs.Board.{board_of};

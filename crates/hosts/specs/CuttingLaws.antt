@@ -35,7 +35,7 @@ use Rattle.host_counts.specs.Calls.{counted, AnswersCount, generated, AnswersGra
 use Rattle.host_tilings.specs.Calls.{tiling_shape, numbered}
 use Rattle.host_words.specs.AnswerLaws.{unless_right}
 use Rattle.hosts.specs.ReadBackLaws.{number_at, two_words, two_small, value_two, count_back}
-use Rattle.hosts.specs.HandedOnLaws.{words_given, count_given, made_in, result_read, graph_below}
+use Rattle.hosts.specs.HandedOnLaws.{words_given, count_given_lem, made_in, result_read, graph_below}
 
 -- ---- a list that is given, as the numbered call of a host and of graph's `Tilings`
 
@@ -66,39 +66,39 @@ module _ (width height : ℕ) (marks tiles : List ℕ) (small : Small marks)
     (boardsA countsA boardsB countsB answer boardsA' countsA' boardsB' countsB' answer' : List ℕ)
     (count_told : AnswersCount (counted width height marks tiles (layer_room (length boardsA) (length countsA) (length boardsB) (length countsB)) (length answer))
     boardsA countsA boardsB countsB answer boardsA' countsA' boardsB' countsB' answer' 0) where
-  abbrev boardGiven : RectangularBoard
-  boardGiven = board_in width height marks
+  abbrev board_given : RectangularBoard
+  board_given = board_in width height marks
 
-  abbrev tilesGiven : Tiles
-  tilesGiven = tiles_in tiles
+  abbrev tiles_given : Tiles
+  tiles_given = tiles_in tiles
 
-  fixed_words : Sound boardGiven.fixed
+  fixed_words : Sound board_given.fixed
   fixed_words = record { s0 = small 0; s1 = small 1; s2 = small 2; s3 = small 3 }
 
-  laid_words : Sound boardGiven.laid
+  laid_words : Sound board_given.laid
   laid_words = record { s0 = small 4; s1 = small 5; s2 = small 6; s3 = small 7 }
 
-  first : (n : ℕ) × (count_tilings boardGiven tilesGiven (layer_room (length boardsA) (length countsA) (length boardsB) (length countsB)) ≡ given n)
+  first : (n : ℕ) × (count_tilings board_given tiles_given (layer_room (length boardsA) (length countsA) (length boardsB) (length countsB)) ≡ given n)
       × (2 ≤ length answer) × (answer' ≡ padded (words_below 2 n) (length answer))
-  first = count_given width height marks tiles boardsA countsA boardsB countsB answer boardsA' countsA' boardsB' countsB' answer' count_told
+  first = count_given_lem width height marks tiles boardsA countsA boardsB countsB answer boardsA' countsA' boardsB' countsB' answer' count_told
 
   -- the number in the count's two words
-  abbrev countGiven : ℕ
-  countGiven = value (take 2 answer')
+  abbrev count_given : ℕ
+  count_given = value (take 2 answer')
 
-  told_n : count_tilings boardGiven tilesGiven (layer_room (length boardsA) (length countsA) (length boardsB) (length countsB)) ≡ given countGiven
+  told_n : count_tilings board_given tiles_given (layer_room (length boardsA) (length countsA) (length boardsB) (length countsB)) ≡ given count_given
   told_n =
       first.1
       ∙ ap given
       (sym (count_back first.0 (length answer)
-      (layers_small boardGiven fixed_words laid_words tilesGiven (layer_room (length boardsA) (length countsA) (length boardsB) (length countsB)) first.0 first.1) first.2 answer' first.3))
+      (layers_small board_given fixed_words laid_words tiles_given (layer_room (length boardsA) (length countsA) (length boardsB) (length countsB)) first.0 first.1) first.2 answer' first.3))
 
-  pub n_small : countGiven < count_limit
-  n_small = layers_small boardGiven fixed_words laid_words tilesGiven (layer_room (length boardsA) (length countsA) (length boardsB) (length countsB)) countGiven told_n
+  pub n_small : count_given < count_limit
+  n_small = layers_small board_given fixed_words laid_words tiles_given (layer_room (length boardsA) (length countsA) (length boardsB) (length countsB)) count_given told_n
 
-  pub n_cuttings : HasFreeCell (board_of boardGiven) → AllEdgeJoined (paths_in tilesGiven) → Exactly countGiven (IsCutting (board_of boardGiven) (paths_in tilesGiven))
+  pub n_cuttings : HasFreeCell (board_of board_given) → AllEdgeJoined (paths_in tiles_given) → Exactly count_given (IsCutting (board_of board_given) (paths_in tiles_given))
   n_cuttings free joined =
-      count_cuttings_lem boardGiven fixed_words laid_words tilesGiven free joined (layer_room (length boardsA) (length countsA) (length boardsB) (length countsB)) countGiven told_n
+      count_cuttings_lem board_given fixed_words laid_words tiles_given free joined (layer_room (length boardsA) (length countsA) (length boardsB) (length countsB)) count_given told_n
 
 -- ---- the three calls
 

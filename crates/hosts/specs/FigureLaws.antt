@@ -121,20 +121,20 @@ module _ (width height : ℕ) (marks tiles boardsA countsA boardsB countsB answe
     words_left = words_given (words_below 2) figure n answer answer' 0 n_told.1 told
 
     -- the number in the two words
-    abbrev figureTold : ℕ
-    figureTold = value (take 2 answer')
+    abbrev figure_told : ℕ
+    figure_told = value (take 2 answer')
 
-    is : figureTold ≡ n
+    is : figure_told ≡ n
     is = count_back n (length answer) fits two answer' words_left
 
-    pub told_figure : count_cuttings b ts room ≡ given figureTold
+    pub told_figure : count_cuttings b ts room ≡ given figure_told
     told_figure = parts.1 ∙ ap given (sym is)
 
-    pub told_cuttings : AllEdgeJoined (paths_in ts) → Exactly figureTold (IsCutting (board_of b) (paths_in ts))
-    told_cuttings joined = figure_is_cuttings b ts fixed_words laid_words joined room figureTold told_figure
+    pub told_cuttings : AllEdgeJoined (paths_in ts) → Exactly figure_told (IsCutting (board_of b) (paths_in ts))
+    told_cuttings joined = figure_is_cuttings b ts fixed_words laid_words joined room figure_told told_figure
 
-    pub told_one : is_full (board_of b) ≡ true → figureTold ≡ 1
-    told_one full = full_given b ts room figureTold full told_figure
+    pub told_one : is_full (board_of b) ≡ true → figure_told ≡ 1
+    told_one full = full_given b ts room figure_told full told_figure
 
     -- ---- its two words, as an archive record takes them
 
@@ -148,7 +148,7 @@ module _ (width height : ℕ) (marks tiles boardsA countsA boardsB countsB answe
     pub word_small : (i : ℕ) → i < 2 → get_or answer' i 0 < 2 ^ 64
     word_small i h = subst (λ (w : ℕ). w < 2 ^ 64) (sym (word_at_lem i h)) (two_small n i)
 
-    pub words_hold : value (get_or answer' 0 0 ∷ get_or answer' 1 0 ∷ []) ≡ figureTold
+    pub words_hold : value (get_or answer' 0 0 ∷ get_or answer' 1 0 ∷ []) ≡ figure_told
     words_hold =
         ap value (ap₂ (λ (x y : ℕ). x ∷ y ∷ []) (word_at_lem 0 (omega arith)) (word_at_lem 1 (omega arith)) ∙ two_of (words_below 2 n) refl)
         ∙ value_two n fits

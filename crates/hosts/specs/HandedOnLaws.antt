@@ -153,8 +153,8 @@ module _ (width height : ℕ) (marks tiles boardsA countsA boardsB countsB answe
     count_parts = unless_given (plot_shape 2 (length marks) (length tiles) (length answer)) (count_tilings (board_in width height marks) (tiles_in tiles) room) count_told_lem.0 count_told_lem.1
 
     -- the count, and its two words
-    pub count_given : (n : ℕ) × (count_tilings (board_in width height marks) (tiles_in tiles) room ≡ given n) × (2 ≤ length answer) × (answer' ≡ padded (words_below 2 n) (length answer))
-    count_given = (
+    pub count_given_lem : (n : ℕ) × (count_tilings (board_in width height marks) (tiles_in tiles) room ≡ given n) × (2 ≤ length answer) × (answer' ≡ padded (words_below 2 n) (length answer))
+    count_given_lem = (
       count_told_lem.0,
       count_parts.1,
       (plot_shape_lem 2 (length marks) (length tiles) (length answer) count_parts.0).2,

@@ -20,8 +20,8 @@ use Rattle.board.specs.declared.RectangularBoard.{RectangularBoard}
 use Rattle.rectangle.specs.Board.{Board, marks}
 use Rattle.board.specs.Board.{board_of}
 use Rattle.children.specs.Children.{full_at, free_count_at}
-use Rattle.covers.specs.Setting.{Setting, childBoards, layerOf, layerCountOf, entriesOf, nodesOf, pathCountOf, graphCount, cuttingAt}
-use Rattle.covers.specs.Counts.{Exactly, Entry, counts, layer, layers, layerCount, fullNode, at_node}
+use Rattle.covers.specs.Setting.{Setting, child_boards, layer_of, layer_count_of, entries_of, nodes_of, path_count_of, graph_count, cutting_at}
+use Rattle.covers.specs.Counts.{Exactly, Entry, counts, layer, layers, layer_count, full_node, at_node}
 use Rattle.covers.proofs.Theorems.{counts_are_equal}
 use Rattle.path_count.specs.PathCounts.{count_limit}
 use Rattle.graph.specs.Graph.{layer_room}
@@ -42,21 +42,21 @@ use Rattle.layers.specs.Inner.{layers_answer}
 pub layers_setting : (b : Board) (paths : List Path) (room : ℕ) → layer_count_for b paths room ≡ layers_answer (setting b paths) (marks b) room
 unfolding layer_count_for layers_answer setting
 layers_setting b paths room =
-    ap (λ (ch : ℕ → List ℕ). map_answer (λ es. layerCount eqb ch (full_at b) (marks b) (free_count_at b (marks b))) (judge_layers (layer eqb ch (marks b)) room (free_count_at b (marks b))))
+    ap (λ (ch : ℕ → List ℕ). map_answer (λ es. layer_count eqb ch (full_at b) (marks b) (free_count_at b (marks b))) (judge_layers (layer eqb ch (marks b)) room (free_count_at b (marks b))))
     (sym (same_children b paths))
 
 -- the layer count that is given is the definition's
-pub counted_layers : (b : RectangularBoard) (ts : Tiles) (room n : ℕ) → layers_answer (setting_of b ts) (start_of b) room ≡ given n → layerCountOf (setting_of b ts) (start_of b) ≡ n
+pub counted_layers : (b : RectangularBoard) (ts : Tiles) (room n : ℕ) → layers_answer (setting_of b ts) (start_of b) room ≡ given n → layer_count_of (setting_of b ts) (start_of b) ≡ n
 unfolding layers_answer map_answer
-counted_layers b ts room n e = go (judge_layers (layerOf (setting_of b ts) (start_of b)) room ((setting_of b ts).free_count (start_of b))) e
+counted_layers b ts room n e = go (judge_layers (layer_of (setting_of b ts) (start_of b)) room ((setting_of b ts).free_count (start_of b))) e
   where
-    go : {A : Type 0} (a : Answer A) → map_answer (λ es. layerCountOf (setting_of b ts) (start_of b)) a ≡ given n → layerCountOf (setting_of b ts) (start_of b) ≡ n
+    go : {A : Type 0} (a : Answer A) → map_answer (λ es. layer_count_of (setting_of b ts) (start_of b)) a ≡ given n → layer_count_of (setting_of b ts) (start_of b) ≡ n
     go (refused k) h = absurd (refused_given k n h)
     go (given es) h = given_inj _ n h
 
 module _ (b : RectangularBoard) (fixed : Sound b.fixed) (laid : Sound b.laid) (ts : Tiles) where
   -- a layer count that is given is the graph count of the definition
-  pub layers_count : (room n : ℕ) → count_tilings b ts room ≡ given n → Accepted b ts × (n ≡ graphCount (setting_of b ts) (start_of b))
+  pub layers_count : (room n : ℕ) → count_tilings b ts room ≡ given n → Accepted b ts × (n ≡ graph_count (setting_of b ts) (start_of b))
   unfolding count_tilings
   layers_count room n told =
       let r = from_read b ts _ n told in (
@@ -69,7 +69,7 @@ module _ (b : RectangularBoard) (fixed : Sound b.fixed) (laid : Sound b.laid) (t
   pub count_cuttings_lem : HasFreeCell (board_of b) → AllEdgeJoined (paths_in ts) → (room n : ℕ) → count_tilings b ts room ≡ given n → Exactly n (IsCutting (board_of b) (paths_in ts))
   count_cuttings_lem free joined room n told =
       let r = layers_count room n told in
-      subst (λ (k : ℕ). Exactly k (IsCutting (board_of b) (paths_in ts))) (sym r.1) (cuttingAt (setting_of b ts) (start_of b), cuttings_numbered b fixed laid ts r.0 free joined)
+      subst (λ (k : ℕ). Exactly k (IsCutting (board_of b) (paths_in ts))) (sym r.1) (cutting_at (setting_of b ts) (start_of b), cuttings_numbered b fixed laid ts r.0 free joined)
 
   -- the same of the call
   pub counts_cuttings : (boardsA countsA boardsB countsB boardsA' countsA' boardsB' countsB' : List ℕ) (count : Count)
@@ -101,14 +101,14 @@ judge_layer_small room es ds h e m = go (leb (length es) room) (too_large (count
     go false t q k = absurd (refused_given 8 ds k)
 
 -- the counts of the layers that are judged
-judge_layers_small : (S : Setting ℕ ℕ) (s room n : ℕ) (es : List (Entry ℕ)) → judge_layers (layerOf S s) room n ≡ given es
-    → (e : Entry ℕ) → Mem e (layers S.same_board (childBoards S) s n) → e.1 < count_limit
+judge_layers_small : (S : Setting ℕ ℕ) (s room n : ℕ) (es : List (Entry ℕ)) → judge_layers (layer_of S s) room n ≡ given es
+    → (e : Entry ℕ) → Mem e (layers S.same_board (child_boards S) s n) → e.1 < count_limit
 unfolding judge_layers layers
-judge_layers_small S s room zero es h e m = judge_layer_small room (layerOf S s zero) es h e m
+judge_layers_small S s room zero es h e m = judge_layer_small room (layer_of S s zero) es h e m
 judge_layers_small S s room (suc n) es h e m =
-    let r = bind_given (judge_layers (layerOf S s) room n) (λ ds. judge_layer room (layerOf S s (suc n))) es h in
-    ⊎_elim (λ k. judge_layers_small S s room n r.0 r.1 e k) (λ k. judge_layer_small room (layerOf S s (suc n)) es r.2 e k)
-    (append_cases (layers S.same_board (childBoards S) s n) m)
+    let r = bind_given (judge_layers (layer_of S s) room n) (λ ds. judge_layer room (layer_of S s (suc n))) es h in
+    ⊎_elim (λ k. judge_layers_small S s room n r.0 r.1 e k) (λ k. judge_layer_small room (layer_of S s (suc n)) es r.2 e k)
+    (append_cases (layers S.same_board (child_boards S) s n) m)
 
 entry_small : (es : List (Entry ℕ)) → ((e : Entry ℕ) → Mem e es → e.1 < count_limit) → (v : ℕ) → get_or (counts es) v 0 < count_limit
 entry_small es small =
@@ -116,16 +116,16 @@ entry_small es small =
     (λ n m. let r = of_map (λ (e : Entry ℕ). e.1) es m in subst (λ (x : ℕ). x < count_limit) r.2 (small r.0 r.1))
 
 -- where the layers have room and their counts fit, so does the count of the definition
-given_small : (S : Setting ℕ ℕ) (s room n : ℕ) → layers_answer S s room ≡ given n → graphCount S s < count_limit
-unfolding layers_answer graphCount at_node
-given_small S s room n e = go (fullNode S.full (nodesOf S s))
+given_small : (S : Setting ℕ ℕ) (s room n : ℕ) → layers_answer S s room ≡ given n → graph_count S s < count_limit
+unfolding layers_answer graph_count at_node
+given_small S s room n e = go (full_node S.full (nodes_of S s))
   where
-    judged : (es : List (Entry ℕ)) × (judge_layers (layerOf S s) room (S.free_count s) ≡ given es)
-    judged = let r = map_given (λ es. layerCountOf S s) (judge_layers (layerOf S s) room (S.free_count s)) n e in (r.0, r.1)
+    judged : (es : List (Entry ℕ)) × (judge_layers (layer_of S s) room (S.free_count s) ≡ given es)
+    judged = let r = map_given (λ es. layer_count_of S s) (judge_layers (layer_of S s) room (S.free_count s)) n e in (r.0, r.1)
 
-    go : (o : Option ℕ) → at_node (pathCountOf S s) o < count_limit
+    go : (o : Option ℕ) → at_node (path_count_of S s) o < count_limit
     go none = lit< tt
-    go (some v) = entry_small (entriesOf S s) (judge_layers_small S s room (S.free_count s) judged.0 judged.1) v
+    go (some v) = entry_small (entries_of S s) (judge_layers_small S s room (S.free_count s) judged.0 judged.1) v
 
 pub layers_small : (b : RectangularBoard) → Sound b.fixed → Sound b.laid → (ts : Tiles) (room n : ℕ) → count_tilings b ts room ≡ given n → n < count_limit
 unfolding count_tilings

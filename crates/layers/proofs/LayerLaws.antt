@@ -18,9 +18,9 @@ use Rattle.cells.specs.ListLaws.{set_at_same, set_at_other}
 use Rattle.refusal.specs.Refusal.{refused, given}
 use Rattle.tile.specs.Path.{Path}
 use Rattle.rectangle.specs.Board.{Board}
-use Rattle.covers.specs.Setting.{childBoards}
+use Rattle.covers.specs.Setting.{child_boards}
 use Rattle.covers.specs.Counts.{Entry, boards, counts, number_in}
-use Rattle.covers.specs.Inner.{addPaths}
+use Rattle.covers.specs.Inner.{add_paths}
 use Rattle.covers.proofs.GatherLaws.{boards_add_paths}
 use Rattle.covers.proofs.NodeLaws.{number_lt}
 use Rattle.cells.specs.declared.list.Found.{Found}
@@ -124,8 +124,8 @@ module _ (room : ℕ) (bs cs : List ℕ) (es : List (Entry ℕ)) where
 
 module _ (room : ℕ) (bs cs : List ℕ) (layer : Layer) (es : List (Entry ℕ)) (held : HoldsLayer room bs cs layer es) (c k : ℕ) where
   -- room was gone before
-  pub add_no_room : layer ≡ L.NoRoom → HoldsLayer room bs cs L.NoRoom (addPaths eqb c k es)
-  add_no_room e = held_past room bs cs (addPaths eqb c k es) (omega (arith, state_no_room room es (sym e ∙ held.state), length_add_paths c k es))
+  pub add_no_room : layer ≡ L.NoRoom → HoldsLayer room bs cs L.NoRoom (add_paths eqb c k es)
+  add_no_room e = held_past room bs cs (add_paths eqb c k es) (omega (arith, state_no_room room es (sym e ∙ held.state), length_add_paths c k es))
 
   module _ (n : ℕ) (over : Bool) (e : layer ≡ L.Boards n over) (lent : 4 * room ≤ length bs) (found : Found) (f : found_answer found ≡ find_set bs 0 n c) where
     told : (length es ≤ room) × (n ≡ length es) × (over ≡ too_large (counts es))
@@ -148,8 +148,8 @@ module _ (room : ℕ) (bs cs : List ℕ) (layer : Layer) (es : List (Entry ℕ))
           go false q = refl
 
       -- there is no room for it
-      pub add_past : room ≤ n → HoldsLayer room bs cs L.NoRoom (addPaths eqb c k es)
-      add_past h = held_past room bs cs (addPaths eqb c k es) (omega (arith, told.1, length_new c k es not_held))
+      pub add_past : room ≤ n → HoldsLayer room bs cs L.NoRoom (add_paths eqb c k es)
+      add_past h = held_past room bs cs (add_paths eqb c k es) (omega (arith, told.1, length_new c k es not_held))
 
       -- it is stored behind the others
       module _ (h : n < room) (bs' : List ℕ) (g : bs' ≡ with_set bs n c) where
@@ -187,8 +187,8 @@ module _ (room : ℕ) (bs cs : List ℕ) (layer : Layer) (es : List (Entry ℕ))
           more : (length (es ++ (c, k) ∷ []) ≤ room) × (n + 1 ≡ length (es ++ (c, k) ∷ []))
           more = (omega (arith, told.1, long), omega (arith, told.1, long))
 
-          pub add_new : room ≤ count_room (length cs) → c < 2 ^ 256 → k < count_limit → HoldsLayer room bs' cs' (L.Boards (n + 1) over) (addPaths eqb c k es)
-          add_new r hc hk =
+          pub add_new_lem : room ≤ count_room (length cs) → c < 2 ^ 256 → k < count_limit → HoldsLayer room bs' cs' (L.Boards (n + 1) over) (add_paths eqb c k es)
+          add_new_lem r hc hk =
               rw (add_paths_new c k es not_held)
               record {
                 state = state_within room (es ++ (c, k) ∷ []) (n + 1) over more.0 more.1 (told.2 ∙ sym (large hk));
@@ -215,30 +215,30 @@ module _ (room : ℕ) (bs cs : List ℕ) (layer : Layer) (es : List (Entry ℕ))
             length-map es (λ (x : Entry ℕ). x.1),
           )
 
-      raised : counts (addPaths eqb c k es) ≡ set (counts es) i (get_or (counts es) i 0 + k)
+      raised : counts (add_paths eqb c k es) ≡ set (counts es) i (get_or (counts es) i 0 + k)
       raised = counts_old c k es is_held.0 ∙ ap (λ (j : ℕ). set (counts es) j (get_or (counts es) j 0 + k)) (sym is_held.1)
 
-      grows : too_large (counts (addPaths eqb c k es)) ≡ (over || leb count_limit (get_or (counts es) i 0 + k))
+      grows : too_large (counts (add_paths eqb c k es)) ≡ (over || leb count_limit (get_or (counts es) i 0 + k))
       grows =
           ap too_large raised
           ∙ too_large_set (counts es) i (get_or (counts es) i 0 + k) at_place (omega arith)
           ∙ ap (λ (t : Bool). t || leb count_limit (get_or (counts es) i 0 + k)) (sym told.2)
 
-      as_long : (length (addPaths eqb c k es) ≤ room) × (n ≡ length (addPaths eqb c k es))
+      as_long : (length (add_paths eqb c k es) ≤ room) × (n ≡ length (add_paths eqb c k es))
       as_long = (omega (arith, told.0, length_old c k es is_held.0), omega (arith, told.1, length_old c k es is_held.0))
 
-      kept : list_of (set_at bs) (length (addPaths eqb c k es)) ≡ boards (addPaths eqb c k es)
+      kept : list_of (set_at bs) (length (add_paths eqb c k es)) ≡ boards (add_paths eqb c k es)
       kept =
           ap (list_of (set_at bs)) (length_old c k es is_held.0)
           ∙ held.boards told.0
           ∙ sym (boards_add_paths eqb c k es ∙ add_new_old eqb (boards es) c is_held.0)
 
       -- a count was too large before
-      pub add_large : (cs' : List ℕ) → over ≡ true → HoldsLayer room bs cs' (L.Boards n over) (addPaths eqb c k es)
+      pub add_large : (cs' : List ℕ) → over ≡ true → HoldsLayer room bs cs' (L.Boards n over) (add_paths eqb c k es)
       add_large cs' q =
-          let large : too_large (counts (addPaths eqb c k es)) ≡ true = grows ∙ ap (λ (t : Bool). t || leb count_limit (get_or (counts es) i 0 + k)) q in
+          let large : too_large (counts (add_paths eqb c k es)) ≡ true = grows ∙ ap (λ (t : Bool). t || leb count_limit (get_or (counts es) i 0 + k)) q in
           record {
-            state = state_within room (addPaths eqb c k es) n over as_long.0 as_long.1 (q ∙ sym large);
+            state = state_within room (add_paths eqb c k es) n over as_long.0 as_long.1 (q ∙ sym large);
             boards = λ l. kept;
             counts = λ l z. absurd (false≢true (sym z ∙ large));
           }
@@ -254,14 +254,14 @@ module _ (room : ℕ) (bs cs : List ℕ) (layer : Layer) (es : List (Entry ℕ))
         count_at : count_in cs i ≡ get_or (counts es) i 0
         count_at = sym (get_d_list_of (count_in cs) (length es) i 0 in_layer) ∙ ap (λ (ns : List ℕ). get_or ns i 0) are
 
-        now_large : too_large (counts (addPaths eqb c k es)) ≡ r
+        now_large : too_large (counts (add_paths eqb c k es)) ≡ r
         now_large =
             grows
             ∙ ap (λ (t : Bool). t || leb count_limit (get_or (counts es) i 0 + k)) fine
             ∙ ap (λ (m : ℕ). leb count_limit (m + k)) (sym count_at)
             ∙ sym adds.large
 
-        raised_all : r ≡ false → list_of (count_in cs') (length (addPaths eqb c k es)) ≡ counts (addPaths eqb c k es)
+        raised_all : r ≡ false → list_of (count_in cs') (length (add_paths eqb c k es)) ≡ counts (add_paths eqb c k es)
         raised_all q =
             let done = adds_done cs i k cs' r adds q in
             ap₂ (λ (ws : List ℕ) (m : ℕ). list_of (count_in ws) m) done.1 (length_old c k es is_held.0)
@@ -269,10 +269,10 @@ module _ (room : ℕ) (bs cs : List ℕ) (layer : Layer) (es : List (Entry ℕ))
             ∙ ap₂ (λ (ns : List ℕ) (m : ℕ). set ns i (m + k)) are count_at
             ∙ sym raised
 
-        pub add_old : HoldsLayer room bs cs' (L.Boards n r) (addPaths eqb c k es)
+        pub add_old : HoldsLayer room bs cs' (L.Boards n r) (add_paths eqb c k es)
         add_old =
             record {
-              state = state_within room (addPaths eqb c k es) n r as_long.0 as_long.1 (sym now_large);
+              state = state_within room (add_paths eqb c k es) n r as_long.0 as_long.1 (sym now_large);
               boards = λ l. kept;
               counts = λ l z. raised_all (sym now_large ∙ z);
             }
@@ -283,10 +283,10 @@ module _ (room : ℕ) (bs cs : List ℕ) (layer : Layer) (f : ℕ → ℕ) (k : 
   pub each_none : HoldsLayer room bs cs layer es → HoldsLayer room bs cs layer (add_each (list_of f 0) k es)
   each_none h = subst (HoldsLayer room bs cs layer) (sym (add_each_none f k es)) h
 
-  pub each_more : (i c : ℕ) → c ≡ f i → HoldsLayer room bs cs layer (addPaths eqb c k (add_each (list_of f i) k es))
+  pub each_more : (i c : ℕ) → c ≡ f i → HoldsLayer room bs cs layer (add_paths eqb c k (add_each (list_of f i) k es))
       → HoldsLayer room bs cs layer (add_each (list_of f (i + 1)) k es)
   each_more i c e h =
-      subst (HoldsLayer room bs cs layer) (ap (λ (b : ℕ). addPaths eqb b k (add_each (list_of f i) k es)) e ∙ add_each_more f i k es) h
+      subst (HoldsLayer room bs cs layer) (ap (λ (b : ℕ). add_paths eqb b k (add_each (list_of f i) k es)) e ∙ add_each_more f i k es) h
 
   pub each_all : (i n : ℕ) → i ≤ n → n ≤ i → HoldsLayer room bs cs layer (add_each (list_of f i) k es)
       → HoldsLayer room bs cs layer (add_each (list_of f n) k es)
@@ -302,7 +302,7 @@ module _ (room : ℕ) (nextBoards nextCounts : List ℕ) (layer : Layer) where
 
   module _ (b : Board) (paths : List Path) (bs cs : List ℕ) where
     pub grown_more : (i : ℕ)
-        → HoldsLayer room nextBoards nextCounts layer (add_each (childBoards (setting b paths) (set_at bs i)) (count_in cs i) (next_of (setting b paths) (entries_in bs cs i)))
+        → HoldsLayer room nextBoards nextCounts layer (add_each (child_boards (setting b paths) (set_at bs i)) (count_in cs i) (next_of (setting b paths) (entries_in bs cs i)))
         → HoldsLayer room nextBoards nextCounts layer (next_of (setting b paths) (entries_in bs cs (i + 1)))
     grown_more i h = subst (HoldsLayer room nextBoards nextCounts layer) (next_more b paths bs cs i) h
 

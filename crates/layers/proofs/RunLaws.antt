@@ -12,12 +12,12 @@ use mathlib.Core.List.{List, [], ◌∷◌, flat_map, Memᴰ as Mem}
 use Prim.Native.Nat.{ℕ, zero, suc, ◌+◌, ◌-◌, ◌<◌}
 use native.Mathlib.Omega.{arith}
 use Rattle.cells.specs.FirstsLaws.{Once}
-use Rattle.cells.specs.Lists.{any, addFirsts, firsts}
+use Rattle.cells.specs.Lists.{any, add_firsts, firsts}
 use Rattle.cells.specs.MemberLaws.{no_member, mem_flat_map}
 use Rattle.refusal.specs.Refusal.{Answer, refused, given, map_answer, bind_answer}
 use Rattle.refusal.specs.RefusalLaws.{refused_given}
-use Rattle.covers.specs.Setting.{Setting, childBoards, Laws, EqualSteps, layerOf, layerCountTo, layerCountOf}
-use Rattle.covers.specs.Counts.{Entry, boards, counts, sum_of, shares, gather, layer, fullCount, layerCount}
+use Rattle.covers.specs.Setting.{Setting, child_boards, Laws, EqualSteps, layer_of, layer_count_to, layer_count_of}
+use Rattle.covers.specs.Counts.{Entry, boards, counts, sum_of, shares, gather, layer, full_count, layer_count}
 use Rattle.covers.proofs.SumLaws.{sum_zero}
 use Rattle.covers.proofs.GatherLaws.{mem_boards, once_gather, mem_gather}
 use Rattle.covers.proofs.LayerLaws.{boards_shares}
@@ -70,12 +70,12 @@ judge_layer_no_room s = refl
 
 module _ (S : Setting ℕ ℕ) where
   next_of_none : next_of S [] ≡ []
-  unfolding next_of gather shares flat_map firsts addFirsts
+  unfolding next_of gather shares flat_map firsts add_firsts
   next_of_none = refl
 
   -- no board, no count
   count_none : (room k : ℕ) → count_from S room k [] ≡ given 0
-  unfolding count_from fullCount sum_of map_answer bind_answer
+  unfolding count_from full_count sum_of map_answer bind_answer
   count_none room zero = refl
   count_none room (suc k) =
       ap (λ (es : List (Entry ℕ)). map_answer (λ n. 0 + n) (bind_answer (judge_layer room es) (count_from S room k))) next_of_none
@@ -91,15 +91,15 @@ module _ (S : Setting ℕ ℕ) where
     }
 
     -- a board of the next layer is a child
-    mem_next : (es : List (Entry ℕ)) (t : ℕ) → Mem t (boards (next_of S es)) → (n : ℕ) × Mem n (boards es) × Mem t (childBoards S n)
+    mem_next : (es : List (Entry ℕ)) (t : ℕ) → Mem t (boards (next_of S es)) → (n : ℕ) × Mem n (boards es) × Mem t (child_boards S n)
     unfolding next_of
     mem_next es t m =
-        (mem_flat_map (childBoards S) (boards es) t).0
-        (subst (Mem t) (boards_shares (childBoards S) es) ((mem_gather S.same_board L.board_eq (shares (childBoards S) es) t).0 m))
+        (mem_flat_map (child_boards S) (boards es) t).0
+        (subst (Mem t) (boards_shares (child_boards S) es) ((mem_gather S.same_board L.board_eq (shares (child_boards S) es) t).0 m))
 
     once_next : (es : List (Entry ℕ)) → Once (boards (next_of S es))
     unfolding next_of
-    once_next es = once_gather S.same_board L.board_eq (shares (childBoards S) es)
+    once_next es = once_gather S.same_board L.board_eq (shares (child_boards S) es)
 
     module _ (a : ℕ) (E : EqualSteps S a) (left : ℕ) (es : List (Entry ℕ)) (R : Ready S left es) where
       -- a board of the next layer has a free cells fewer
@@ -128,8 +128,8 @@ module _ (S : Setting ℕ ℕ) where
       full_some n h = fullIs n ∙ ne_eqb (S.free_count n) 0 (λ e. omega arith)
 
       -- a last layer has one board at most
-      last_full : (es : List (Entry ℕ)) → Ready S 0 es → fullCount S.full es ≡ get_or (counts es) 0 0
-      unfolding fullCount sum_of
+      last_full : (es : List (Entry ℕ)) → Ready S 0 es → full_count S.full es ≡ get_or (counts es) 0 0
+      unfolding full_count sum_of
       last_full [] R = refl
       last_full (e ∷ []) R = omega (arith, ap (λ (b : Bool). cond b e.1 0) (full_none e.0 (R.free e.0 (here refl))))
       last_full (e ∷ d ∷ es) R =
@@ -139,8 +139,8 @@ module _ (S : Setting ℕ ℕ) where
           (L.full_one e.0 d.0 (R.ok e.0 (here refl)) (R.ok d.0 (there (here refl)))
           (full_none e.0 (R.free e.0 (here refl))) (full_none d.0 (R.free d.0 (there (here refl)))))))
 
-      not_full : (left : ℕ) (es : List (Entry ℕ)) → Ready S left es → 0 < left → fullCount S.full es ≡ 0
-      unfolding fullCount
+      not_full : (left : ℕ) (es : List (Entry ℕ)) → Ready S left es → 0 < left → full_count S.full es ≡ 0
+      unfolding full_count
       not_full left es R h = sum_zero (λ e. cond (S.full e.0) e.1 0) es
           (λ e m.
           let f = R.free e.0 (mem_boards es e m) in
@@ -157,14 +157,14 @@ module _ (S : Setting ℕ ℕ) where
 
       module _ (a : ℕ) (E : EqualSteps S a) where
         -- nothing follows
-        none_follows : (room k : ℕ) (es : List (Entry ℕ)) → next_of S es ≡ [] → count_from S room k es ≡ given (fullCount S.full es)
+        none_follows : (room k : ℕ) (es : List (Entry ℕ)) → next_of S es ≡ [] → count_from S room k es ≡ given (full_count S.full es)
         unfolding count_from map_answer bind_answer
         none_follows room zero es e = refl
         none_follows room (suc k) es e =
-            ap (λ (x : Answer (List (Entry ℕ))). map_answer (λ n. fullCount S.full es + n) (bind_answer x (count_from S room k)))
+            ap (λ (x : Answer (List (Entry ℕ))). map_answer (λ n. full_count S.full es + n) (bind_answer x (count_from S room k)))
             (ap (judge_layer room) e ∙ judge_layer_none room)
-            ∙ ap (map_answer (λ n. fullCount S.full es + n)) (count_none room k)
-            ∙ ap given (add-zero (fullCount S.full es))
+            ∙ ap (map_answer (λ n. full_count S.full es + n)) (count_none room k)
+            ∙ ap given (add-zero (full_count S.full es))
 
         pub count_last : (room k : ℕ) (es : List (Entry ℕ)) → Ready S 0 es → 0 < a → count_from S room k es ≡ given (get_or (counts es) 0 0)
         count_last room k es R h = none_follows room k es (next_none a E 0 es R h) ∙ ap given (last_full es R)
@@ -176,41 +176,41 @@ module _ (S : Setting ℕ ℕ) where
 
 module _ (S : Setting ℕ ℕ) (s room : ℕ) where
   abbrev W : ℕ → Answer (List (Entry ℕ))
-  W n = judge_layers (layerOf S s) room n
+  W n = judge_layers (layer_of S s) room n
 
   -- the layers 0 to j and then what is answered from layer j on; b is the count of the layers before j
-  from_layer_lem : (k j b : ℕ) → layerCountTo S s j ≡ b + fullCount S.full (layerOf S s j)
-      → map_answer (λ es. layerCountTo S s (j + k)) (W (j + k)) ≡ bind_answer (W j) (λ es. map_answer (λ n. b + n) (count_from S room k (layerOf S s j)))
-  unfolding count_from map_answer bind_answer layerCount judge_layers next_of layer
+  from_layer_lem : (k j b : ℕ) → layer_count_to S s j ≡ b + full_count S.full (layer_of S s j)
+      → map_answer (λ es. layer_count_to S s (j + k)) (W (j + k)) ≡ bind_answer (W j) (λ es. map_answer (λ n. b + n) (count_from S room k (layer_of S s j)))
+  unfolding count_from map_answer bind_answer layer_count judge_layers next_of layer
   from_layer_lem zero j b e =
-      ap (λ (i : ℕ). map_answer (λ es. layerCountTo S s i) (W i)) (add-zero j) ∙ go (W j)
+      ap (λ (i : ℕ). map_answer (λ es. layer_count_to S s i) (W i)) (add-zero j) ∙ go (W j)
     where
       go : (w : Answer (List (Entry ℕ)))
-          → map_answer (λ es. layerCountTo S s j) w ≡ bind_answer w (λ es. given (b + fullCount S.full (layerOf S s j)))
+          → map_answer (λ es. layer_count_to S s j) w ≡ bind_answer w (λ es. given (b + full_count S.full (layer_of S s j)))
       go (refused n) = refl
       go (given ds) = ap given e
   from_layer_lem (suc k) j b e =
       let q : j + suc k ≡ suc j + k = omega arith in
-      ap (λ (i : ℕ). map_answer (λ es. layerCountTo S s i) (W i)) q
-      ∙ from_layer_lem k (suc j) (layerCountTo S s j) refl
-      ∙ go (W j) (judge_layer room (layerOf S s (suc j))) refl
+      ap (λ (i : ℕ). map_answer (λ es. layer_count_to S s i) (W i)) q
+      ∙ from_layer_lem k (suc j) (layer_count_to S s j) refl
+      ∙ go (W j) (judge_layer room (layer_of S s (suc j))) refl
     where
-      go : (w u : Answer (List (Entry ℕ))) → judge_layer room (layerOf S s (suc j)) ≡ u
-          → bind_answer (bind_answer w (λ es. u)) (λ es. map_answer (λ n. layerCountTo S s j + n) (count_from S room k (layerOf S s (suc j))))
-          ≡ bind_answer w (λ es. map_answer (λ n. b + n) (map_answer (λ n. fullCount S.full (layerOf S s j) + n) (bind_answer u (count_from S room k))))
+      go : (w u : Answer (List (Entry ℕ))) → judge_layer room (layer_of S s (suc j)) ≡ u
+          → bind_answer (bind_answer w (λ es. u)) (λ es. map_answer (λ n. layer_count_to S s j + n) (count_from S room k (layer_of S s (suc j))))
+          ≡ bind_answer w (λ es. map_answer (λ n. b + n) (map_answer (λ n. full_count S.full (layer_of S s j) + n) (bind_answer u (count_from S room k))))
       go (refused n) u q = refl
       go (given ds) (refused n) q = refl
       go (given ds) (given es) q =
-          map_plus b (fullCount S.full (layerOf S s j)) (layerCountTo S s j) (count_from S room k (layerOf S s (suc j))) e
-          ∙ ap (λ (x : List (Entry ℕ)). map_answer (λ n. b + n) (map_answer (λ n. fullCount S.full (layerOf S s j) + n) (count_from S room k x)))
-          (judge_layer_given room (layerOf S s (suc j)) es q)
+          map_plus b (full_count S.full (layer_of S s j)) (layer_count_to S s j) (count_from S room k (layer_of S s (suc j))) e
+          ∙ ap (λ (x : List (Entry ℕ)). map_answer (λ n. b + n) (map_answer (λ n. full_count S.full (layer_of S s j) + n) (count_from S room k x)))
+          (judge_layer_given room (layer_of S s (suc j)) es q)
 
   -- of a start that is not full, and room for it
   pub layers_from : S.full s ≡ false → 0 < room → layers_answer S s room ≡ count_from S room (S.free_count s) ((s, 1) ∷ [])
-  unfolding layers_answer layerCount judge_layers layer fullCount sum_of bind_answer
+  unfolding layers_answer layer_count judge_layers layer full_count sum_of bind_answer
   layers_from f h =
-      let none : 0 ≡ 0 + fullCount S.full ((s, 1) ∷ []) = omega (arith, ap {B = ℕ} (λ (b : Bool). cond b 1 0) f) in
-      ap (λ (i : ℕ). map_answer (λ es. layerCountTo S s i) (W i)) (sym (zero-add (S.free_count s)))
+      let none : 0 ≡ 0 + full_count S.full ((s, 1) ∷ []) = omega (arith, ap {B = ℕ} (λ (b : Bool). cond b 1 0) f) in
+      ap (λ (i : ℕ). map_answer (λ es. layer_count_to S s i) (W i)) (sym (zero-add (S.free_count s)))
       ∙ from_layer_lem (S.free_count s) 0 0 none
       ∙ ap (λ (x : Answer (List (Entry ℕ))). bind_answer x (λ es. map_answer (λ n. 0 + n) (count_from S room (S.free_count s) ((s, 1) ∷ []))))
       (judge_layer_start room s h)
@@ -218,16 +218,16 @@ module _ (S : Setting ℕ ℕ) (s room : ℕ) where
 
   -- of a full start, and room for it
   pub layers_full : S.free_count s ≡ 0 → 0 < room → layers_answer S s room ≡ given 0
-  unfolding layers_answer layerCount judge_layers layer map_answer
+  unfolding layers_answer layer_count judge_layers layer map_answer
   layers_full z h =
-      ap (λ (i : ℕ). map_answer (λ es. layerCountTo S s i) (W i)) z ∙ ap (map_answer (λ (es : List (Entry ℕ)). 0)) (judge_layer_start room s h)
+      ap (λ (i : ℕ). map_answer (λ es. layer_count_to S s i) (W i)) z ∙ ap (map_answer (λ (es : List (Entry ℕ)). 0)) (judge_layer_start room s h)
 
 -- no room
-no_room : (S : Setting ℕ ℕ) (s n : ℕ) → judge_layers (layerOf S s) 0 n ≡ refused 8
+no_room : (S : Setting ℕ ℕ) (s n : ℕ) → judge_layers (layer_of S s) 0 n ≡ refused 8
 unfolding judge_layers layer bind_answer
 no_room S s zero = judge_layer_no_room s
-no_room S s (suc n) = ap (λ (x : Answer (List (Entry ℕ))). bind_answer x (λ es. judge_layer 0 (layerOf S s (suc n)))) (no_room S s n)
+no_room S s (suc n) = ap (λ (x : Answer (List (Entry ℕ))). bind_answer x (λ es. judge_layer 0 (layer_of S s (suc n)))) (no_room S s n)
 
 pub layers_no_room : (S : Setting ℕ ℕ) (s : ℕ) → layers_answer S s 0 ≡ refused 8
 unfolding layers_answer map_answer
-layers_no_room S s = ap (map_answer (λ (es : List (Entry ℕ)). layerCountOf S s)) (no_room S s (S.free_count s))
+layers_no_room S s = ap (map_answer (λ (es : List (Entry ℕ)). layer_count_of S s)) (no_room S s (S.free_count s))

@@ -105,10 +105,10 @@ module _ (b : RectangularBoard) (ts : Tiles) (A : Accepted b ts) (fixed_lt : num
 -- ---- the ways out of `counted`
 
 module _ (b : RectangularBoard) (ts : Tiles) (room : ℕ) where
-  pub count_given : (x : Answer ℕ) → accept_plot b ts ≡ given (board_of b, paths_in ts) → x ≡ layers_answer (setting_of b ts) (start_of b) room
+  pub count_given_lem : (x : Answer ℕ) → accept_plot b ts ≡ given (board_of b, paths_in ts) → x ≡ layers_answer (setting_of b ts) (start_of b) room
       → x ≡ count_tilings b ts room
   unfolding count_tilings bind_answer
-  count_given x r e =
+  count_given_lem x r e =
       e ∙ sym (layers_setting (board_of b) (paths_in ts) room) ∙ ap (λ (a : Answer (Board × List Path)). bind_answer a (λ p. layer_count_for p.0 p.1 room)) (sym r)
 
   pub count_refused : (n : ℕ) → accept_plot b ts ≡ refused n → refused n ≡ count_tilings b ts room

@@ -14,9 +14,9 @@ use Rattle.cells.specs.ArrayLaws.{list_of_snoc}
 use Rattle.cells.specs.MemberLaws.{eqb_tells, flat_map_snoc}
 use Rattle.tile.specs.Path.{Path}
 use Rattle.rectangle.specs.Board.{Board}
-use Rattle.covers.specs.Setting.{childBoards}
+use Rattle.covers.specs.Setting.{child_boards}
 use Rattle.covers.specs.Counts.{Entry, boards, counts, shares, gather, number_in}
-use Rattle.covers.specs.Inner.{addPaths}
+use Rattle.covers.specs.Inner.{add_paths}
 use Rattle.covers.proofs.GatherLaws.{gather_snoc}
 use Rattle.path_count.specs.PathCounts.{count_limit, count_in}
 use Rattle.expansion.specs.Boards.{setting}
@@ -53,20 +53,20 @@ too_large_set (n ∷ ns) (suc i) m h l = rw (too_large_set ns i m (omega arith) 
 
 module _ (c k : ℕ) where
   -- a new board stands last
-  pub add_paths_new : (es : List (Entry ℕ)) → holds eqb (boards es) c ≡ false → addPaths eqb c k es ≡ es ++ (c, k) ∷ []
-  unfolding addPaths holds any
+  pub add_paths_new : (es : List (Entry ℕ)) → holds eqb (boards es) c ≡ false → add_paths eqb c k es ≡ es ++ (c, k) ∷ []
+  unfolding add_paths holds any
   add_paths_new [] h = refl
   add_paths_new (e ∷ es) h = go (eqb e.0 c) h (add_paths_new es)
     where
-      go : (t : Bool) → (t || holds eqb (boards es) c) ≡ false → (holds eqb (boards es) c ≡ false → addPaths eqb c k es ≡ es ++ (c, k) ∷ [])
-          → cond t ((e.0, e.1 + k) ∷ es) (e ∷ addPaths eqb c k es) ≡ e ∷ es ++ (c, k) ∷ []
+      go : (t : Bool) → (t || holds eqb (boards es) c) ≡ false → (holds eqb (boards es) c ≡ false → add_paths eqb c k es ≡ es ++ (c, k) ∷ [])
+          → cond t ((e.0, e.1 + k) ∷ es) (e ∷ add_paths eqb c k es) ≡ e ∷ es ++ (c, k) ∷ []
       go true q ih = absurd (false≢true (sym q))
       go false q ih = ap (λ (l : List (Entry ℕ)). e ∷ l) (ih q)
 
   -- the count of an old board is raised
   pub counts_old : (es : List (Entry ℕ)) → holds eqb (boards es) c ≡ true
-      → counts (addPaths eqb c k es) ≡ set (counts es) (number_in eqb (boards es) c) (get_or (counts es) (number_in eqb (boards es) c) 0 + k)
-  unfolding addPaths holds any number_in
+      → counts (add_paths eqb c k es) ≡ set (counts es) (number_in eqb (boards es) c) (get_or (counts es) (number_in eqb (boards es) c) 0 + k)
+  unfolding add_paths holds any number_in
   counts_old [] h = absurd (false≢true h)
   counts_old (e ∷ es) h = go (eqb e.0 c) h (counts_old es)
     where
@@ -74,27 +74,27 @@ module _ (c k : ℕ) where
       at = number_in eqb (boards es) c
 
       go : (t : Bool) → (t || holds eqb (boards es) c) ≡ true
-          → (holds eqb (boards es) c ≡ true → counts (addPaths eqb c k es) ≡ set (counts es) at (get_or (counts es) at 0 + k))
-          → counts (cond t ((e.0, e.1 + k) ∷ es) (e ∷ addPaths eqb c k es))
+          → (holds eqb (boards es) c ≡ true → counts (add_paths eqb c k es) ≡ set (counts es) at (get_or (counts es) at 0 + k))
+          → counts (cond t ((e.0, e.1 + k) ∷ es) (e ∷ add_paths eqb c k es))
           ≡ set (e.1 ∷ counts es) (cond t 0 (suc at)) (get_or (e.1 ∷ counts es) (cond t 0 (suc at)) 0 + k)
       go true q ih = refl
       go false q ih = ap (λ (l : List ℕ). e.1 ∷ l) (ih q)
 
-  pub length_old : (es : List (Entry ℕ)) → holds eqb (boards es) c ≡ true → length (addPaths eqb c k es) ≡ length es
+  pub length_old : (es : List (Entry ℕ)) → holds eqb (boards es) c ≡ true → length (add_paths eqb c k es) ≡ length es
   length_old es h =
-      sym (length-map (addPaths eqb c k es) (λ (e : Entry ℕ). e.1))
+      sym (length-map (add_paths eqb c k es) (λ (e : Entry ℕ). e.1))
       ∙ ap length (counts_old es h)
       ∙ length-set (counts es) (number_in eqb (boards es) c) _
       ∙ length-map es (λ (e : Entry ℕ). e.1)
 
-  pub length_new : (es : List (Entry ℕ)) → holds eqb (boards es) c ≡ false → length (addPaths eqb c k es) ≡ length es + 1
+  pub length_new : (es : List (Entry ℕ)) → holds eqb (boards es) c ≡ false → length (add_paths eqb c k es) ≡ length es + 1
   length_new es h = ap length (add_paths_new es h) ∙ length-append es ((c, k) ∷ [])
 
   -- no entry is lost
-  pub length_add_paths : (es : List (Entry ℕ)) → length es ≤ length (addPaths eqb c k es)
+  pub length_add_paths : (es : List (Entry ℕ)) → length es ≤ length (add_paths eqb c k es)
   length_add_paths es = go (holds eqb (boards es) c) refl
     where
-      go : (t : Bool) → holds eqb (boards es) c ≡ t → length es ≤ length (addPaths eqb c k es)
+      go : (t : Bool) → holds eqb (boards es) c ≡ t → length es ≤ length (add_paths eqb c k es)
       go true q = omega (arith, length_old es q)
       go false q = omega (arith, length_new es q)
 
@@ -104,12 +104,12 @@ pub add_each_none : (f : ℕ → ℕ) (k : ℕ) (es : List (Entry ℕ)) → add_
 unfolding add_each list_of
 add_each_none f k es = refl
 
-add_each_snoc : (cs : List ℕ) (c k : ℕ) (es : List (Entry ℕ)) → add_each (cs ++ c ∷ []) k es ≡ addPaths eqb c k (add_each cs k es)
+add_each_snoc : (cs : List ℕ) (c k : ℕ) (es : List (Entry ℕ)) → add_each (cs ++ c ∷ []) k es ≡ add_paths eqb c k (add_each cs k es)
 unfolding add_each
 add_each_snoc [] c k es = refl
-add_each_snoc (b ∷ cs) c k es = add_each_snoc cs c k (addPaths eqb b k es)
+add_each_snoc (b ∷ cs) c k es = add_each_snoc cs c k (add_paths eqb b k es)
 
-pub add_each_more : (f : ℕ → ℕ) (i k : ℕ) (es : List (Entry ℕ)) → addPaths eqb (f i) k (add_each (list_of f i) k es) ≡ add_each (list_of f (i + 1)) k es
+pub add_each_more : (f : ℕ → ℕ) (i k : ℕ) (es : List (Entry ℕ)) → add_paths eqb (f i) k (add_each (list_of f i) k es) ≡ add_each (list_of f (i + 1)) k es
 add_each_more f i k es = sym (ap (λ (cs : List ℕ). add_each cs k es) (list_of_snoc f i) ∙ add_each_snoc (list_of f i) (f i) k es)
 
 -- ---- the layer behind a layer
@@ -130,13 +130,13 @@ module _ (b : Board) (paths : List Path) (bs cs : List ℕ) where
 
   -- one board more: its children get its paths
   pub next_more : (i : ℕ)
-      → add_each (childBoards (setting b paths) (set_at bs i)) (count_in cs i) (next_of (setting b paths) (entries_in bs cs i))
+      → add_each (child_boards (setting b paths) (set_at bs i)) (count_in cs i) (next_of (setting b paths) (entries_in bs cs i))
       ≡ next_of (setting b paths) (entries_in bs cs (i + 1))
   unfolding next_of entries_in shares setting
   next_more i =
       let entry : ℕ → Entry ℕ = λ j. (set_at bs j, count_in cs j) in
-      let each : Entry ℕ → List (Entry ℕ) = λ e. map (λ (c : ℕ). (c, e.1)) (childBoards (setting b paths) e.0) in
+      let each : Entry ℕ → List (Entry ℕ) = λ e. map (λ (c : ℕ). (c, e.1)) (child_boards (setting b paths) e.0) in
       sym
       (ap (λ (es : List (Entry ℕ)). gather eqb (flat_map each es)) (list_of_snoc entry i)
       ∙ ap (gather eqb) (flat_map_snoc each (list_of entry i) (entry i))
-      ∙ gather_many (count_in cs i) (childBoards (setting b paths) (set_at bs i)) (flat_map each (list_of entry i)))
+      ∙ gather_many (count_in cs i) (child_boards (setting b paths) (set_at bs i)) (flat_map each (list_of entry i)))

@@ -5,9 +5,9 @@ use mathlib.Core.List.{List, [], ◌∷◌, Memᴰ as Mem}
 use Rattle.cells.specs.FirstsLaws.{Once}
 use Rattle.cells.specs.Lists.{list_of, set_at}
 use Rattle.refusal.specs.Refusal.{Answer, refused, given, map_answer, bind_answer, refusal_number}
-use Rattle.covers.specs.Setting.{Setting, childBoards, layerOf, layerCountOf}
-use Rattle.covers.specs.Counts.{Entry, boards, counts, fullCount, shares, gather, layer, layerCount}
-use Rattle.covers.specs.Inner.{addPaths}
+use Rattle.covers.specs.Setting.{Setting, child_boards, layer_of, layer_count_of}
+use Rattle.covers.specs.Counts.{Entry, boards, counts, full_count, shares, gather, layer, layer_count}
+use Rattle.covers.specs.Inner.{add_paths}
 use Rattle.path_count.specs.PathCounts.{count_room, count_in}
 use Rattle.tiles.specs.Paths.{paths_in}
 use Rattle.expansion.specs.Boards.{setting_of, Accepted}
@@ -60,25 +60,25 @@ setting_in p = setting_of p.board p.tiles
 
 -- k paths more for each board of a list, in order
 unfoldable pub add_each : List ℕ → ℕ → List (Entry ℕ) → List (Entry ℕ)
-unfolding addPaths
+unfolding add_paths
 add_each [] k es = es
-add_each (c ∷ cs) k es = add_each cs k (addPaths eqb c k es)
+add_each (c ∷ cs) k es = add_each cs k (add_paths eqb c k es)
 
 -- what is answered of the layers of a start
 unfoldable pub layers_answer : {P : Type 0} → Setting ℕ P → ℕ → ℕ → Answer ℕ
-unfolding judge_layers layer layerCount map_answer
-layers_answer S s room = map_answer (λ es. layerCountOf S s) (judge_layers (layerOf S s) room (S.free_count s))
+unfolding judge_layers layer layer_count map_answer
+layers_answer S s room = map_answer (λ es. layer_count_of S s) (judge_layers (layer_of S s) room (S.free_count s))
 
 -- the layer behind a layer
 unfoldable pub next_of : Setting ℕ ℕ → List (Entry ℕ) → List (Entry ℕ)
 unfolding gather shares
-next_of S es = gather S.same_board (shares (childBoards S) es)
+next_of S es = gather S.same_board (shares (child_boards S) es)
 
 -- what is answered from a layer on, of k more layers
 unfoldable pub count_from : Setting ℕ ℕ → ℕ → ℕ → List (Entry ℕ) → Answer ℕ
-unfolding fullCount judge_layer next_of map_answer bind_answer
-count_from S room zero es = given (fullCount S.full es)
-count_from S room (suc k) es = map_answer (λ n. fullCount S.full es + n) (bind_answer (judge_layer room (next_of S es)) (count_from S room k))
+unfolding full_count judge_layer next_of map_answer bind_answer
+count_from S room zero es = given (full_count S.full es)
+count_from S room (suc k) es = map_answer (λ n. full_count S.full es + n) (bind_answer (judge_layer room (next_of S es)) (count_from S room k))
 
 -- an answer is right from a layer on whose boards have so many free cells, whatever number of layers is enough
 abbrev pub Right : Setting ℕ ℕ → ℕ → ℕ → List (Entry ℕ) → Answer ℕ → Type 0

@@ -10,7 +10,7 @@ use Rattle.board.specs.declared.RectangularBoard.{RectangularBoard}
 use Rattle.rectangle.specs.Board.{Board, marks, is_full, free_count}
 use Rattle.board.specs.Board.{board_of}
 use Rattle.children.specs.Children.{children, children_at, full_at, free_count_at}
-use Rattle.covers.specs.Counts.{Exactly, Entry, counts, layer, layerCount}
+use Rattle.covers.specs.Counts.{Exactly, Entry, counts, layer, layer_count}
 use Rattle.path_count.specs.PathCounts.{count_limit, count_value}
 use Rattle.graph.specs.Graph.{layer_room}
 use Rattle.expansion.specs.Plots.{accept_plot, IsCutting, HasFreeCell, AllEdgeJoined}
@@ -38,9 +38,9 @@ judge_layers at room (suc n) = bind_answer (judge_layers at room n) (λ es. judg
 -- the layer count of a board and tiles that are not refused, for a room of so many boards: of the layers up to that of as many pieces as cells are free, behind
 -- which no piece is left to lay,
 unfoldable pub layer_count_for : Board → List Path → ℕ → Answer ℕ
-unfolding judge_layers layer layerCount children is_full free_count marks map_answer
+unfolding judge_layers layer layer_count children is_full free_count marks map_answer
 layer_count_for b paths room =
-    map_answer (λ es. layerCount eqb (children_at b paths) (full_at b) (marks b) (free_count_at b (marks b)))
+    map_answer (λ es. layer_count eqb (children_at b paths) (full_at b) (marks b) (free_count_at b (marks b)))
     (judge_layers (layer eqb (children_at b paths) (marks b)) room (free_count_at b (marks b)))
 
 -- and of any

@@ -7,8 +7,8 @@ ghost use Rattle.tiles.specs.Paths.{paths_in};
 ghost use Rattle.fit.specs.Parts.{most_children};
 ghost use Rattle.board.specs.Board.{board_of};
 ghost use Rattle.path_count.specs.PathCounts.{count_value, count_in};
-ghost use Rattle.covers.specs.Setting.{childBoards};
-ghost use Rattle.covers.specs.Inner.{addPaths};
+ghost use Rattle.covers.specs.Setting.{child_boards};
+ghost use Rattle.covers.specs.Inner.{add_paths};
 ghost use Rattle.expansion.specs.Boards.{From, setting_of, Accepted};
 ghost use Rattle.layers.specs.Inner.{entries_in, boards_in, HoldsLayer, AddsToLayer, LayerLent, add_each, next_of};
 
@@ -36,7 +36,7 @@ fn add_paths(
     paths: PathCount,
 ) -> Layer
     requires { (boards_in layer ≤ room) × LayerLent room boards.old counts.old }
-    ensures { AddsToLayer room boards.old counts.old layer boards.new counts.new result (addPaths eqb (number board) (count_value paths)) }
+    ensures { AddsToLayer room boards.old counts.old layer boards.new counts.new result (add_paths eqb (number board) (count_value paths)) }
 {
     let Layer::Boards(n, over) = layer else {
         return Layer::NoRoom;
@@ -93,7 +93,7 @@ fn grow_by(
     room: usize,
 ) -> Layer
     requires { Accepted board tiles × From (board_of board) (set_at boards.now i) × (4 * most_children (paths_in tiles) ≤ length children.old) × (boards_in layer ≤ room) × LayerLent room next_boards.old next_counts.old }
-    ensures { AddsToLayer room next_boards.old next_counts.old layer next_boards.new next_counts.new result (add_each (childBoards (setting_of board tiles) (set_at boards.now i)) (count_in counts.now i)) }
+    ensures { AddsToLayer room next_boards.old next_counts.old layer next_boards.new next_counts.new result (add_each (child_boards (setting_of board tiles) (set_at boards.now i)) (count_in counts.now i)) }
 {
     let n = expansion::expand(board, tiles, list::get(boards, i), children);
     add_all(

@@ -5,6 +5,7 @@
 // What the call answers and leaves in the lent words (`answer`), and what the count has to do with
 // cuttings (`cuttings`), are definitions of specs/LayerCounts.antt.
 #![tactic(auto)]
+
 ghost use Rattle.layers.specs.LayerCounts.{CountsTilings, CountsCuttings};
 
 use board::RectangularBoard;

@@ -105,19 +105,19 @@ pub edges_lent_lem : (words count room : ℕ) → room ≡ edge_room words → c
 edges_lent_lem words count room e h = edge_room_lem count words (subst (λ (k : ℕ). count ≤ k) e h)
 
 module _ (r : GraphResult) (nodes : ℕ) (counts edges : List ℕ) where
-  pub no_nodes : r.nodes ≡ 0 → true ≡ bad_graph r nodes counts edges
+  pub no_nodes_lem : r.nodes ≡ 0 → true ≡ bad_graph r nodes counts edges
   unfolding bad_graph
-  no_nodes e = rw (eq-eqb r.nodes 0 e)
+  no_nodes_lem e = rw (eq-eqb r.nodes 0 e)
 
   module _ (some : r.nodes ≡ 0 → ⊥) (room : ℕ) (is-room : room ≡ node_room nodes (length counts)) where
-    pub nodes_pass : room < r.nodes → true ≡ bad_graph r nodes counts edges
+    pub nodes_pass_lem : room < r.nodes → true ≡ bad_graph r nodes counts edges
     unfolding bad_graph
-    nodes_pass h = rw (ne_eqb r.nodes 0 some, lt-ltb (node_room nodes (length counts)) r.nodes (omega arith))
+    nodes_pass_lem h = rw (ne_eqb r.nodes 0 some, lt-ltb (node_room nodes (length counts)) r.nodes (omega arith))
 
     module _ (lent : r.nodes ≤ room) (edges_room : ℕ) (is-edges-room : edges_room ≡ edge_room (length edges)) where
-      pub edges_pass : edges_room < r.edges → true ≡ bad_graph r nodes counts edges
+      pub edges_pass_lem : edges_room < r.edges → true ≡ bad_graph r nodes counts edges
       unfolding bad_graph
-      edges_pass h =
+      edges_pass_lem h =
           rw (
             ne_eqb r.nodes 0 some,
             le-ltb (node_room nodes (length counts)) r.nodes (omega arith),
@@ -139,8 +139,8 @@ module _ (r : GraphResult) (nodes : ℕ) (counts edges : List ℕ) where
               edges_in_lent edges r.edges (edges_lent_lem (length edges) r.edges edges_room is-edges-room within),
             )
 
-        pub full_past : is_past r.nodes (complete_node r.complete) ≡ true → true ≡ bad_graph r nodes counts edges
-        full_past e = sym (causes_left ∙ rw e)
+        pub full_past_lem : is_past r.nodes (complete_node r.complete) ≡ true → true ≡ bad_graph r nodes counts edges
+        full_past_lem e = sym (causes_left ∙ rw e)
 
         module _ (below : is_past r.nodes (complete_node r.complete) ≡ false) where
           pub edge_bad : any (bad_edge r.nodes) (list_of (edge_at edges) r.edges) ≡ true → true ≡ bad_graph r nodes counts edges

@@ -112,32 +112,32 @@ module _ (n : ℕ) (es : List (ℕ × ℕ)) (count : ℕ → ℕ) where
       sound (suc v) h = S.sums (suc v) (omega arith) h
 
 module _ (r : GraphResult) (node_words : ℕ) (counts edges : List ℕ) where
-  abbrev noNodes : Bool
-  noNodes = eqb r.nodes 0
+  abbrev no_nodes : Bool
+  no_nodes = eqb r.nodes 0
 
-  abbrev nodesPass : Bool
-  nodesPass = ltb (node_room node_words (length counts)) r.nodes
+  abbrev nodes_pass : Bool
+  nodes_pass = ltb (node_room node_words (length counts)) r.nodes
 
-  abbrev edgesPass : Bool
-  edgesPass = ltb (edge_room (length edges)) r.edges
+  abbrev edges_pass : Bool
+  edges_pass = ltb (edge_room (length edges)) r.edges
 
-  abbrev fullPast : Bool
-  fullPast = is_past r.nodes (complete_node r.complete)
+  abbrev full_past : Bool
+  full_past = is_past r.nodes (complete_node r.complete)
 
-  abbrev someEdgeBad : Bool
-  someEdgeBad = any (bad_edge r.nodes) (edges_in edges r.edges)
+  abbrev some_edge_bad : Bool
+  some_edge_bad = any (bad_edge r.nodes) (edges_in edges r.edges)
 
-  abbrev someCountBad : Bool
-  someCountBad = any (bad_count (edges_in edges r.edges) (count_in counts)) (list_of (λ v. v) r.nodes)
+  abbrev some_count_bad : Bool
+  some_count_bad = any (bad_count (edges_in edges r.edges) (count_in counts)) (list_of (λ v. v) r.nodes)
 
   pub not_bad_sound : bad_graph r node_words counts edges ≡ false → SoundGraph r node_words counts edges
   unfolding bad_graph
   not_bad_sound h =
-      let f = (neither (noNodes || nodesPass || edgesPass || fullPast || someEdgeBad) someCountBad).0 h in
-      let e = (neither (noNodes || nodesPass || edgesPass || fullPast) someEdgeBad).0 f.0 in
-      let d = (neither (noNodes || nodesPass || edgesPass) fullPast).0 e.0 in
-      let c = (neither (noNodes || nodesPass) edgesPass).0 d.0 in
-      let b = (neither noNodes nodesPass).0 c.0 in
+      let f = (neither (no_nodes || nodes_pass || edges_pass || full_past || some_edge_bad) some_count_bad).0 h in
+      let e = (neither (no_nodes || nodes_pass || edges_pass || full_past) some_edge_bad).0 f.0 in
+      let d = (neither (no_nodes || nodes_pass || edges_pass) full_past).0 e.0 in
+      let c = (neither (no_nodes || nodes_pass) edges_pass).0 d.0 in
+      let b = (neither no_nodes nodes_pass).0 c.0 in
       let some-nodes : 0 < r.nodes = omega (arith, eqb-false r.nodes 0 b.0) in
       record {
         some_nodes = some-nodes;

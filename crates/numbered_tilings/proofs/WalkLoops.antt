@@ -38,14 +38,14 @@ use Rattle.numbered_tilings.proofs.TilingLaws.{SoundGraph, not_bad_sound, tiling
 
 module _ (count : ℕ → ℕ) (edge : ℕ → ℕ × ℕ) (n v : ℕ) where
   -- the parent of v whose turn holds m, and what is left of m
-  abbrev pub turnFrom : ℕ → ℕ → ℕ × ℕ
-  turnFrom i m = turn count (parents_of (list_from edge i (n - i)) v) m
+  abbrev pub turn_from : ℕ → ℕ → ℕ × ℕ
+  turn_from i m = turn count (parents_of (list_from edge i (n - i)) v) m
 
-  pub turn_start : (m : ℕ) → turn count (parents_of (list_of edge n) v) m ≡ turnFrom 0 m
+  pub turn_start : (m : ℕ) → turn count (parents_of (list_of edge n) v) m ≡ turn_from 0 m
   unfolding list_of
   turn_start m = rw sub-zero
 
-  pub turn_none : (i m : ℕ) → n ≤ i → (0, m) ≡ turnFrom i m
+  pub turn_none : (i m : ℕ) → n ≤ i → (0, m) ≡ turn_from i m
   unfolding turn parents_of list_from
   turn_none i m h = let e : n - i ≡ 0 = omega arith in rw e
 
@@ -63,7 +63,7 @@ module _ (count : ℕ → ℕ) (edge : ℕ → ℕ × ℕ) (n v : ℕ) where
 
     -- the edge's turn is passed, or it holds m
     module _ (m s : ℕ) (e : s ≡ share count v (edge i)) where
-      pub turn_passed : s ≤ m → (left : ℕ) → left ≡ m - s → turnFrom i m ≡ turnFrom (i + 1) left
+      pub turn_passed : s ≤ m → (left : ℕ) → left ≡ m - s → turn_from i m ≡ turn_from (i + 1) left
       unfolding share
       turn_passed h left f = rw (next_edge, f, e) (go (eqb (edge i).1 v) (subst (λ (k : ℕ). k ≤ m) e h))
         where
@@ -72,7 +72,7 @@ module _ (count : ℕ → ℕ) (edge : ℕ → ℕ × ℕ) (n v : ℕ) where
           go true k = turn_pass count (edge i).0 rest m k
           go false k = rw sub-zero
 
-      pub turn_held : m < s → (p : ℕ) → p ≡ (edge i).0 → (p, m) ≡ turnFrom i m
+      pub turn_held : m < s → (p : ℕ) → p ≡ (edge i).0 → (p, m) ≡ turn_from i m
       unfolding share
       turn_held h p q = rw (q, next_edge) (sym (go (eqb (edge i).1 v) (subst (λ (k : ℕ). m < k) e h)))
         where

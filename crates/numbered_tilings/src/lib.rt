@@ -2,6 +2,7 @@
 // turns backward from the full board's node. The Rust's render_all_tilings walks the same lists. Nothing
 // is asked of a caller: words that are no graph's are refused.
 #![tactic(auto)]
+
 ghost use Rattle.std.specs.Prelude.{◌≡◌, length};
 ghost use Rattle.refusal.specs.Refusal.{map_answer};
 ghost use Rattle.covers.specs.Counts.{at_node};

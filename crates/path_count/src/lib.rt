@@ -3,6 +3,7 @@
 // that stands in the words (`count_in`), never the words themselves. Nothing is asked of a caller: a count
 // that is not lent reads as 0 and is not stored.
 #![tactic(auto)]
+
 ghost use Rattle.std.specs.Prelude.{◌≡◌, ◌+◌, ◌-◌, ◌*◌, ◌/◌, ◌%◌, ◌^◌, min, if◌then◌else◌, ◌==◌, nat_le, nat_lt};
 ghost use Rattle.std.proofs.Math.Option.{none, some};
 ghost use Rattle.path_count.specs.PathCounts.{count_limit, count_value, count_room, count_in};

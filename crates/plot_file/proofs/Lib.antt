@@ -1,8 +1,7 @@
--- `Theorems` says which files are accepted, what is read from them and how far a file is looked at; `StepLaws`, `TilesLaws` and `ReaderLaws` are laws that only
+-- `Theorems` says which files are accepted, what is read from them and how far a file is looked at; `StepLaws` and `TilesLaws` are laws that only
 -- the proofs of this crate's code cite; the rest are laws, and examples that compute.
 pub mod StepLaws
 pub mod TilesLaws
-pub mod ReaderLaws
 pub mod RecordLaws
 pub mod ReadLaws
 pub mod HoleLaws

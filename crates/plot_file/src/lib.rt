@@ -7,6 +7,7 @@
 // position in it. `read_plot` makes one and goes through the file with it: it reads the record at the
 // position, and moves the position to where the next one begins.
 #![tactic(auto)]
+
 ghost use Rattle.refusal.specs.Refusal.{refused, given, refusal_number};
 ghost use Rattle.plot_file.specs.PlotFile.{plot_in, ReadsPlot};
 ghost use Rattle.plot_file.specs.Inner.{plot_of, Kept};

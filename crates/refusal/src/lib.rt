@@ -1,6 +1,7 @@
 // The refusals of all crates, by cause. `number` gives the number that document 01, or the request
 // that brought the refusal, gives each.
 #![tactic(auto)]
+
 ghost use Rattle.std.specs.Prelude.{◌≡◌};
 ghost use Rattle.refusal.specs.Refusal.{refusal_number};
 

@@ -5,66 +5,71 @@
 // The form of a line is said in crate replay_text. Another command is a function of commands.rt and a
 // line of `answer` or `answer_board`.
 #![tactic(auto)]
+
 use replay_text::text::{field, same};
+use replay_text::write::Output;
 use replay_text::{lines, write};
+use std::io;
 
 mod commands;
 mod parts;
 
-// Answers the lines of standard input to its end. A proved loop has to end, so the turns are counted
-// down from a number that no run uses up. A line of more than 65,536 bytes is cut there.
-fn main() {
-    let mut input = io::large_buffer();
+// Answers the lines of standard input to its end, or to a read or a write that fails. A proved loop has
+// to end, so its turns are of a number that no run uses up. A line of more than 65,536 bytes is cut
+// there.
+fn main(rt: HostRuntime) -> io::Result<()> {
+    let mut stdin = rt.stdin();
+    let mut output = Output::new(rt.stdout());
+    let mut input = [0u8; 65536];
     let mut line = lines::before();
-    let mut turns = u64::MAX;
-    while 0 < turns {
-        line = lines::next(line, &mut input);
+    for _ in 0..u64::MAX {
+        line = lines::next(line, &mut stdin, &mut input)?;
         if !line.is_there {
-            return;
+            break;
         }
-        answer(lines::bytes_of(line, &input));
-        turns -= 1;
+        answer(&mut output, lines::bytes_of(line, &input))?;
     }
+    Ok(())
 }
 
 // Answers one line, by its command. The commands stand in two functions, of which the first hands on
 // what it does not know: what the prover takes for a function grows faster than its branches.
-fn answer(line: &[u8]) {
+fn answer(to: &mut Output, line: &[u8]) -> io::Result<()> {
     let command = field(line, 0);
     if same(command, b"direction") {
-        commands::direction(line);
+        commands::direction(to, line)?;
     } else if same(command, b"orbit") {
-        commands::orbit(line);
+        commands::orbit(to, line)?;
     } else if same(command, b"tile") {
-        commands::tile(line);
+        commands::tile(to, line)?;
     } else if same(command, b"size") {
-        commands::size(line);
+        commands::size(to, line)?;
     } else if same(command, b"l") {
-        commands::l_tile(line);
+        commands::l_tile(to, line)?;
     } else if same(command, b"t") {
-        commands::t_tile(line);
+        commands::t_tile(to, line)?;
     } else {
-        answer_board(line, command);
+        answer_board(to, line, command)?;
     }
-    write::bytes(b"\n");
+    write::end_line(to)
 }
 
-fn answer_board(line: &[u8], command: &[u8]) {
+fn answer_board(to: &mut Output, line: &[u8], command: &[u8]) -> io::Result<()> {
     if same(command, b"single") {
-        commands::single(line);
+        commands::single(to, line)
     } else if same(command, b"new") {
-        commands::new_board(line);
+        commands::new_board(to, line)
     } else if same(command, b"lb") {
-        commands::l_board(line);
+        commands::l_board(to, line)
     } else if same(command, b"tb") {
-        commands::t_board(line);
+        commands::t_board(to, line)
     } else if same(command, b"hole") {
-        commands::hole(line);
+        commands::hole(to, line)
     } else if same(command, b"full") {
-        commands::full(line);
+        commands::full(to, line)
     } else if same(command, b"children") {
-        commands::children(line);
+        commands::children(to, line)
     } else {
-        write::bytes(b"unknown command");
+        write::bytes(to, b"unknown command")
     }
 }

@@ -13,22 +13,24 @@ use layers::Count;
 use refusal::Verdict;
 use replay_text::text::field;
 use replay_text::words::tell_dirt;
+use replay_text::write::Output;
 use replay_text::{least, text, write};
+use std::io;
 use tiles::Tiles;
 
 // layers WIDTH HEIGHT FIXED LAID TILES [ROOM]: the layer count. The room is 512 boards a layer unless
 // it is given, and 4,096 at most.
-pub fn layers(line: &[u8]) {
-    lend_layers(line, false);
+pub fn layers(to: &mut Output, line: &[u8]) -> io::Result<()> {
+    lend_layers(to, line, false)
 }
 
 // cuttings WIDTH HEIGHT FIXED LAID TILES [ROOM]: the figure called cuttings, with the same room.
-pub fn cuttings(line: &[u8]) {
-    lend_layers(line, true);
+pub fn cuttings(to: &mut Output, line: &[u8]) -> io::Result<()> {
+    lend_layers(to, line, true)
 }
 
 // Lends two layers for the figure called cuttings, or for the layer count.
-fn lend_layers(line: &[u8], is_figure: bool) {
+fn lend_layers(to: &mut Output, line: &[u8], is_figure: bool) -> io::Result<()> {
     let room = least(text::room_in(field(line, 6), 512), 4096);
     let turn = room % 4;
     let words_a = 4 * lent(room, turn, 0) + 3;
@@ -40,6 +42,7 @@ fn lend_layers(line: &[u8], is_figure: bool) {
     let mut boards_b = [u64::MAX; 16391];
     let mut counts_b = [u64::MAX; 4097];
     count(
+        to,
         is_figure,
         text::board_in(line),
         text::tiles_in(field(line, 5)),
@@ -47,7 +50,7 @@ fn lend_layers(line: &[u8], is_figure: bool) {
         &mut counts_a[..room_a],
         &mut boards_b[..words_b],
         &mut counts_b[..room_b],
-    );
+    )
 }
 
 // How many boards a slice holds: the room if it is its turn, else one more.
@@ -62,6 +65,7 @@ fn lent(room: usize, turn: usize, slice: usize) -> usize
 }
 
 fn count(
+    to: &mut Output,
     is_figure: bool,
     board: RectangularBoard,
     tiles: Tiles,
@@ -69,18 +73,18 @@ fn count(
     counts_a: &mut [u64],
     boards_b: &mut [u64],
     counts_b: &mut [u64],
-) {
+) -> io::Result<()> {
     let answer = ask(
         is_figure, board, tiles, boards_a, counts_a, boards_b, counts_b,
     );
     match answer {
-        Count::Number(n) => write::count(n),
-        Count::Refused(refusal) => write::refused(refusal),
+        Count::Number(n) => write::count(to, n)?,
+        Count::Refused(refusal) => write::refused(to, refusal)?,
     }
-    tell_dirt(boards_a, 0);
-    tell_dirt(counts_a, 0);
-    tell_dirt(boards_b, 0);
-    tell_dirt(counts_b, 0);
+    tell_dirt(to, boards_a, 0)?;
+    tell_dirt(to, counts_a, 0)?;
+    tell_dirt(to, boards_b, 0)?;
+    tell_dirt(to, counts_b, 0)
 }
 
 fn ask(
@@ -100,7 +104,7 @@ fn ask(
 
 // graph WIDTH HEIGHT FIXED LAID TILES [NODES EDGES]: the graph. There is room for 1,024 nodes and 4,096
 // edges unless it is given, and for 4,096 and 16,384 at most.
-pub fn graph(line: &[u8]) {
+pub fn graph(to: &mut Output, line: &[u8]) -> io::Result<()> {
     let room = least(text::room_in(field(line, 6), 1024), 4096);
     let edge_room = least(text::room_in(field(line, 7), 4096), 16384);
     let turn = room % 2;
@@ -111,36 +115,39 @@ pub fn graph(line: &[u8]) {
     let mut counts = [u64::MAX; 4097];
     let mut edges = [u64::MAX; 32769];
     generate(
+        to,
         text::board_in(line),
         text::tiles_in(field(line, 5)),
         &mut nodes[..node_words],
         &mut counts[..count_words],
         &mut edges[..edge_words],
-    );
+    )
 }
 
 fn generate(
+    to: &mut Output,
     board: RectangularBoard,
     tiles: Tiles,
     nodes: &mut [u64],
     counts: &mut [u64],
     edges: &mut [u64],
-) {
+) -> io::Result<()> {
     let made = tiler::generate_graph(board, tiles, nodes, counts, edges);
     let verdict = made.verdict;
     let graph = made.graph;
     match verdict {
-        Verdict::Accepted => graphs::graph(graph, nodes, counts, edges),
-        Verdict::Refused(refusal) => write::refused(refusal),
+        Verdict::Accepted => graphs::graph(to, graph, nodes, counts, edges)?,
+        Verdict::Refused(refusal) => write::refused(to, refusal)?,
     }
     let n = least(graph.nodes, 16384);
     let e = least(graph.edges, 16384);
-    tell_dirt(nodes, 4 * n);
-    tell_dirt(counts, n);
-    tell_dirt(edges, 2 * e);
+    tell_dirt(to, nodes, 4 * n)?;
+    tell_dirt(to, counts, n)?;
+    tell_dirt(to, edges, 2 * e)?;
     if !has_edges(graph, edges) {
-        write::bytes(b" edges differ");
+        write::bytes(to, b" edges differ")?;
     }
+    Ok(())
 }
 
 // Whether the edges of the nodes in order, as get_edges gives them, are all the stored ones.

@@ -6,44 +6,49 @@
 // The form of a line is said in crate replay_text. Another command is a function of counts.rt or
 // tilings.rt and a line of `answer`.
 #![tactic(auto)]
+
 use replay_text::text::{field, same};
+use replay_text::write::Output;
 use replay_text::{lines, write};
+use std::io;
 
 mod counts;
 mod graphs;
 mod tilings;
 
-// Answers the lines of standard input to its end. A proved loop has to end, so the turns are counted
-// down from a number that no run uses up. A line of more than 65,536 bytes is cut there.
-fn main() {
-    let mut input = io::large_buffer();
+// Answers the lines of standard input to its end, or to a read or a write that fails. A proved loop has
+// to end, so its turns are of a number that no run uses up. A line of more than 65,536 bytes is cut
+// there.
+fn main(rt: HostRuntime) -> io::Result<()> {
+    let mut stdin = rt.stdin();
+    let mut output = Output::new(rt.stdout());
+    let mut input = [0u8; 65536];
     let mut line = lines::before();
-    let mut turns = u64::MAX;
-    while 0 < turns {
-        line = lines::next(line, &mut input);
+    for _ in 0..u64::MAX {
+        line = lines::next(line, &mut stdin, &mut input)?;
         if !line.is_there {
-            return;
+            break;
         }
-        answer(lines::bytes_of(line, &input));
-        turns -= 1;
+        answer(&mut output, lines::bytes_of(line, &input))?;
     }
+    Ok(())
 }
 
 // Answers one line, by its command.
-fn answer(line: &[u8]) {
+fn answer(to: &mut Output, line: &[u8]) -> io::Result<()> {
     let command = field(line, 0);
     if same(command, b"layers") {
-        counts::layers(line);
+        counts::layers(to, line)?;
     } else if same(command, b"cuttings") {
-        counts::cuttings(line);
+        counts::cuttings(to, line)?;
     } else if same(command, b"graph") {
-        counts::graph(line);
+        counts::graph(to, line)?;
     } else if same(command, b"tilings") {
-        tilings::tilings(line);
+        tilings::tilings(to, line)?;
     } else if same(command, b"tiling") {
-        tilings::tiling(line);
+        tilings::tiling(to, line)?;
     } else {
-        write::bytes(b"unknown command");
+        write::bytes(to, b"unknown command")?;
     }
-    write::bytes(b"\n");
+    write::end_line(to)
 }

@@ -13,11 +13,13 @@ use path_count::PathCount;
 use refusal::Verdict;
 use replay_text::text::field;
 use replay_text::words::{is_zero_from, tell_dirt};
+use replay_text::write::Output;
 use replay_text::{least, text, write};
+use std::io;
 
 // tilings WIDTH HEIGHT FIXED LAID TILES: the number of tilings, and the boards of each, joined by
 // commas; `large` if there are more than 200. There is room for 1,024 nodes and 4,096 edges.
-pub fn tilings(line: &[u8]) {
+pub fn tilings(to: &mut Output, line: &[u8]) -> io::Result<()> {
     let board = text::board_in(line);
     let tiles = text::tiles_in(field(line, 5));
     let mut nodes = [u64::MAX; 4096];
@@ -27,27 +29,33 @@ pub fn tilings(line: &[u8]) {
     let verdict = made.verdict;
     let graph = made.graph;
     match verdict {
-        Verdict::Accepted => show(graph, &nodes, &counts, &edges),
-        Verdict::Refused(refusal) => write::refused(refusal),
+        Verdict::Accepted => show(to, graph, &nodes, &counts, &edges),
+        Verdict::Refused(refusal) => write::refused(to, refusal),
     }
 }
 
 // The tilings of a graph, sorted.
-fn show(graph: GraphResult, nodes: &[u64], counts: &[u64], edges: &[u64]) {
+fn show(
+    to: &mut Output,
+    graph: GraphResult,
+    nodes: &[u64],
+    counts: &[u64],
+    edges: &[u64],
+) -> io::Result<()> {
     let count = graph::count_tilings_from_graph(graph, counts);
     if PathCount::of_words(200, 0).less(count) {
-        write::bytes(b"large");
-        return;
+        return write::bytes(to, b"large");
     }
     let n = count.low() as usize;
     let mut rows = [u64::MAX; 51600];
     ask_all(graph, nodes, counts, edges, n, &mut rows);
     let clean = are_clean(&rows, n);
-    write::count(count);
-    show_sorted(nodes, n, &mut rows);
+    write::count(to, count)?;
+    show_sorted(to, nodes, n, &mut rows)?;
     if !clean {
-        write::bytes(b" dirty");
+        write::bytes(to, b" dirty")?;
     }
+    Ok(())
 }
 
 // Asks for the tilings with the numbers below n, one a row.
@@ -135,14 +143,15 @@ fn list_at(rows: &[u64], i: usize) -> &[u64] {
 }
 
 // Writes n lists, each time the least that is left, whose row is then cleared.
-fn show_sorted(nodes: &[u64], n: usize, rows: &mut [u64]) {
+fn show_sorted(to: &mut Output, nodes: &[u64], n: usize, rows: &mut [u64]) -> io::Result<()> {
     let mut left = n;
     while 0 < left {
         let i = least_row(nodes, rows);
-        show_list(nodes, list_at(rows, i));
+        show_list(to, nodes, list_at(rows, i))?;
         clear_row(rows, i);
         left -= 1;
     }
+    Ok(())
 }
 
 fn clear_row(rows: &mut [u64], i: usize) {
@@ -214,24 +223,25 @@ fn board_of(nodes: &[u64], node: u64) -> Cells {
 }
 
 // The boards of a list, behind a blank.
-fn show_list(nodes: &[u64], shown: &[u64]) {
+fn show_list(to: &mut Output, nodes: &[u64], shown: &[u64]) -> io::Result<()> {
     let mut i = 0;
     while i < shown.len() {
         if i == 0 {
-            write::bytes(b" ");
+            write::bytes(to, b" ")?;
         } else {
-            write::bytes(b",");
+            write::bytes(to, b",")?;
         }
-        write::marks(board_of(nodes, shown[i]));
+        write::marks(to, board_of(nodes, shown[i]))?;
         i += 1;
     }
+    Ok(())
 }
 
 // tiling NODES EDGES FULL NODEWORDS COUNTS EDGEWORDS M OUT: the tiling with the number M of the result
 // NODES EDGES FULL, whose FULL may be `none`, and of these words: so many node words, all ones, 4,096
 // at most; the count words, at most 1,024; the edge words, at most 2,048. The output has so many words,
 // 1,024 at most.
-pub fn tiling(line: &[u8]) {
+pub fn tiling(to: &mut Output, line: &[u8]) -> io::Result<()> {
     let mut counts = [u64::MAX; 1024];
     let mut edges = [u64::MAX; 2048];
     let mut out = [u64::MAX; 1024];
@@ -241,13 +251,14 @@ pub fn tiling(line: &[u8]) {
     let edge_words = least(text::words_in(field(line, 6), &mut edges), 2048);
     let room = least(text::room_in(field(line, 8), 0), 1024);
     ask_one(
+        to,
         result_in(line),
         &nodes[..node_words],
         &counts[..count_words],
         &edges[..edge_words],
         text::decimal_in(field(line, 7)),
         &mut out[..room],
-    );
+    )
 }
 
 // The result of a line, whose fields 1 to 3 it is.
@@ -267,32 +278,34 @@ fn complete_in(text: &[u8]) -> Complete {
 }
 
 fn ask_one(
+    to: &mut Output,
     graph: GraphResult,
     nodes: &[u64],
     counts: &[u64],
     edges: &[u64],
     m: u64,
     out: &mut [u64],
-) {
+) -> io::Result<()> {
     let number = PathCount::of_words(m, 0);
     let answer = numbered_tilings::tiling_by_number(graph, nodes, counts, edges, number, out);
     match answer {
-        Tiling::Length(n) => show_nodes(n, out),
-        Tiling::Refused(refusal) => write::refused(refusal),
+        Tiling::Length(n) => show_nodes(to, n, out)?,
+        Tiling::Refused(refusal) => write::refused(to, refusal)?,
     }
-    tell_dirt(out, length_of(answer));
+    tell_dirt(to, out, length_of(answer))
 }
 
 // The length of a list, and its nodes.
-fn show_nodes(n: usize, out: &[u64]) {
-    write::number(n);
+fn show_nodes(to: &mut Output, n: usize, out: &[u64]) -> io::Result<()> {
+    write::number(to, n)?;
     let mut i = 0;
     while i < n {
         if out.len() <= i {
-            return;
+            return Ok(());
         }
-        write::bytes(b" ");
-        write::number(out[i] as usize);
+        write::bytes(to, b" ")?;
+        write::number(to, out[i] as usize)?;
         i += 1;
     }
+    Ok(())
 }

@@ -1,21 +1,23 @@
 // The command plot: the text that the program `plot` prints for a file.
 use replay_text::text::field;
+use replay_text::write::Output;
 use replay_text::{least, text, write};
+use std::io;
 
 // plot BYTES: the text for a file of these bytes, with a vertical bar for each line feed. Of a longer
 // file 4,096 bytes are read, which settle any file; no text has more than 65,536 bytes.
-pub fn plot(line: &[u8]) {
+pub fn plot(to: &mut Output, line: &[u8]) -> io::Result<()> {
     let mut file = [0u8; 4096];
     let size = least(text::bytes_in(field(line, 1), &mut file), 4096);
-    show(&file[..size]);
+    show(to, &file[..size])
 }
 
 // The text for a file.
-fn show(file: &[u8]) {
+fn show(to: &mut Output, file: &[u8]) -> io::Result<()> {
     let mut shown = [0u8; 65536];
     let length = report::write_report(file, &mut shown);
     set_bars(&mut shown);
-    write::bytes(&shown[..length]);
+    write::bytes(to, &shown[..length])
 }
 
 // A vertical bar for a line feed.

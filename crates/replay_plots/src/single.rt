@@ -6,41 +6,44 @@ use cells::{Cells, list};
 use children::Children;
 use replay_text::text::field;
 use replay_text::words::tell_dirt;
+use replay_text::write::Output;
 use replay_text::{least, text, write};
 use single_tiling::SingleTiling;
+use std::io;
 use tiles::Tiles;
 
 // one WIDTH HEIGHT FIXED LAID TILES [ROOM]: `found` or `none`; `wrong` if what is found is no tiling. The
 // room is 257 boards unless it is given, and 300 at most.
-pub fn one(line: &[u8]) {
+pub fn one(to: &mut Output, line: &[u8]) -> io::Result<()> {
     let room = least(text::room_in(field(line, 6), 257), 300);
     let words = 4 * room + 3;
     let mut out = [u64::MAX; 1203];
     find(
+        to,
         text::board_in(line),
         text::tiles_in(field(line, 5)),
         &mut out[..words],
-    );
+    )
 }
 
-fn find(board: RectangularBoard, tiles: Tiles, out: &mut [u64]) {
+fn find(to: &mut Output, board: RectangularBoard, tiles: Tiles, out: &mut [u64]) -> io::Result<()> {
     let answer = single_tiling::get_single_tiling(board, tiles, out);
     match answer {
         SingleTiling::Boards(n) => {
             if is_tiling(board, tiles, out, n) {
-                write::bytes(b"found");
+                write::bytes(to, b"found")?;
             } else {
-                write::bytes(b"wrong");
+                write::bytes(to, b"wrong")?;
             }
-            tell_dirt(out, 4 * least(n, 300));
+            tell_dirt(to, out, 4 * least(n, 300))
         }
         SingleTiling::Nothing => {
-            write::bytes(b"none");
-            tell_dirt(out, 0);
+            write::bytes(to, b"none")?;
+            tell_dirt(to, out, 0)
         }
         SingleTiling::Refused(refusal) => {
-            write::refused(refusal);
-            tell_dirt(out, 0);
+            write::refused(to, refusal)?;
+            tell_dirt(to, out, 0)
         }
     }
 }

@@ -1,60 +1,62 @@
 // The parts of an answer about archive files, written to standard output.
 use archive::{FoundRecord, Record, RecordCount};
-use libc::STDOUT_FILENO;
 use refusal::Refusal;
 use replay_text::write;
+use replay_text::write::Output;
+use std::io;
+use std::io::Write;
 
 // A byte, in two hexadecimal digits.
-fn byte(shown: u8) {
-    io::print_hex(STDOUT_FILENO, shown as u64, 2);
+fn byte(to: &mut Output, shown: u8) -> io::Result<()> {
+    write!(to, "{shown:02x}")
 }
 
 // Some bytes, two hexadecimal digits each; `-` if there are none.
-pub fn bytes(shown: &[u8]) {
+pub fn bytes(to: &mut Output, shown: &[u8]) -> io::Result<()> {
     if shown.len() == 0 {
-        write::bytes(b"-");
-        return;
+        return write::bytes(to, b"-");
     }
     let mut i = 0;
     while i < shown.len() {
-        byte(shown[i]);
+        byte(to, shown[i])?;
         i += 1;
     }
+    Ok(())
 }
 
 // The number of records.
-pub fn count(answer: RecordCount) {
+pub fn count(to: &mut Output, answer: RecordCount) -> io::Result<()> {
     match answer {
-        RecordCount::Number(n) => write::number(n),
-        RecordCount::Broken(place) => broken(place),
+        RecordCount::Number(n) => write::number(to, n),
+        RecordCount::Broken(place) => broken(to, place),
     }
 }
 
 // A record that was asked for.
-pub fn found(answer: FoundRecord) {
+pub fn found(to: &mut Output, answer: FoundRecord) -> io::Result<()> {
     match answer {
-        FoundRecord::Is(record) => fields(record),
-        FoundRecord::Broken(place) => broken(place),
-        FoundRecord::Absent => write::refused(Refusal::NoSuchRecord),
+        FoundRecord::Is(record) => fields(to, record),
+        FoundRecord::Broken(place) => broken(to, place),
+        FoundRecord::Absent => write::refused(to, Refusal::NoSuchRecord),
     }
 }
 
 // The place of a broken record, behind its refusal.
-fn broken(place: usize) {
-    write::refused(Refusal::BrokenRecord);
-    write::bytes(b" ");
-    write::number(place);
+fn broken(to: &mut Output, place: usize) -> io::Result<()> {
+    write::refused(to, Refusal::BrokenRecord)?;
+    write::bytes(to, b" ")?;
+    write::number(to, place)
 }
 
 // Id, year, revision, and the count's low and high word.
-fn fields(record: Record) {
-    write::number(record.id as usize);
-    write::bytes(b" ");
-    write::number(record.year as usize);
-    write::bytes(b" ");
-    write::number(record.revision as usize);
-    write::bytes(b" ");
-    io::print_decimal(STDOUT_FILENO, record.low);
-    write::bytes(b" ");
-    io::print_decimal(STDOUT_FILENO, record.high);
+fn fields(to: &mut Output, record: Record) -> io::Result<()> {
+    write::number(to, record.id as usize)?;
+    write::bytes(to, b" ")?;
+    write::number(to, record.year as usize)?;
+    write::bytes(to, b" ")?;
+    write::number(to, record.revision as usize)?;
+    write::bytes(to, b" ")?;
+    let low = record.low;
+    let high = record.high;
+    write!(to, "{low} {high}")
 }

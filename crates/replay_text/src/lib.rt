@@ -3,13 +3,15 @@
 // words (words).
 //
 // No function asks anything of its input: an index past the end finds nothing, and a text that is not
-// understood has a value that says so. Nothing is proved here but that every call is safe and ends, and
-// the contract of `least`: the programs are held to stored answers.
+// understood has a value that says so. A read or a write that fails comes back as its error. Nothing is
+// proved here but that every call is safe and ends, and the contract of `least`: the programs are held to
+// stored answers.
 //
 // A line has fields parted by one blank, the first of them the command. A path is digits 0 to 7,
 // `-` for the empty one; tiles are paths joined by commas, `.` for none. Marks are a hexadecimal
 // number with no zeros in front, cell (row, column) being bit 16 * row + column.
 #![tactic(auto)]
+
 pub mod lines;
 mod places;
 pub mod text;

@@ -1,9 +1,10 @@
 // The lines of standard input, one after the other, in bytes that the caller lends for all of them.
-ghost use Rattle.std.specs.Prelude.{◌≤◌, length};
+ghost use Rattle.std.specs.Prelude.{◌≤◌, IfOk, length};
 
 use crate::least;
 use crate::places::find_between;
-use libc::STDIN_FILENO;
+use std::io;
+use std::io::{Read, Stdin};
 
 // A line: its bytes are those between the two places; so many of the lent bytes hold what has been
 // read. `is_there` is false before the first line and behind the last.
@@ -26,20 +27,21 @@ pub fn before() -> Line {
 }
 
 // The line behind a line. Where what has been read holds no whole line more, the rest of it is moved
-// to the front and more is read behind it. A line that the lent bytes do not hold is cut.
-pub fn next(line: Line, input: &mut [u8]) -> Line {
+// to the front and more is read behind it. A line that the lent bytes do not hold is cut. A failed read
+// comes back as its error.
+pub fn next(line: Line, stdin: &mut Stdin, input: &mut [u8]) -> io::Result<Line> {
     let filled = least(line.filled, input.len());
     let from = place_behind(line.end, filled);
     let end = find_between(input, from, filled, b'\n');
     if end == filled {
-        return read_next(input, from, filled);
+        return read_next(stdin, input, from, filled);
     }
-    Line {
+    Ok(Line {
         from,
         end,
         filled,
         is_there: true,
-    }
+    })
 }
 
 // The place behind a place, and at most the second.
@@ -53,18 +55,18 @@ fn place_behind(end: usize, filled: usize) -> usize
 }
 
 // The line whose first bytes stand between two places, with nothing read behind them.
-fn read_next(input: &mut [u8], from: usize, filled: usize) -> Line
+fn read_next(stdin: &mut Stdin, input: &mut [u8], from: usize, filled: usize) -> io::Result<Line>
     requires { (from ≤ filled) × (filled ≤ length input.old) }
 {
     let kept = move_to_front(input, from, filled);
-    let all = read_behind(input, kept);
+    let all = read_behind(stdin, input, kept)?;
     let end = find_between(input, 0, all, b'\n');
-    Line {
+    Ok(Line {
         from: 0,
         end,
         filled: all,
         is_there: 0 < all,
-    }
+    })
 }
 
 // Moves the bytes between two places to the front, and gives their number.
@@ -82,12 +84,27 @@ fn move_to_front(bytes: &mut [u8], from: usize, end: usize) -> usize
 }
 
 // Reads behind the kept bytes, and gives the number of bytes that are there then.
-fn read_behind(input: &mut [u8], kept: usize) -> usize
+fn read_behind(stdin: &mut Stdin, input: &mut [u8], kept: usize) -> io::Result<usize>
     requires { kept ≤ length input.old }
-    ensures { result ≤ length input.old }
+    ensures { IfOk result (λ n. n ≤ length input.old) }
 {
-    let n = io::read_full(STDIN_FILENO, &mut input[kept..]);
-    kept + n
+    let n = read_full(stdin, &mut input[kept..])?;
+    Ok(kept + n)
+}
+
+// Reads until the bytes are full or the input ends, and gives how many bytes were read.
+fn read_full(stdin: &mut Stdin, bytes: &mut [u8]) -> io::Result<usize>
+    ensures { IfOk result (λ n. n ≤ length bytes.old) }
+{
+    let mut done = 0;
+    while done < bytes.len() {
+        let n = stdin.read(&mut bytes[done..])?;
+        if n == 0 {
+            break;
+        }
+        done += n;
+    }
+    Ok(done)
 }
 
 // The bytes of a line; none if they are not within the input.

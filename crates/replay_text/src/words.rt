@@ -1,11 +1,14 @@
 // A look at words that were lent: whether they are zero where they have to be.
 use crate::write;
+use crate::write::Output;
+use std::io;
 
 // Says `dirty` if a word from a place on is not zero.
-pub fn tell_dirt(words: &[u64], from: usize) {
+pub fn tell_dirt(to: &mut Output, words: &[u64], from: usize) -> io::Result<()> {
     if !is_zero_from(words, from) {
-        write::bytes(b" dirty");
+        write::bytes(to, b" dirty")?;
     }
+    Ok(())
 }
 
 // Whether the words from a place on are zero.

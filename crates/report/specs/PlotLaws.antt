@@ -94,14 +94,14 @@ module _ (plot : Plot) (ok : AcceptedPlot plot) where
         of_plot (λ d paths. Exactly n (IsCutting d paths)) (count_cuttings_lem b fixed laid ts (free_struct free) (joined_struct joined) plot_boards n told)
 
   module _ (n : ℕ) (e : plot_cuttings plot ≡ given n) where
-    figure_told : count_cuttings b ts plot_boards ≡ given n
-    figure_told = held_cuttings plot b ts holds_struct ∙ e
+    figure_told_lem : count_cuttings b ts plot_boards ≡ given n
+    figure_told_lem = held_cuttings plot b ts holds_struct ∙ e
 
     pub cuttings_fit : n < count_limit
-    cuttings_fit = figure_fits b ts fixed laid plot_boards n figure_told
+    cuttings_fit = figure_fits b ts fixed laid plot_boards n figure_told_lem
 
     pub figure_cuttings : AllEdgeJoined plot.tiles → Exactly n (IsCutting plot.board plot.tiles)
-    figure_cuttings joined = of_plot (λ d paths. Exactly n (IsCutting d paths)) (figure_is_cuttings b ts fixed laid (joined_struct joined) plot_boards n figure_told)
+    figure_cuttings joined = of_plot (λ d paths. Exactly n (IsCutting d paths)) (figure_is_cuttings b ts fixed laid (joined_struct joined) plot_boards n figure_told_lem)
 
   -- where the figure is the layer count
   pub figure_free : HasFreeCell plot.board → plot_cuttings plot ≡ plot_layers plot

@@ -2,6 +2,7 @@
 // file's bytes alone (specs/Report.antt), and nothing is asked of a caller. A text that is longer
 // than the lent bytes is cut at their end; the program's are long enough for every file.
 #![tactic(auto)]
+
 ghost use Rattle.std.specs.Prelude.{◌≡◌, ◌≤◌, ◌<◌, length};
 ghost use mathlib.Core.List.{◌++◌, flat_map};
 ghost use Rattle.cells.specs.Lists.{list_of};

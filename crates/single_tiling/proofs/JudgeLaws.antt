@@ -29,16 +29,16 @@ use Rattle.single_tiling.specs.Inner.{Read, judge_tiles}
 -- ---- `judge_tiles`: the tiles, then the room
 
 module _ (ts : Tiles) (room free : ℕ) (v : Verdict) (e : verdict_number v ≡ refusal_of (read_tiles ts)) where
-  tiles_given : v ≡ Verdicts.Accepted → read_tiles ts ≡ given (paths_in ts)
-  tiles_given q = (read_tiles_accepted ts (sym (ap verdict_number q) ∙ e)).1
+  tiles_given_lem : v ≡ Verdicts.Accepted → read_tiles ts ≡ given (paths_in ts)
+  tiles_given_lem q = (read_tiles_accepted ts (sym (ap verdict_number q) ∙ e)).1
 
   pub tiles_free : v ≡ Verdicts.Accepted → free < room → given free ≡ judge_tiles ts room free
   unfolding judge_tiles bind_answer
-  tiles_free q h = let k : free + 1 ≤ room = omega arith in rw (tiles_given q, le-leb (free + 1) room k)
+  tiles_free q h = let k : free + 1 ≤ room = omega arith in rw (tiles_given_lem q, le-leb (free + 1) room k)
 
   pub tiles_no_room : v ≡ Verdicts.Accepted → room ≤ free → refused 8 ≡ judge_tiles ts room free
   unfolding judge_tiles bind_answer
-  tiles_no_room q h = let k : room < free + 1 = omega arith in rw (tiles_given q, lt-leb (free + 1) room k)
+  tiles_no_room q h = let k : room < free + 1 = omega arith in rw (tiles_given_lem q, lt-leb (free + 1) room k)
 
   pub tiles_refused : (q : Refusal) → v ≡ Verdicts.Refused q → refused (refusal_number q) ≡ judge_tiles ts room free
   unfolding judge_tiles bind_answer

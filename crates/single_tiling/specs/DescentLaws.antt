@@ -26,7 +26,7 @@ use Rattle.expansion.specs.Boards.{From}
 use Rattle.expansion.proofs.SettingLaws.{start_at_lem, start_ok}
 use Rattle.single_tiling.specs.declared.descent.Place.TheVariants as P
 use Rattle.single_tiling.specs.SingleTiling.{Finds}
-use Rattle.single_tiling.specs.Inner.{first_of, in_front, firstTiling, first_tiling_from, single_of, fit_index, place_of, place_for, New}
+use Rattle.single_tiling.specs.Inner.{first_of, in_front, first_tiling, first_tiling_from, single_of, fit_index, place_of, place_for, New}
 use Rattle.single_tiling.specs.FirstLaws.{or_else_nil, first_of_ext, first_of_map, tiling_full, tiling_more, tiling_none, tiling_steps, tiling_sound, tiling_complete}
 use Rattle.single_tiling.specs.IndexLaws.{pieces_by_index, lay_fewer}
 use Rattle.single_tiling.specs.TilingLaws.{child_falls, sequence_length, full_no_tiling, sequence_tiling}
@@ -119,8 +119,8 @@ module _ (b : Board) (good : So (valid b)) (fixed_lt : b.fixed < 2 ^ 256) (laid_
   abbrev full_at : ℕ → Bool
   full_at n = is_full (board_at b n)
 
-  abbrev freeAtNumber : ℕ → ℕ
-  freeAtNumber n = free_count (board_at b n)
+  abbrev free_at_number : ℕ → ℕ
+  free_at_number n = free_count (board_at b n)
 
   pub first_full : is_full b ≡ true → first_tiling_from b paths ≡ marks b ∷ []
   unfolding first_tiling_from
@@ -134,11 +134,11 @@ module _ (b : Board) (good : So (valid b)) (fixed_lt : b.fixed < 2 ^ 256) (laid_
 
   -- the walk from a laid piece, in one step less
   laid_walk : (k : ℕ) → free_count b ≡ suc k → (p : ℕ) → IsPiece b paths p
-      → firstTiling full_at (children_at b paths) k (marks (lay b p)) ≡ first_tiling_from (lay b p) paths
+      → first_tiling full_at (children_at b paths) k (marks (lay b p)) ≡ first_tiling_from (lay b p) paths
   unfolding first_tiling_from lay
   laid_walk k e p piece =
       let same : free_count (board_at b (marks (lay b p))) ≡ free_count (lay b p) = ap free_count (laid_at b good paths fixed_lt p piece) in
-      tiling_steps full_at (children_at b paths) (From b) freeAtNumber (child_falls b good paths) k (free_count (lay b p)) (marks (lay b p))
+      tiling_steps full_at (children_at b paths) (From b) free_at_number (child_falls b good paths) k (free_count (lay b p)) (marks (lay b p))
       (laid_from b good paths fixed_lt p piece)
       (at_most_rest (free_count (board_at b (marks (lay b p)))) (free_count (lay b p)) (free_count b) k same (lay_fewer b good paths p piece) e)
       (at_most (free_count (board_at b (marks (lay b p)))) (free_count (lay b p)) same)
@@ -149,10 +149,10 @@ module _ (b : Board) (good : So (valid b)) (fixed_lt : b.fixed < 2 ^ 256) (laid_
   first_place small e cell q =
       let r = free_some b e in
       let place = place_cell b paths cell q in
-      let below : ℕ → List ℕ = firstTiling full_at (children_at b paths) r.0 in
+      let below : ℕ → List ℕ = first_tiling full_at (children_at b paths) r.0 in
       let kids : children_at b paths (marks b) ≡ map (λ p. marks (lay b p)) (pieces b paths cell) =
       ap (λ (d : Board). children d paths) (start_at_lem b paths good fixed_lt laid_lt) ∙ children_chosen b paths place.0 cell place.1 in
-      ap (λ (n : ℕ). firstTiling full_at (children_at b paths) n (marks b)) r.1
+      ap (λ (n : ℕ). first_tiling full_at (children_at b paths) n (marks b)) r.1
       ∙ tiling_more full_at (children_at b paths) r.0 (marks b) (ap is_full (start_at_lem b paths good fixed_lt laid_lt) ∙ e)
       ∙ ap (in_front (marks b))
       (ap (first_of below) kids
@@ -171,7 +171,7 @@ module _ (b : Board) (good : So (valid b)) (fixed_lt : b.fixed < 2 ^ 256) (laid_
   first_complete : first_tiling_from b paths ≡ [] → (t : ℕ) (xs : List ℕ) → ChildSequence (children_at b paths) (marks b) t xs → So (is_full (board_at b t)) → ⊥
   unfolding first_tiling_from
   first_complete e =
-      tiling_complete full_at (children_at b paths) (From b) freeAtNumber (child_falls b good paths) (free_count b) (marks b) (start_ok b paths good fixed_lt laid_lt)
+      tiling_complete full_at (children_at b paths) (From b) free_at_number (child_falls b good paths) (free_count b) (marks b) (start_ok b paths good fixed_lt laid_lt)
       (at_most (free_count (board_at b (marks b))) (free_count b) (ap free_count (start_at_lem b paths good fixed_lt laid_lt))) e
 
   pub length_first : length (first_tiling_from b paths) ≤ free_count b + 1

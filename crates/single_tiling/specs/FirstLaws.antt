@@ -15,10 +15,10 @@ use mathlib.Core.List.{List, [], ◌∷◌, ◌++◌, map, flat_map, nil≢cons,
 use Prim.Native.Nat.{ℕ, zero, suc, ◌+◌, ◌-◌, ◌≤◌, ◌<◌}
 use native.Mathlib.Omega.{arith}
 use Rattle.cells.specs.FirstsLaws.{Tells, holds_iff, add_new_old, add_new_new}
-use Rattle.cells.specs.Lists.{holds, addNew, addFirsts, firsts, list_from, list_of}
+use Rattle.cells.specs.Lists.{holds, add_new, add_firsts, firsts, list_from, list_of}
 use Rattle.cells.specs.MemberLaws.{mem_list_of}
 use Rattle.covers.specs.Counts.{Steps, ChildSequence}
-use Rattle.single_tiling.specs.Inner.{or_else, first_of, in_front, firstTiling}
+use Rattle.single_tiling.specs.Inner.{or_else, first_of, in_front, first_tiling}
 
 -- ---- the first of two lists
 
@@ -112,21 +112,21 @@ module _ {A B : Type 0} (f : A → List B) where
 
   -- what appears again makes no difference
   module _ (same : A → A → Bool) (tells : Tells same) where
-    first_of_add_new : (xs : List A) (y : A) → first_of f (addNew same xs y) ≡ or_else (first_of f xs) (f y)
+    first_of_add_new : (xs : List A) (y : A) → first_of f (add_new same xs y) ≡ or_else (first_of f xs) (f y)
     unfolding first_of
     first_of_add_new xs y = go (holds same xs y) refl
       where
-        go : (t : Bool) → holds same xs y ≡ t → first_of f (addNew same xs y) ≡ or_else (first_of f xs) (f y)
+        go : (t : Bool) → holds same xs y ≡ t → first_of f (add_new same xs y) ≡ or_else (first_of f xs) (f y)
         go true e =
             ap (first_of f) (add_new_old same xs y e)
             ∙ sym (or_else_same (first_of f xs) (f y) (λ q. first_of_none xs q y ((holds_iff same tells xs y).0 e)))
         go false e = ap (first_of f) (add_new_new same xs y e) ∙ first_of_append xs (y ∷ []) ∙ ap (or_else (first_of f xs)) (or_else_nil (f y))
 
-    first_of_add_firsts : (xs ys : List A) → first_of f (addFirsts same xs ys) ≡ or_else (first_of f xs) (first_of f ys)
-    unfolding first_of addFirsts
+    first_of_add_firsts : (xs ys : List A) → first_of f (add_firsts same xs ys) ≡ or_else (first_of f xs) (first_of f ys)
+    unfolding first_of add_firsts
     first_of_add_firsts xs [] = sym (or_else_nil (first_of f xs))
     first_of_add_firsts xs (y ∷ ys) =
-        first_of_add_firsts (addNew same xs y) ys
+        first_of_add_firsts (add_new same xs y) ys
         ∙ ap (λ (l : List B). or_else l (first_of f ys)) (first_of_add_new xs y)
         ∙ or_else_assoc (first_of f xs) (f y) (first_of f ys)
 
@@ -201,38 +201,38 @@ module _ {B : Type 0} where
 -- ---- the first tiling
 
 module _ {B : Type 0} (full : B → Bool) (children : B → List B) where
-  pub tiling_full : (n : ℕ) (s : B) → full s ≡ true → firstTiling full children n s ≡ s ∷ []
-  unfolding firstTiling
+  pub tiling_full : (n : ℕ) (s : B) → full s ≡ true → first_tiling full children n s ≡ s ∷ []
+  unfolding first_tiling
   tiling_full zero s e = rw e
   tiling_full (suc n) s e = rw e
 
-  pub tiling_more : (n : ℕ) (s : B) → full s ≡ false → firstTiling full children (suc n) s ≡ in_front s (first_of (firstTiling full children n) (children s))
-  unfolding firstTiling
+  pub tiling_more : (n : ℕ) (s : B) → full s ≡ false → first_tiling full children (suc n) s ≡ in_front s (first_of (first_tiling full children n) (children s))
+  unfolding first_tiling
   tiling_more n s e = rw e
 
   -- a board that is not full and has no children
-  pub tiling_none : (n : ℕ) (s : B) → full s ≡ false → children s ≡ [] → firstTiling full children n s ≡ []
-  unfolding firstTiling first_of in_front
+  pub tiling_none : (n : ℕ) (s : B) → full s ≡ false → children s ≡ [] → first_tiling full children n s ≡ []
+  unfolding first_tiling first_of in_front
   tiling_none zero s e q = rw e
   tiling_none (suc n) s e q = rw (e, q)
 
   -- what is found is a child sequence to a full board
-  pub tiling_sound : (n : ℕ) (s x : B) (xs : List B) → firstTiling full children n s ≡ x ∷ xs → (t : B) × ChildSequence children s t (x ∷ xs) × So (full t)
-  unfolding firstTiling
+  pub tiling_sound : (n : ℕ) (s x : B) (xs : List B) → first_tiling full children n s ≡ x ∷ xs → (t : B) × ChildSequence children s t (x ∷ xs) × So (full t)
+  unfolding first_tiling
   tiling_sound zero s x xs e = go (full s) refl e
     where
       go : (t : Bool) → full s ≡ t → cond t (s ∷ []) [] ≡ x ∷ xs → (t : B) × ChildSequence children s t (x ∷ xs) × So (full t)
       go true f e = subst (λ (l : List B). (t : B) × ChildSequence children s t l × So (full t)) e (s, (refl, refl), f)
       go false f e = absurd (nil≢cons e)
-  tiling_sound (suc n) s x xs e = go (full s) refl (first_of (firstTiling full children n) (children s)) refl e (tiling_sound n)
+  tiling_sound (suc n) s x xs e = go (full s) refl (first_of (first_tiling full children n) (children s)) refl e (tiling_sound n)
     where
-      go : (t : Bool) → full s ≡ t → (l : List B) → first_of (firstTiling full children n) (children s) ≡ l → cond t (s ∷ []) (in_front s l) ≡ x ∷ xs
-          → ((u y : B) (ys : List B) → firstTiling full children n u ≡ y ∷ ys → (t : B) × ChildSequence children u t (y ∷ ys) × So (full t))
+      go : (t : Bool) → full s ≡ t → (l : List B) → first_of (first_tiling full children n) (children s) ≡ l → cond t (s ∷ []) (in_front s l) ≡ x ∷ xs
+          → ((u y : B) (ys : List B) → first_tiling full children n u ≡ y ∷ ys → (t : B) × ChildSequence children u t (y ∷ ys) × So (full t))
           → (t : B) × ChildSequence children s t (x ∷ xs) × So (full t)
       go true f l q e rest = subst (λ (l : List B). (t : B) × ChildSequence children s t l × So (full t)) e (s, (refl, refl), f)
       go false f [] q e rest = absurd (nil≢cons (sym (in_front_none s [] refl) ∙ e))
       go false f (y ∷ ys) q e rest =
-          let c = first_of_some (firstTiling full children n) (children s) y ys q in
+          let c = first_of_some (first_tiling full children n) (children s) y ys q in
           let r = rest c.0 y ys c.2 in
           subst (λ (l : List B). (t : B) × ChildSequence children s t l × So (full t)) (sym (in_front_some s (y ∷ ys) (omega arith)) ∙ e)
           (r.0, (refl, (cast r.1.0 c.1, r.1.1)), r.2)
@@ -240,21 +240,21 @@ module _ {B : Type 0} (full : B → Bool) (children : B → List B) where
   -- of a measure that falls at each child
   module _ (Ok : B → Type 0) (μ : B → ℕ) (falls : (s t : B) → Ok s → Mem t (children s) → Ok t × (μ t < μ s)) where
     -- nothing is found behind a board of measure 0
-    low : (n : ℕ) (s : B) → Ok s → μ s ≤ 0 → first_of (firstTiling full children n) (children s) ≡ []
-    low n s ok h = none_first_of (firstTiling full children n) (children s) (λ t m. let r = falls s t ok m in let l = r.1 in absurd (omega arith))
+    low : (n : ℕ) (s : B) → Ok s → μ s ≤ 0 → first_of (first_tiling full children n) (children s) ≡ []
+    low n s ok h = none_first_of (first_tiling full children n) (children s) (λ t m. let r = falls s t ok m in let l = r.1 in absurd (omega arith))
 
-    pub tiling_steps : (n m : ℕ) (s : B) → Ok s → μ s ≤ n → μ s ≤ m → firstTiling full children n s ≡ firstTiling full children m s
-    unfolding firstTiling
+    pub tiling_steps : (n m : ℕ) (s : B) → Ok s → μ s ≤ n → μ s ≤ m → first_tiling full children n s ≡ first_tiling full children m s
+    unfolding first_tiling
     tiling_steps zero zero s ok h k = refl
-    tiling_steps zero (suc m) s ok h k = ap (cond (full s) (s ∷ [])) (sym (in_front_none s (first_of (firstTiling full children m) (children s)) (low m s ok h)))
-    tiling_steps (suc n) zero s ok h k = ap (cond (full s) (s ∷ [])) (in_front_none s (first_of (firstTiling full children n) (children s)) (low n s ok k))
+    tiling_steps zero (suc m) s ok h k = ap (cond (full s) (s ∷ [])) (sym (in_front_none s (first_of (first_tiling full children m) (children s)) (low m s ok h)))
+    tiling_steps (suc n) zero s ok h k = ap (cond (full s) (s ∷ [])) (in_front_none s (first_of (first_tiling full children n) (children s)) (low n s ok k))
     tiling_steps (suc n) (suc m) s ok h k =
         ap (λ (l : List B). cond (full s) (s ∷ []) (in_front s l))
-        (first_of_ext (firstTiling full children n) (firstTiling full children m) (children s)
+        (first_of_ext (first_tiling full children n) (first_tiling full children m) (children s)
         (λ t c. let r = falls s t ok c in let l = r.1 in tiling_steps n m t r.0 (omega arith) (omega arith)))
 
     -- where nothing is found no child sequence comes to a full board
-    steps_complete : (n : ℕ) (s : B) → Ok s → μ s ≤ n → firstTiling full children n s ≡ []
+    steps_complete : (n : ℕ) (s : B) → Ok s → μ s ≤ n → first_tiling full children n s ≡ []
         → (t : B) (xs : List B) → Steps (λ s t. Mem t (children s)) s xs t → So (full t) → ⊥
     steps_complete zero s ok h e t [] w f = cons≢nil (sym (tiling_full zero s (ap full w ∙ f)) ∙ e)
     steps_complete zero s ok h e t (y ∷ ys) w f = let l = (falls s y ok w.0).1 in absurd (omega arith)
@@ -262,15 +262,15 @@ module _ {B : Type 0} (full : B → Bool) (children : B → List B) where
     steps_complete (suc n) s ok h e t (y ∷ ys) w f = go (full s) refl (steps_complete n y)
       where
         go : (v : Bool) → full s ≡ v
-            → (Ok y → μ y ≤ n → firstTiling full children n y ≡ [] → (t : B) (xs : List B) → Steps (λ s t. Mem t (children s)) y xs t → So (full t) → ⊥) → ⊥
+            → (Ok y → μ y ≤ n → first_tiling full children n y ≡ [] → (t : B) (xs : List B) → Steps (λ s t. Mem t (children s)) y xs t → So (full t) → ⊥) → ⊥
         go true q rest = cons≢nil (sym (tiling_full (suc n) s q) ∙ e)
         go false q rest =
             let r = falls s y ok w.0 in
             let l = r.1 in
-            let nothing = none_in_front s (first_of (firstTiling full children n) (children s)) (sym (tiling_more n s q) ∙ e) in
-            rest r.0 (omega arith) (first_of_none (firstTiling full children n) (children s) nothing y w.0) t ys w.1 f
+            let nothing = none_in_front s (first_of (first_tiling full children n) (children s)) (sym (tiling_more n s q) ∙ e) in
+            rest r.0 (omega arith) (first_of_none (first_tiling full children n) (children s) nothing y w.0) t ys w.1 f
 
-    pub tiling_complete : (n : ℕ) (s : B) → Ok s → μ s ≤ n → firstTiling full children n s ≡ []
+    pub tiling_complete : (n : ℕ) (s : B) → Ok s → μ s ≤ n → first_tiling full children n s ≡ []
         → (t : B) (xs : List B) → ChildSequence children s t xs → So (full t) → ⊥
     tiling_complete n s ok h e t [] w f = w
     tiling_complete n s ok h e t (x ∷ xs) w f =

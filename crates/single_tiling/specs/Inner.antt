@@ -42,15 +42,15 @@ in_front s (x ∷ xs) = s ∷ x ∷ xs
 
 -- the boards from s on, in at most n steps, to the full board that is met first; none where none is met
 module _ {B : Type 0} (full : B → Bool) (children : B → List B) where
-  unfoldable pub firstTiling : ℕ → B → List B
+  unfoldable pub first_tiling : ℕ → B → List B
   unfolding first_of in_front
-  firstTiling zero s = cond (full s) (s ∷ []) []
-  firstTiling (suc n) s = cond (full s) (s ∷ []) (in_front s (first_of (firstTiling n) (children s)))
+  first_tiling zero s = cond (full s) (s ∷ []) []
+  first_tiling (suc n) s = cond (full s) (s ∷ []) (in_front s (first_of (first_tiling n) (children s)))
 
 -- from a board: as many steps as cells are free are enough
 unfoldable pub first_tiling_from : Board → List Path → List ℕ
-unfolding firstTiling is_full children free_count marks
-first_tiling_from b paths = firstTiling (λ n. is_full (board_at b n)) (children_at b paths) (free_count b) (marks b)
+unfolding first_tiling is_full children free_count marks
+first_tiling_from b paths = first_tiling (λ n. is_full (board_at b n)) (children_at b paths) (free_count b) (marks b)
 
 -- the same, of one piece or more
 unfoldable pub single_of : Board → List Path → List ℕ

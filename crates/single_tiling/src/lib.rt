@@ -6,6 +6,7 @@
 // What the call answers and leaves in the lent words is a definition of specs/SingleTiling.antt. What
 // follows from the contract is on specs/Theorems.antt.
 #![tactic(auto)]
+
 ghost use Rattle.std.specs.Prelude.{◌≡◌, ◌/◌, length};
 ghost use Rattle.refusal.specs.Refusal.{map_answer};
 ghost use Rattle.tiles.specs.Paths.{contains_single, paths_in};

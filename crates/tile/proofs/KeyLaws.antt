@@ -10,7 +10,7 @@ use lib.Dec.{eqb, lit≤}
 use lib.IntN.{ℤ, pos, negsuc, ◌+ℤ◌, +ℤ_assoc, +ℤ_comm, +ℤ_idr, +ℤ-neg_ℤ_cancel, pos-+ℤ-pos}
 use lib.ListN.{length, get_or, take, drop, set, length-map, get_or-eq_default}
 use lib.Seq.{drop-cons, drop-length, take-suc-set}
-use Rattle.cells.specs.Lists.{holds, addNew, addFirsts, firsts}
+use Rattle.cells.specs.Lists.{holds, add_new, add_firsts, firsts}
 use Rattle.cells.specs.FirstsLaws.{firsts_map, so_eq}
 use Rattle.tile.specs.declared.points.Keys.{Keys}
 use Rattle.direction.specs.Direction.{Position, at, shift, same_position, step}
@@ -106,7 +106,7 @@ keys_after_points (code ∷ path) i k ok n h =
     (ap (λ (p : Position). points p path) (sym (keyed_step code o.0 k (near_away i k n j)))
     ∙ keys_after_points path (i + 1) (k + key_step code - 101) o.1 (near_step code o.0 i k n j) (omega arith))
 
-pub cell_count_keys : (path : Path) → So (codes_ok path) → length path ≤ 32 → length (addFirsts eqb (5050 ∷ []) (keys_after 5050 path)) ≡ cell_count path
+pub cell_count_keys : (path : Path) → So (codes_ok path) → length path ≤ 32 → length (add_firsts eqb (5050 ∷ []) (keys_after 5050 path)) ≡ cell_count path
 unfolding cell_count cells firsts
 cell_count_keys path ok h =
     sym (ap (λ (l : List Position). length (firsts same_position l)) (keys_after_points path 0 5050 ok near_first (omega arith))
@@ -117,12 +117,12 @@ cell_count_keys path ok h =
 
 -- the keys that are left, one by one
 pub add_firsts_step : (path : Path) (i k : ℕ) (ks : List ℕ) → i < length path
-    → addFirsts eqb ks (keys_after k (drop i path)) ≡ addFirsts eqb (addNew eqb ks (k + key_step (get_or path i 0) - 101)) (keys_after (k + key_step (get_or path i 0) - 101) (drop (i + 1) path))
-unfolding addFirsts keys_after
+    → add_firsts eqb ks (keys_after k (drop i path)) ≡ add_firsts eqb (add_new eqb ks (k + key_step (get_or path i 0) - 101)) (keys_after (k + key_step (get_or path i 0) - 101) (drop (i + 1) path))
+unfolding add_firsts keys_after
 add_firsts_step path i k ks h = rw (add-one, drop-cons path i 0 h)
 
-pub add_firsts_end : (path : Path) (i k : ℕ) (ks : List ℕ) → length path ≤ i → i ≤ length path → addFirsts eqb ks (keys_after k (drop i path)) ≡ ks
-unfolding addFirsts keys_after
+pub add_firsts_end : (path : Path) (i k : ℕ) (ks : List ℕ) → length path ≤ i → i ≤ length path → add_firsts eqb ks (keys_after k (drop i path)) ≡ ks
+unfolding add_firsts keys_after
 add_firsts_end path i k ks h j = let e : i ≡ length path = omega arith in rw (e, drop-length path)
 
 pub key_step_past : (code : ℕ) → 8 ≤ code → 101 ≡ key_step code
@@ -130,10 +130,10 @@ unfolding key_step
 key_step_past code h = sym (get_or-eq_default (1 ∷ 201 ∷ 100 ∷ 102 ∷ 0 ∷ 2 ∷ 202 ∷ 200 ∷ []) 101 h)
 
 -- a new key is stored behind the keys that were seen
-pub keys_in_new : (s r : Keys) (k : ℕ) → s.n < length s.keys → r ≡ record { n = s.n + 1; keys = set s.keys s.n k } → holds eqb (keys_in s) k ≡ false → keys_in r ≡ addNew eqb (keys_in s) k
-unfolding addNew
+pub keys_in_new : (s r : Keys) (k : ℕ) → s.n < length s.keys → r ≡ record { n = s.n + 1; keys = set s.keys s.n k } → holds eqb (keys_in s) k ≡ false → keys_in r ≡ add_new eqb (keys_in s) k
+unfolding add_new
 keys_in_new s r k h e n = ap keys_in e ∙ ap (λ (j : ℕ). take j (set s.keys s.n k)) (add-one s.n) ∙ take-suc-set s.keys s.n k h ∙ rw n
 
-pub keys_in_old : (s : Keys) (k : ℕ) → holds eqb (keys_in s) k ≡ true → keys_in s ≡ addNew eqb (keys_in s) k
-unfolding addNew
+pub keys_in_old : (s : Keys) (k : ℕ) → holds eqb (keys_in s) k ≡ true → keys_in s ≡ add_new eqb (keys_in s) k
+unfolding add_new
 keys_in_old s k e = rw e

@@ -10,7 +10,7 @@ use mathlib.Core.List.Memᴰ.{map as mem-map}
 use mathlib.Core.List.Memᴰ.{of_map}
 use mathlib.Core.List.{List, [], ◌∷◌, map, Memᴰ as Mem}
 use Rattle.std.proofs.Math.ListN.{length, length-map}
-use Rattle.cells.specs.Lists.{holds, addNew, addFirsts, firsts}
+use Rattle.cells.specs.Lists.{holds, add_new, add_firsts, firsts}
 use Rattle.cells.specs.FirstsLaws.{firsts_map, length_add_firsts, mem_firsts}
 use Rattle.direction.specs.declared.Axis.TheVariants as A
 use Rattle.direction.specs.Direction.{Position, origin, shift, same_position, step, rotate, reflect}
@@ -107,11 +107,11 @@ unfolding cell_count points firsts
 cell_count_more code path h =
     let q : Position = shift origin (step code) in
     let rest = points_first q path in
-    subst (λ (l : List Position). 2 ≤ length (addFirsts same_position (origin ∷ []) l)) (sym rest.1)
-    (subst (λ (l : List Position). 2 ≤ length (addFirsts same_position l rest.0)) (sym (two q (step_moves code h)))
+    subst (λ (l : List Position). 2 ≤ length (add_firsts same_position (origin ∷ []) l)) (sym rest.1)
+    (subst (λ (l : List Position). 2 ≤ length (add_firsts same_position l rest.0)) (sym (two q (step_moves code h)))
     (length_add_firsts same_position (origin ∷ q ∷ []) rest.0).0)
   where
-    two : (q : Position) → holds same_position (origin ∷ []) q ≡ false → addNew same_position (origin ∷ []) q ≡ origin ∷ q ∷ []
+    two : (q : Position) → holds same_position (origin ∷ []) q ≡ false → add_new same_position (origin ∷ []) q ≡ origin ∷ q ∷ []
     two q e = rw e
 
 pub codes_ok_cons : (code : ℕ) (path : Path) → So (codes_ok (code ∷ path)) → (code < 8) × So (codes_ok path)

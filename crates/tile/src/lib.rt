@@ -5,6 +5,7 @@
 // or a code over 7), so that nothing is asked of a caller. What each call answers is a definition of
 // specs/Path.antt.
 #![tactic(auto)]
+
 ghost use Rattle.std.specs.Prelude.{◌≡◌, []};
 ghost use Rattle.refusal.specs.Refusal.{refusal_number, map_answer, refusal_of, verdict_number};
 ghost use Rattle.tile.specs.Path.{is_path, cell_count, rotated, reflected, read_tile, read_path, tile_of, MakesTile, cell_count_answer, l_tile, t_tile};

@@ -3,7 +3,7 @@
 // side. Private helpers.
 ghost use Rattle.std.specs.Prelude.{◌≡◌, ◌+◌, ◌≤◌, eqb, length};
 ghost use Rattle.std.proofs.Math.Bool.{So};
-ghost use Rattle.cells.specs.Lists.{holds, addNew};
+ghost use Rattle.cells.specs.Lists.{holds, add_new};
 ghost use Rattle.tile.specs.Path.{codes_ok, cell_count};
 ghost use Rattle.tile.specs.Inner.{key_step, keys_in};
 
@@ -48,7 +48,7 @@ fn has_key(keys: &[usize], key: usize) -> bool
 // The keys with one more, unless it is there.
 fn with_key(seen: Keys, key: usize) -> Keys
     requires { seen.n ≤ 32 }
-    ensures { (keys_in result ≡ addNew eqb (keys_in seen) key) × (result.n ≤ seen.n + 1) }
+    ensures { (keys_in result ≡ add_new eqb (keys_in seen) key) × (result.n ≤ seen.n + 1) }
 {
     let n = seen.n;
     let mut keys = seen.keys;

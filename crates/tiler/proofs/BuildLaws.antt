@@ -22,11 +22,11 @@ use Rattle.tiles.specs.Paths.{paths_in}
 use Rattle.board.specs.declared.RectangularBoard.{RectangularBoard}
 use Rattle.board.specs.Board.{board_of}
 use Rattle.rectangle.proofs.BoardLaws.{marks_lt}
-use Rattle.covers.specs.Setting.{Setting, childBoards, Laws, EqualSteps, nodesOf, graphEdges}
+use Rattle.covers.specs.Setting.{Setting, child_boards, Laws, EqualSteps, nodes_of, graph_edges}
 use Rattle.covers.specs.Counts.{number_in}
 use Rattle.covers.proofs.NodeLaws.{number_right}
 use Rattle.covers.proofs.SettingLaws.{node_ok, some_node}
-use Rattle.covers.specs.Inner.{addChild, addChildren}
+use Rattle.covers.specs.Inner.{add_child, add_children}
 use Rattle.covers.proofs.FindingLaws.{add_children_snoc, add_children_longer, found_at, edges_at, found_zero, found_prefix, found_at_lem, found_end, edges_zero, edges_all, expanded}
 use Rattle.cells.specs.declared.list.Found.{Found}
 use Rattle.cells.specs.declared.list.Found.TheVariants as F
@@ -115,10 +115,10 @@ size_within room n e growth s h = subst (λ (d : Growth). nodes_in d ≤ room) s
 
 module _ (room edges_room : ℕ) (ns es : List ℕ) (growth : Growth) (g : List ℕ × List (ℕ × ℕ)) (k : HoldsGraph room edges_room ns es growth g) (p x : ℕ) where
   -- room was gone before
-  pub child_no_room : growth ≡ G.NoRoom → HoldsGraph room edges_room ns es G.NoRoom (addChild eqb p x g)
-  unfolding addChildren
+  pub child_no_room : growth ≡ G.NoRoom → HoldsGraph room edges_room ns es G.NoRoom (add_child eqb p x g)
+  unfolding add_children
   child_no_room e =
-      no_room_graph room edges_room (addChild eqb p x g) ns es
+      no_room_graph room edges_room (add_child eqb p x g) ns es
       (omega (arith, no_room_held room edges_room g (sym e ∙ k.state), (add_children_longer eqb p (x ∷ []) g).0))
 
   module _ (n e : ℕ) (s : growth ≡ G.Size n e) (lent : 4 * room ≤ length ns) (r : Found) (f : found_answer r ≡ find_set ns 0 n x) where
@@ -151,18 +151,18 @@ module _ (room edges_room : ℕ) (ns es : List ℕ) (growth : Growth) (g : List 
     -- it is a node already
     pub child_old : (i : ℕ) → r ≡ F.At i → (vs : List ℕ) (m : ℕ)
         → ((ds : List (ℕ × ℕ)) → HoldsEdges edges_room es e ds → HoldsEdges edges_room vs m (ds ++ (p, i) ∷ []))
-        → HoldsGraph room edges_room ns vs (G.Size n m) (addChild eqb p x g)
-    unfolding addChild
+        → HoldsGraph room edges_room ns vs (G.Size n m) (add_child eqb p x g)
+    unfolding add_child
     child_old i q vs m more =
         let t = there_is i q in
         rw (add_new_old eqb g.0 x t.0, ← t.1)
         (size_graph room edges_room (g.0, g.1 ++ (p, i) ∷ []) ns vs n m sizes.0 sizes.1 (k.nodes sizes.0) (more g.1 held))
 
     -- there is no room for it
-    pub child_over : r ≡ F.Nothing → room ≤ n → HoldsGraph room edges_room ns es G.NoRoom (addChild eqb p x g)
-    unfolding addChild
+    pub child_over : r ≡ F.Nothing → room ≤ n → HoldsGraph room edges_room ns es G.NoRoom (add_child eqb p x g)
+    unfolding add_child
     child_over q h =
-        no_room_graph room edges_room (addChild eqb p x g) ns es
+        no_room_graph room edges_room (add_child eqb p x g) ns es
         (omega (arith, ap length (add_new_new eqb g.0 x (there_is_none q)), length-append g.0 (x ∷ []), sizes.1))
 
     -- its number is the next
@@ -198,8 +198,8 @@ module _ (room edges_room : ℕ) (ns es : List ℕ) (growth : Growth) (g : List 
 
     pub child_put : r ≡ F.Nothing → n < room → x < 2 ^ 256 → (us : List ℕ) → us ≡ with_set ns n x → (vs : List ℕ) (m : ℕ)
         → ((ds : List (ℕ × ℕ)) → HoldsEdges edges_room es e ds → HoldsEdges edges_room vs m (ds ++ (p, n) ∷ []))
-        → HoldsGraph room edges_room us vs (G.Size (n + 1) m) (addChild eqb p x g)
-    unfolding addChild
+        → HoldsGraph room edges_room us vs (G.Size (n + 1) m) (add_child eqb p x g)
+    unfolding add_child
     child_put q h small us w vs m more =
         rw (add_new_new eqb g.0 x (there_is_none q), new_number q, w)
         (size_graph room edges_room (g.0 ++ x ∷ [], g.1 ++ (p, n) ∷ []) (with_set ns n x) vs (n + 1) m
@@ -208,30 +208,30 @@ module _ (room edges_room : ℕ) (ns es : List ℕ) (growth : Growth) (g : List 
 -- ---- children one after another
 
 module _ (room edges_room : ℕ) (ns es : List ℕ) (growth : Growth) (g : List ℕ × List (ℕ × ℕ)) (p : ℕ) (f : ℕ → ℕ) where
-  pub children_none : HoldsGraph room edges_room ns es growth g → HoldsGraph room edges_room ns es growth (addChildren eqb p (list_of f 0) g)
-  unfolding addChildren list_of list_from
+  pub children_none : HoldsGraph room edges_room ns es growth g → HoldsGraph room edges_room ns es growth (add_children eqb p (list_of f 0) g)
+  unfolding add_children list_of list_from
   children_none k = k
 
-  pub children_more : (i x : ℕ) → x ≡ f i → HoldsGraph room edges_room ns es growth (addChild eqb p x (addChildren eqb p (list_of f i) g))
-      → HoldsGraph room edges_room ns es growth (addChildren eqb p (list_of f (i + 1)) g)
+  pub children_more : (i x : ℕ) → x ≡ f i → HoldsGraph room edges_room ns es growth (add_child eqb p x (add_children eqb p (list_of f i) g))
+      → HoldsGraph room edges_room ns es growth (add_children eqb p (list_of f (i + 1)) g)
   children_more i x e k =
       subst (HoldsGraph room edges_room ns es growth)
       (sym (add_children_snoc eqb p (list_of f i) x g)
-      ∙ ap (λ (l : List ℕ). addChildren eqb p l g) (ap (λ (y : ℕ). list_of f i ++ y ∷ []) e ∙ sym (list_of_snoc f i)))
+      ∙ ap (λ (l : List ℕ). add_children eqb p l g) (ap (λ (y : ℕ). list_of f i ++ y ∷ []) e ∙ sym (list_of_snoc f i)))
       k
 
-  pub children_all : (i n : ℕ) → i ≤ n → n ≤ i → HoldsGraph room edges_room ns es growth (addChildren eqb p (list_of f i) g)
-      → HoldsGraph room edges_room ns es growth (addChildren eqb p (list_of f n) g)
+  pub children_all : (i n : ℕ) → i ≤ n → n ≤ i → HoldsGraph room edges_room ns es growth (add_children eqb p (list_of f i) g)
+      → HoldsGraph room edges_room ns es growth (add_children eqb p (list_of f n) g)
   children_all i n h l k =
       let e : i ≡ n = omega arith in
-      subst (λ (j : ℕ). HoldsGraph room edges_room ns es growth (addChildren eqb p (list_of f j) g)) e k
+      subst (λ (j : ℕ). HoldsGraph room edges_room ns es growth (add_children eqb p (list_of f j) g)) e k
 
 -- the children of a node that was read
 pub children_read : (b : RectangularBoard) (ts : Tiles) (room edges_room : ℕ) (ns es : List ℕ) (growth : Growth) (g : List ℕ × List (ℕ × ℕ)) (p : ℕ)
-    (cs : List ℕ) (m n : ℕ) → cs ≡ childBoards (setting_of b ts) m → m ≡ n → HoldsGraph room edges_room ns es growth (addChildren eqb p cs g)
-    → HoldsGraph room edges_room ns es growth (addChildren eqb p (childBoards (setting_of b ts) n) g)
+    (cs : List ℕ) (m n : ℕ) → cs ≡ child_boards (setting_of b ts) m → m ≡ n → HoldsGraph room edges_room ns es growth (add_children eqb p cs g)
+    → HoldsGraph room edges_room ns es growth (add_children eqb p (child_boards (setting_of b ts) n) g)
 children_read b ts room edges_room ns es growth g p cs m n e q k =
-    subst (λ (l : List ℕ). HoldsGraph room edges_room ns es growth (addChildren eqb p l g)) (e ∙ ap (childBoards (setting_of b ts)) q) k
+    subst (λ (l : List ℕ). HoldsGraph room edges_room ns es growth (add_children eqb p l g)) (e ∙ ap (child_boards (setting_of b ts)) q) k
 
 -- ---- board and tiles that are not refused
 
@@ -240,7 +240,7 @@ abbrev pub found_graph : RectangularBoard → Tiles → ℕ → List ℕ × List
 found_graph b ts i = (found_at (setting_of b ts) (start_of b) i, edges_at (setting_of b ts) (start_of b) i)
 
 abbrev whole_graph : RectangularBoard → Tiles → List ℕ × List (ℕ × ℕ)
-whole_graph b ts = (nodesOf (setting_of b ts) (start_of b), graphEdges (setting_of b ts) (start_of b))
+whole_graph b ts = (nodes_of (setting_of b ts) (start_of b), graph_edges (setting_of b ts) (start_of b))
 
 -- the start is stored as node 0
 zero_lent : (room n : ℕ) → (room ≡ 0 → ⊥) → 4 * room ≤ n → 4 * 0 + 4 ≤ n
@@ -273,7 +273,7 @@ module _ (b : RectangularBoard) (ts : Tiles) (ok : Accepted b ts) (fixed_lt : nu
   good = accepted_start b ts ok fixed_lt laid_lt
 
   abbrev nodes : List ℕ
-  nodes = nodesOf (setting_of b ts) (start_of b)
+  nodes = nodes_of (setting_of b ts) (start_of b)
 
   abbrev found : ℕ → List ℕ
   found i = found_at (setting_of b ts) (start_of b) i
@@ -318,12 +318,12 @@ module _ (b : RectangularBoard) (ts : Tiles) (ok : Accepted b ts) (fixed_lt : nu
 
       -- one node expanded
       pub build_more : i < n → (us vs : List ℕ) (next : Growth)
-          → HoldsGraph room edges_room us vs next (addChildren eqb i (childBoards (setting_of b ts) (set_at ns i)) (found_graph b ts i))
+          → HoldsGraph room edges_room us vs next (add_children eqb i (child_boards (setting_of b ts) (set_at ns i)) (found_graph b ts i))
           → HoldsGraph room edges_room us vs next (found_graph b ts (i + 1))
       unfolding setting
       build_more h us vs next m =
           subst (HoldsGraph room edges_room us vs next)
-          (ap (λ (x : ℕ). addChildren eqb i (childBoards S x) (found_graph b ts i)) (node_is h)
+          (ap (λ (x : ℕ). add_children eqb i (child_boards S x) (found_graph b ts i)) (node_is h)
           ∙ expanded S L a E s good i (below h)
           ∙ ap (found_graph b ts) (sym (add-one i)))
           m

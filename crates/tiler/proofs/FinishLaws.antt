@@ -26,8 +26,8 @@ use Rattle.board.specs.declared.AllMarked.{AllMarked}
 use Rattle.board.specs.declared.AllMarked.TheVariants as M
 use Rattle.rectangle.specs.Board.{Board, board_at, is_full, valid}
 use Rattle.board.specs.Board.{board_of, read_board, all_marked_answer}
-use Rattle.covers.specs.Setting.{Setting, Laws, EqualSteps, entriesOf, nodesOf, graphEdges}
-use Rattle.covers.specs.Counts.{counts, fullFrom, fullNode}
+use Rattle.covers.specs.Setting.{Setting, Laws, EqualSteps, entries_of, nodes_of, graph_edges}
+use Rattle.covers.specs.Counts.{counts, full_from, full_node}
 use Rattle.covers.proofs.SettingLaws.{node_ok}
 use Rattle.covers.proofs.PassLaws.{edge_in}
 use Rattle.graph.specs.Graph.{edge_at, edges_for, node_room, edge_room, complete_node}
@@ -87,21 +87,21 @@ module _ (test : ℕ → Bool) (i : ℕ) (missed : (k : ℕ) → 1 ≤ k → k <
   complete_none n l = sym (first_from_missed test 1 (n - 1) (λ k a b. missed k a (omega arith)))
 
 -- the places hold a list's boards
-full_from : (full : ℕ → Bool) (f : ℕ → ℕ) (ss : List ℕ) (i : ℕ) → ((k : ℕ) → k < length ss → f (i + k) ≡ get_or ss k 0)
-    → first_from (λ i. full (f i)) i (length ss) ≡ fullFrom full i ss
-unfolding first_from fullFrom
-full_from full f [] i h = refl
-full_from full f (s ∷ ss) i h =
+full_from_lem : (full : ℕ → Bool) (f : ℕ → ℕ) (ss : List ℕ) (i : ℕ) → ((k : ℕ) → k < length ss → f (i + k) ≡ get_or ss k 0)
+    → first_from (λ i. full (f i)) i (length ss) ≡ full_from full i ss
+unfolding first_from full_from
+full_from_lem full f [] i h = refl
+full_from_lem full f (s ∷ ss) i h =
     let first : f i ≡ s = ap f (sym (add-zero i)) ∙ h 0 (omega arith) in
-    rw (first, full_from full f ss (suc i) (λ k l. let q : suc i + k ≡ i + suc k = omega arith in ap f q ∙ h (suc k) (omega arith)))
+    rw (first, full_from_lem full f ss (suc i) (λ k l. let q : suc i + k ≡ i + suc k = omega arith in ap f q ∙ h (suc k) (omega arith)))
 
-full_node : (full : ℕ → Bool) (f : ℕ → ℕ) (ss : List ℕ) → list_of f (length ss) ≡ ss
-    → first_from (λ i. full (f i)) 1 (length ss - 1) ≡ fullNode full ss
-unfolding fullNode first_from fullFrom
-full_node full f [] e = refl
-full_node full f (s ∷ ss) e =
+full_node_lem : (full : ℕ → Bool) (f : ℕ → ℕ) (ss : List ℕ) → list_of f (length ss) ≡ ss
+    → first_from (λ i. full (f i)) 1 (length ss - 1) ≡ full_node full ss
+unfolding full_node first_from full_from
+full_node_lem full f [] e = refl
+full_node_lem full f (s ∷ ss) e =
     let l : suc (length ss) - 1 ≡ length ss = omega arith in
-    ap (first_from (λ i. full (f i)) 1) l ∙ full_from full f ss 1 at
+    ap (first_from (λ i. full (f i)) 1) l ∙ full_from_lem full f ss 1 at
   where
     at : (k : ℕ) → k < length ss → f (1 + k) ≡ get_or ss k 0
     at k h =
@@ -164,10 +164,10 @@ module _ (b : RectangularBoard) (ts : Tiles) (accepted : Accepted b ts) (fixed :
   start = start_of b
 
   abbrev nodes : List ℕ
-  nodes = nodesOf S start
+  nodes = nodes_of S start
 
   abbrev edges : List (ℕ × ℕ)
-  edges = graphEdges S start
+  edges = graph_edges S start
 
   laws : Laws S
   laws = accepted_laws b ts accepted
@@ -228,12 +228,12 @@ module _ (b : RectangularBoard) (ts : Tiles) (accepted : Accepted b ts) (fixed :
             ∙ ap (λ (k : ℕ). cleared_from (2 * k) es) all_edges.0
             ∙ cleared_edges es edges (omega (arith, all_edges.1)) (holds.edges sized.0 all_edges.1)
 
-        finished_complete : complete_node r.graph.complete ≡ fullNode S.full nodes
+        finished_complete : complete_node r.graph.complete ≡ full_node S.full nodes
         unfolding setting
         finished_complete =
             finish.complete
             ∙ ap (λ (k : ℕ). first_from (λ i. is_full (board_at (board_of b) (set_at ns i))) 1 (k - 1)) sized.1
-            ∙ full_node (λ m. is_full (board_at (board_of b) m)) (set_at ns) nodes (holds.nodes sized.0)
+            ∙ full_node_lem (λ m. is_full (board_at (board_of b) m)) (set_at ns) nodes (holds.nodes sized.0)
 
   -- ---- what is made of so many lent words
 
@@ -317,7 +317,7 @@ module _ (b : RectangularBoard) (ts : Tiles) (accepted : Accepted b ts) (fixed :
               edges = finished_edges room edges_room ns es growth n e holds size few ns' es' r smallNodes wide_nodes wide_edges finish;
             })
           where
-            are : (cs ≡ counts_for (counts (entriesOf S start)) wc) × (too_large (counts (entriesOf S start)) ≡ false)
+            are : (cs ≡ counts_for (counts (entries_of S start)) wc) × (too_large (counts (entries_of S start)) ≡ false)
             are = pass_counts S laws (step_of (paths_in ts)) equal start ok wc cs t all f
 
             wide_nodes : 4 * room ≤ length ns

@@ -15,7 +15,7 @@ use Rattle.cells.specs.Parts.{cleared_from}
 use Rattle.cells.specs.FirstsLaws.{mem_get_d, any_true, any_some}
 use Rattle.cells.specs.MemberLaws.{mem_place}
 use Rattle.cells.specs.ArrayLaws.{length_list_of, get_d_list_of}
-use Rattle.covers.specs.Setting.{Setting, Laws, EqualSteps, entriesOf, pathCountOf, graphEdges}
+use Rattle.covers.specs.Setting.{Setting, Laws, EqualSteps, entries_of, path_count_of, graph_edges}
 use Rattle.covers.specs.Counts.{counts}
 use Rattle.covers.proofs.PassLaws.{passed, passed_zero, passed_suc, passed_all, passed_le}
 use Rattle.path_count.specs.PathCounts.{count_limit, count_room, count_in, counts_for}
@@ -41,12 +41,12 @@ pub record Passing (words : ℕ) (es : List (ℕ × ℕ)) (j : ℕ) (cs : List �
   pub fits : (v : ℕ) → pass_to first_count es j v < count_limit
 
 module _ (words : ℕ) (ws : List ℕ) (n : ℕ) where
-  abbrev edgesOf : List (ℕ × ℕ)
-  edgesOf = list_of (edge_at ws) n
+  abbrev edges_of : List (ℕ × ℕ)
+  edges_of = list_of (edge_at ws) n
 
   -- the counts after i of the edges
   abbrev after : ℕ → ℕ → ℕ
-  after i = pass_to first_count edgesOf i
+  after i = pass_to first_count edges_of i
 
   after_more : (i v : ℕ) → i < n → after (i + 1) v ≡ cond (eqb v (edge_at ws i).1) (after i v + after i (edge_at ws i).0) (after i v)
   unfolding pass_to
@@ -54,7 +54,7 @@ module _ (words : ℕ) (ws : List ℕ) (n : ℕ) where
       ap (λ (j : ℕ). after j v) (add-one i)
       ∙ ap (λ (e : ℕ × ℕ). cond (eqb v e.1) (after i v + after i e.0) (after i v)) (get_d_list_of (edge_at ws) n i (0, 0) h)
 
-  pub pass_none : (cs : List ℕ) → cs ≡ count_words first_count words → Passing words edgesOf 0 cs
+  pub pass_none : (cs : List ℕ) → cs ≡ count_words first_count words → Passing words edges_of 0 cs
   unfolding pass_to first_count
   pass_none cs e = record { holds = e; fits = λ v. go (eqb v 0) }
     where
@@ -62,7 +62,7 @@ module _ (words : ℕ) (ws : List ℕ) (n : ℕ) where
       go true = lit< tt
       go false = lit< tt
 
-  module _ (cs cs' : List ℕ) (i : ℕ) (r : Bool) (h : i < n) (inv : Passing words edgesOf i cs)
+  module _ (cs cs' : List ℕ) (i : ℕ) (r : Bool) (h : i < n) (inv : Passing words edges_of i cs)
       (ends : ((edge_at ws i).0 < count_room words) × ((edge_at ws i).1 < count_room words))
       (adds : AddsCount cs (edge_at ws i).1 (count_in cs (edge_at ws i).0) cs' r) where
     abbrev child : ℕ
@@ -89,7 +89,7 @@ module _ (words : ℕ) (ws : List ℕ) (n : ℕ) where
         go true q = ap (λ (u : ℕ). after i u + after i (edge_at ws i).0) (sym (eqb-true v child q))
         go false q = refl
 
-    pub pass_more : r ≡ false → Passing words edgesOf (i + 1) cs'
+    pub pass_more : r ≡ false → Passing words edges_of (i + 1) cs'
     pass_more e = record {
       holds = added.1
           ∙ ap (λ (t : Bool). cond t (count_words (after i) words) (count_words (λ v. cond (eqb v child) sum (after i v)) words)) e
@@ -102,7 +102,7 @@ module _ (words : ℕ) (ws : List ℕ) (n : ℕ) where
         go v false = inv.fits v
 
     -- a sum that is too large
-    pub pass_large : r ≡ true → PassesEdges words edgesOf cs' false
+    pub pass_large : r ≡ true → PassesEdges words edges_of cs' false
     pass_large e = record {
       done = λ q. absurd (false≢true q);
       fits = λ q. absurd (false≢true q);
@@ -116,10 +116,10 @@ module _ (words : ℕ) (ws : List ℕ) (n : ℕ) where
         reached = subst (λ (m : ℕ). count_limit ≤ m) (sym here) (leb-true count_limit sum (sym added.0 ∙ e))
 
   -- all edges are passed
-  pub pass_done : (cs : List ℕ) (i : ℕ) → i ≤ n → n ≤ i → Passing words edgesOf i cs → PassesEdges words edgesOf cs true
+  pub pass_done : (cs : List ℕ) (i : ℕ) → i ≤ n → n ≤ i → Passing words edges_of i cs → PassesEdges words edges_of cs true
   pass_done cs i h k inv =
-      let e : i ≡ length edgesOf = omega (arith, length_list_of (edge_at ws) n) in
-      let all = subst (λ (j : ℕ). Passing words edgesOf j cs) e inv in
+      let e : i ≡ length edges_of = omega (arith, length_list_of (edge_at ws) n) in
+      let all = subst (λ (j : ℕ). Passing words edges_of j cs) e inv in
       record { done = λ q. all.holds; fits = λ q. all.fits; large = λ q. absurd (true≢false q) }
 
 -- ---- the counts with which the pass begins
@@ -161,7 +161,7 @@ all_fit ns small = go (any (λ n. leb count_limit n) ns) refl
 
 module _ {P : Type 0} (S : Setting ℕ P) (L : Laws S) (a : ℕ) (E : EqualSteps S a) (s : ℕ) (ok : S.Ok s) where
   abbrev edges : List (ℕ × ℕ)
-  edges = graphEdges S s
+  edges = graph_edges S s
 
   pass_to_passed : (j v : ℕ) → j ≤ length edges → pass_to first_count edges j v ≡ passed S s j v
   unfolding pass_to first_count
@@ -171,30 +171,30 @@ module _ {P : Type 0} (S : Setting ℕ P) (L : Laws S) (a : ℕ) (E : EqualSteps
       (pass_to_passed j (get_or edges j (0, 0)).0 (omega arith))
       ∙ sym (passed_suc S L a E s ok j v (omega arith))
 
-  pass_all : (v : ℕ) → pass_to first_count edges (length edges) v ≡ pathCountOf S s v
+  pass_all : (v : ℕ) → pass_to first_count edges (length edges) v ≡ path_count_of S s v
   pass_all v = pass_to_passed (length edges) v (omega arith) ∙ passed_all S L a E s ok (length edges) v (omega arith)
 
   module _ (words : ℕ) (cs : List ℕ) (r : Bool) (p : PassesEdges words edges cs r) where
     -- the words hold the path counts, and none is too large
-    pub pass_counts : r ≡ true → (cs ≡ counts_for (counts (entriesOf S s)) words) × (too_large (counts (entriesOf S s)) ≡ false)
+    pub pass_counts : r ≡ true → (cs ≡ counts_for (counts (entries_of S s)) words) × (too_large (counts (entries_of S s)) ≡ false)
     pass_counts e = (
-      p.done e ∙ count_words_counts_for (pass_to first_count edges (length edges)) (counts (entriesOf S s)) words (λ v h. pass_all v),
-      all_fit (counts (entriesOf S s)) (λ v. subst (λ (n : ℕ). n < count_limit) (pass_all v) (p.fits e v)),
+      p.done e ∙ count_words_counts_for (pass_to first_count edges (length edges)) (counts (entries_of S s)) words (λ v h. pass_all v),
+      all_fit (counts (entries_of S s)) (λ v. subst (λ (n : ℕ). n < count_limit) (pass_all v) (p.fits e v)),
     )
 
     -- a sum that was too large
-    pub pass_too_large : r ≡ false → too_large (counts (entriesOf S s)) ≡ true
+    pub pass_too_large : r ≡ false → too_large (counts (entries_of S s)) ≡ true
     unfolding too_large
     pass_too_large e =
         let w = p.large e in
         let same = pass_to_passed w.0 w.1 w.2 in
-        any_true (λ n. leb count_limit n) (counts (entriesOf S s)) (pathCountOf S s w.1)
+        any_true (λ n. leb count_limit n) (counts (entries_of S s)) (path_count_of S s w.1)
         (inside w.1 (omega (arith, same, w.3, passed_le S L a E s ok w.0 w.1)))
-        (le-leb count_limit (pathCountOf S s w.1) (omega (arith, same, w.3, passed_le S L a E s ok w.0 w.1)))
+        (le-leb count_limit (path_count_of S s w.1) (omega (arith, same, w.3, passed_le S L a E s ok w.0 w.1)))
       where
-        inside : (v : ℕ) → 0 < pathCountOf S s v → Mem (pathCountOf S s v) (counts (entriesOf S s))
-        inside v h = go (dec_lt v (length (counts (entriesOf S s))))
+        inside : (v : ℕ) → 0 < path_count_of S s v → Mem (path_count_of S s v) (counts (entries_of S s))
+        inside v h = go (dec_lt v (length (counts (entries_of S s))))
           where
-            go : Dec (v < length (counts (entriesOf S s))) → Mem (pathCountOf S s v) (counts (entriesOf S s))
-            go (yes l) = mem_get_d (counts (entriesOf S s)) v 0 l
-            go (no l) = absurd (omega (arith, get_or-eq_default (counts (entriesOf S s)) 0 {n = v} (omega arith)))
+            go : Dec (v < length (counts (entries_of S s))) → Mem (path_count_of S s v) (counts (entries_of S s))
+            go (yes l) = mem_get_d (counts (entries_of S s)) v 0 l
+            go (no l) = absurd (omega (arith, get_or-eq_default (counts (entries_of S s)) 0 {n = v} (omega arith)))

@@ -20,7 +20,7 @@ use Rattle.tile.specs.Path.{Path}
 use Rattle.graph.proofs.GraphLaws.{length_edges_for, edges_in_edges_for}
 use Rattle.board.specs.declared.RectangularBoard.{RectangularBoard}
 use Rattle.rectangle.specs.Board.{Board}
-use Rattle.covers.specs.Counts.{Entry, boards, counts, fullFrom, fullNode}
+use Rattle.covers.specs.Counts.{Entry, boards, counts, full_from, full_node}
 use Rattle.covers.specs.Setting.{SumRule}
 use Rattle.covers.proofs.CountLaws.{full_node_some, full_node_none}
 use Rattle.graph.specs.Graph.{edges_in, node_room, edge_room}
@@ -48,8 +48,8 @@ judged_graph room edges_room g k e = go (leb (length g.nodes) room) refl (leb (l
     go true p true q false r h = (given_inj g k h, leb-true _ _ p, leb-true _ _ q, r)
 
 -- the full board's node is behind node 0, a node, and full
-pub node_behind : (full : ℕ → Bool) (ns : List ℕ) (v d : ℕ) → fullNode full ns ≡ some v → (0 < v) × (v < length ns) × So (full (get_or ns v d))
-unfolding fullNode fullFrom
+pub node_behind : (full : ℕ → Bool) (ns : List ℕ) (v d : ℕ) → full_node full ns ≡ some v → (0 < v) × (v < length ns) × So (full (get_or ns v d))
+unfolding full_node full_from
 node_behind full [] v d e = absurd (none-ne-some v e)
 node_behind full (n ∷ ns) v d e = full_node_some full n ns v d e
 
@@ -83,7 +83,7 @@ pub as_many_lem : (es : List (Entry ℕ)) → length (counts es) ≡ length (boa
 as_many_lem es = length-map es (λ (e : Entry ℕ). e.1) ∙ sym (length-map es (λ (e : Entry ℕ). e.0))
 
 -- with no full node, only node 0 may be full
-pub only_start_lem : (full : ℕ → Bool) (s : ℕ) (ns : List ℕ) → get_or ns 0 s ≡ s → fullNode full ns ≡ none → (t : ℕ) → Mem t ns → So (full t) → t ≡ s
+pub only_start_lem : (full : ℕ → Bool) (s : ℕ) (ns : List ℕ) → get_or ns 0 s ≡ s → full_node full ns ≡ none → (t : ℕ) → Mem t ns → So (full t) → t ≡ s
 only_start_lem full s [] first e t m f = absurd (not-nil m)
 only_start_lem full s (n ∷ ns) first e t m f =
     ⊎_elim (λ q. q ∙ first) (λ k. absurd (false≢true (sym (full_node_none full n ns e t k) ∙ f))) (cases_cons m)

@@ -62,14 +62,14 @@ module _ (b : RectangularBoard) (fixed : Sound b.fixed) (laid : Sound b.laid) (t
     -- and `generate_graph`.
     (nodes counts edges nodes' counts' edges' : List ℕ) (made : MadeGraph) (generated : GeneratesGraph b ts nodes counts edges nodes' counts' edges' made)
     -- "If neither count is refused,"
-    (n : ℕ) (countGiven : count_answer count ≡ given n) (graphGiven : verdict_number made.verdict ≡ 0) where
+    (n : ℕ) (count_given : count_answer count ≡ given n) (graphGiven : verdict_number made.verdict ≡ 0) where
   graph : (g : Graph) × (generate_graph b ts (length nodes) (length counts) (length edges) ≡ given g)
   graph = given_graph b ts (length nodes) (length counts) (length edges) (sym generated.verdict ∙ graphGiven)
 
   -- "both equal the number of cuttings": n is the layer count, and the graph count is n too,
   pub both_counts : count_from_graph (complete_node made.graph.complete) counts' ≡ n
   both_counts =
-      calls_agree b fixed laid ts (layer_room (length boardsA) (length countsA) (length boardsB) (length countsB)) n (sym counted.answer ∙ countGiven)
+      calls_agree b fixed laid ts (layer_room (length boardsA) (length countsA) (length boardsB) (length countsB)) n (sym counted.answer ∙ count_given)
       nodes counts edges nodes' counts' edges' made generated graphGiven
 
   -- and so is what `count_tilings_from_graph` answers by its contract;
@@ -79,7 +79,7 @@ module _ (b : RectangularBoard) (fixed : Sound b.fixed) (laid : Sound b.laid) (t
   -- and n is "the number of cuttings, the ways to cut the free cells into pieces that tiles cover."
   pub number_of_cuttings : Exactly n (IsCutting (board_of b) (paths_in ts))
   number_of_cuttings =
-      layer_count_is_number_of_cuttings b fixed laid ts boardsA countsA boardsB countsB boardsA' countsA' boardsB' countsB' count counted free joined n countGiven
+      layer_count_is_number_of_cuttings b fixed laid ts boardsA countsA boardsB countsB boardsA' countsA' boardsB' countsB' count counted free joined n count_given
 
   -- n is below the limit of a path count, so that every number below it can be handed to the numbered call.
   pub numbers_are_path_counts : n < count_limit
@@ -107,12 +107,12 @@ module _ (b : RectangularBoard) (fixed : Sound b.fixed) (laid : Sound b.laid) (t
   long_enough m h = let f = few m h in omega (arith, free_le (board_of b))
 
   -- the node list that the call leaves: as many words of the output as it answers
-  abbrev pub nodeListLeft : List ℕ → Tiling → List ℕ
-  nodeListLeft out' t = take (value_or 0 (tiling_answer t)) out'
+  abbrev pub node_list_left : List ℕ → Tiling → List ℕ
+  node_list_left out' t = take (value_or 0 (tiling_answer t)) out'
 
   -- what it gives, in 01's words: "the set of pieces that its steps mark"
   abbrev pub cutting_left : List ℕ → Tiling → ℕ → Bool
-  cutting_left out' t = marked_pieces_in nodes' (nodeListLeft out' t)
+  cutting_left out' t = marked_pieces_in nodes' (node_list_left out' t)
 
   -- the pieces of the lists by number are the cuttings
   numbering : Numbering (IsCutting (board_of b) (paths_in ts)) n (λ m. marked_pieces_in nodes' (node_list_for m))
@@ -131,7 +131,7 @@ module _ (b : RectangularBoard) (fixed : Sound b.fixed) (laid : Sound b.laid) (t
     not_refused = read.0
 
     -- "and gives, by document 01's walk,"
-    pub by_the_walk : nodeListLeft out' t ≡ node_list_for m
+    pub by_the_walk : node_list_left out' t ≡ node_list_for m
     unfolding value_or
     by_the_walk = ap (λ (k : ℕ). take k out') (ap (value_or 0) read.0) ∙ read.1
 

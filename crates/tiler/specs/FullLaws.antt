@@ -13,7 +13,7 @@ use Rattle.tile.specs.Path.{Path}
 use Rattle.rectangle.specs.Board.{Board, marks, is_full, valid}
 use Rattle.children.specs.Children.{children, children_at, full_at}
 use Rattle.children.specs.ChildLaws.{full_children}
-use Rattle.covers.specs.Counts.{Entry, boards, counts, layer, layers, number_in, edgesOf, fullFrom, fullNode}
+use Rattle.covers.specs.Counts.{Entry, boards, counts, layer, layers, number_in, edges_of, full_from, full_node}
 use Rattle.expansion.proofs.SettingLaws.{start_at_lem}
 use Rattle.cuttings.specs.FullLaws.{none_free}
 use Rattle.layers.specs.LayerCounts.{too_large}
@@ -31,15 +31,15 @@ module _ (b : Board) (paths : List Path) (ok : So (valid b)) (fixed : b.fixed < 
   unfolding layers layer
   one_node = ap (layers eqb (children_at b paths) (marks b)) (none_free b paths ok fixed laid full)
 
-  no_edges : edgesOf eqb (children_at b paths) (marks b ∷ []) ≡ []
-  unfolding edgesOf flat_map
+  no_edges : edges_of eqb (children_at b paths) (marks b ∷ []) ≡ []
+  unfolding edges_of flat_map
   no_edges =
       ap (λ (cs : List ℕ). map (λ c. (number_in eqb (marks b ∷ []) (marks b), number_in eqb (marks b ∷ []) c)) cs ++ []) no_children
 
   full_graph : graph_of b paths ≡ only_start b
-  unfolding graph_of fullNode fullFrom
+  unfolding graph_of full_node full_from
   full_graph =
-      ap (λ (es : List (Entry ℕ)). record { nodes = boards es; counts = counts es; edges = edgesOf eqb (children_at b paths) (boards es); complete = fullNode (full_at b) (boards es) }) one_node
+      ap (λ (es : List (Entry ℕ)). record { nodes = boards es; counts = counts es; edges = edges_of eqb (children_at b paths) (boards es); complete = full_node (full_at b) (boards es) }) one_node
       ∙ ap (λ (es : List (ℕ × ℕ)). record { nodes = marks b ∷ []; counts = 1 ∷ []; edges = es; complete = none }) no_edges
 
   accepted : (nodes edges : ℕ) → 0 < nodes → judge_graph nodes edges (only_start b) ≡ given (only_start b)

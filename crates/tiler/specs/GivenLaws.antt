@@ -13,8 +13,8 @@ use Rattle.board.specs.declared.RectangularBoard.{RectangularBoard}
 use Rattle.rectangle.specs.Board.{Board, marks}
 use Rattle.board.specs.Board.{board_of}
 use Rattle.children.specs.Children.{full_at, free_count_at}
-use Rattle.covers.specs.Setting.{Laws, EqualSteps, SumRule, entriesOf, graphCount, nodesOf}
-use Rattle.covers.specs.Counts.{at_node, boards, counts, layers, edgesOf, fullNode}
+use Rattle.covers.specs.Setting.{Laws, EqualSteps, SumRule, entries_of, graph_count, nodes_of}
+use Rattle.covers.specs.Counts.{at_node, boards, counts, layers, edges_of, full_node}
 use Rattle.covers.proofs.Theorems.{graph_sum_rule}
 use Rattle.covers.proofs.SettingLaws.{some_node, node_ok}
 use Rattle.graph.specs.Graph.{node_room, edge_room, complete_node, count_from_graph}
@@ -35,7 +35,7 @@ pub graph_setting : (b : Board) (paths : List Path) → graph_of b paths ≡ gra
 unfolding graph_of graph_in setting
 graph_setting b paths =
     ap (λ (ch : ℕ → List ℕ). let es = layers eqb ch (marks b) (free_count_at b (marks b)) in
-    record { nodes = boards es; counts = counts es; edges = edgesOf eqb ch (boards es); complete = fullNode (full_at b) (boards es) })
+    record { nodes = boards es; counts = counts es; edges = edges_of eqb ch (boards es); complete = full_node (full_at b) (boards es) })
     (sym (same_children b paths))
 
 module _ (b : RectangularBoard) (fixed : Sound b.fixed) (laid : Sound b.laid) (ts : Tiles) where
@@ -68,7 +68,7 @@ module _ (b : RectangularBoard) (fixed : Sound b.fixed) (laid : Sound b.laid) (t
     pub graph_start : (setting_of b ts).Ok (start_of b)
     graph_start = start_accepted b fixed laid ts plot_accepted
 
-    pub nodes_are : g.nodes ≡ nodesOf (setting_of b ts) (start_of b)
+    pub nodes_are : g.nodes ≡ nodes_of (setting_of b ts) (start_of b)
     unfolding graph_in
     nodes_are = ap (λ (h : Graph). h.nodes) (sym graph_is)
 
@@ -89,13 +89,13 @@ module _ (b : RectangularBoard) (fixed : Sound b.fixed) (laid : Sound b.laid) (t
           some_nodes = some_node (setting_of b ts) graph_laws (start_of b) graph_start;
           nodes_fit = judged.1;
           edges_fit = judged.2;
-          as_many = as_many_lem (entriesOf (setting_of b ts) (start_of b));
-          counts_fit = small_counts (counts (entriesOf (setting_of b ts) (start_of b))) graph_small;
+          as_many = as_many_lem (entries_of (setting_of b ts) (start_of b));
+          counts_fit = small_counts (counts (entries_of (setting_of b ts) (start_of b))) graph_small;
         }
 
-    pub graph_count : count_of_graph g ≡ graphCount (setting_of b ts) (start_of b)
-    unfolding graphCount count_of_graph graph_in setting
-    graph_count = ap count_of_graph (sym graph_is)
+    pub graph_count_lem : count_of_graph g ≡ graph_count (setting_of b ts) (start_of b)
+    unfolding graph_count count_of_graph graph_in setting
+    graph_count_lem = ap count_of_graph (sym graph_is)
 
   -- words that hold a graph that is given
   module _ (nodes counts edges nodes' counts' edges' : List ℕ) (r : MadeGraph) (made : GeneratesGraph b ts nodes counts edges nodes' counts' edges' r)
@@ -103,8 +103,8 @@ module _ (b : RectangularBoard) (fixed : Sound b.fixed) (laid : Sound b.laid) (t
     pub graph_stored : Makes (given g) (length nodes) (length counts) (length edges) nodes' counts' edges' r
     graph_stored = subst (λ (a : Answer Graph). Makes a (length nodes) (length counts) (length edges) nodes' counts' edges' r) e made
 
-    pub words_count : count_from_graph (complete_node r.graph.complete) counts' ≡ graphCount (setting_of b ts) (start_of b)
+    pub words_count : count_from_graph (complete_node r.graph.complete) counts' ≡ graph_count (setting_of b ts) (start_of b)
     unfolding count_from_graph count_of_graph value_or
     words_count =
         ap₂ at_node (fun_ext (counts_back g (length nodes) (length counts) (length edges) nodes' counts' edges' r graph_stored (graph_room (length nodes) (length counts) (length edges) g e))) graph_stored.complete
-        ∙ graph_count (length nodes) (length counts) (length edges) g e
+        ∙ graph_count_lem (length nodes) (length counts) (length edges) g e

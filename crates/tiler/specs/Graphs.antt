@@ -12,7 +12,7 @@ use Rattle.board.specs.declared.RectangularBoard.{RectangularBoard}
 use Rattle.rectangle.specs.Board.{Board, marks, is_full, free_count}
 use Rattle.board.specs.Board.{board_of}
 use Rattle.children.specs.Children.{children, children_at, full_at, free_count_at}
-use Rattle.covers.specs.Counts.{Numbering, Entry, boards, counts, layers, edgesOf, node_list_to, fullNode, at_node, node_list}
+use Rattle.covers.specs.Counts.{Numbering, Entry, boards, counts, layers, edges_of, node_list_to, full_node, at_node, node_list}
 use Rattle.graph.specs.Graph.{node_room, edge_room, edges_for, complete_node, count_from_graph, marked_pieces_in}
 use Rattle.path_count.specs.PathCounts.{counts_for}
 use Rattle.numbered_tilings.specs.Tilings.{bad_graph, node_list_in}
@@ -40,12 +40,12 @@ entries_for b paths = layers eqb (children_at b paths) (marks b) (free_count_at 
 
 -- the graph of a board and tiles
 unfoldable pub graph_of : Board → List Path → Graph
-unfolding layers edgesOf fullNode children is_full free_count marks
+unfolding layers edges_of full_node children is_full free_count marks
 graph_of b paths = record {
   nodes = boards (entries_for b paths);
   counts = counts (entries_for b paths);
-  edges = edgesOf eqb (children_at b paths) (boards (entries_for b paths));
-  complete = fullNode (full_at b) (boards (entries_for b paths));
+  edges = edges_of eqb (children_at b paths) (boards (entries_for b paths));
+  complete = full_node (full_at b) (boards (entries_for b paths));
 }
 
 -- the path count of a node of the list, 0 of none

@@ -7,8 +7,8 @@ use Rattle.refusal.specs.Refusal.{verdict_number}
 use Rattle.tiles.specs.declared.Tiles.{Tiles}
 use Rattle.rectangle.specs.Board.{Board, board_at, is_full}
 use Rattle.board.specs.declared.RectangularBoard.{RectangularBoard}
-use Rattle.covers.specs.Setting.{Setting, entriesOf, nodesOf, graphEdges}
-use Rattle.covers.specs.Counts.{counts, layers, edgesOf, fullNode}
+use Rattle.covers.specs.Setting.{Setting, entries_of, nodes_of, graph_edges}
+use Rattle.covers.specs.Counts.{counts, layers, edges_of, full_node}
 use Rattle.graph.specs.Graph.{edge_at, node_room, edge_room, complete_node, step_piece, marked_pieces}
 use Rattle.expansion.specs.Boards.{setting_of, start_of}
 use Rattle.path_count.specs.PathCounts.{count_limit}
@@ -85,8 +85,8 @@ pub record Finishes (b : Board) (nodes edges : List ℕ) (n e : ℕ) (nodes' edg
 
 -- the graph of a start, by its setting
 unfoldable pub graph_in : {P : Type 0} → Setting ℕ P → ℕ → Graph
-unfolding layers edgesOf fullNode
-graph_in S s = record { nodes = nodesOf S s; counts = counts (entriesOf S s); edges = graphEdges S s; complete = fullNode S.full (nodesOf S s) }
+unfolding layers edges_of full_node
+graph_in S s = record { nodes = nodes_of S s; counts = counts (entries_of S s); edges = graph_edges S s; complete = full_node S.full (nodes_of S s) }
 
 abbrev pub MakesGraph : RectangularBoard → Tiles → List ℕ → List ℕ → List ℕ → List ℕ → List ℕ → List ℕ → MadeGraph → Type 0
 MakesGraph b ts nodes counts edges nodes' counts' edges' r =

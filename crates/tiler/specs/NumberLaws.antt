@@ -22,8 +22,8 @@ use Rattle.tiles.specs.Paths.{paths_in}
 use Rattle.board.specs.declared.RectangularBoard.{RectangularBoard}
 use Rattle.board.specs.Board.{board_of}
 use Rattle.rectangle.specs.Board.{free_count}
-use Rattle.covers.specs.Counts.{Numbering, Chain, node_list_to, fullNode, at_node, node_list}
-use Rattle.covers.specs.Setting.{Setting, nodesOf, pathCountOf, graphEdges, graphCount, tiling_of, cuttingAt}
+use Rattle.covers.specs.Counts.{Numbering, Chain, node_list_to, full_node, at_node, node_list}
+use Rattle.covers.specs.Setting.{Setting, nodes_of, path_count_of, graph_edges, graph_count, tiling_of, cutting_at}
 use Rattle.covers.proofs.Theorems.{full_counts_none}
 use Rattle.covers.proofs.NumberingLaws.{renumber}
 use Rattle.covers.proofs.CountLaws.{tiling_length}
@@ -39,7 +39,7 @@ use Rattle.expansion.specs.Plots.{IsCutting, HasFreeCell, AllEdgeJoined}
 use Rattle.expansion.specs.Parts.{step_of}
 use Rattle.expansion.proofs.AcceptedLaws.{accepted_free}
 use Rattle.expansion.proofs.CuttingLaws.{cuttings_numbered}
-use Rattle.tiler.specs.GivenLaws.{plot_accepted, graph_is, graph_laws, graph_steps, graph_start, nodes_are, graph_sums, graph_count, graph_stored, words_count}
+use Rattle.tiler.specs.GivenLaws.{plot_accepted, graph_is, graph_laws, graph_steps, graph_start, nodes_are, graph_sums, graph_count_lem, graph_stored, words_count}
 use Rattle.tiler.specs.Theorems.{path_counts_fit, full_node_is_full, words_are_the_graph}
 
 module _ (b : RectangularBoard) (fixed : Sound b.fixed) (laid : Sound b.laid) (ts : Tiles) where
@@ -64,9 +64,9 @@ module _ (b : RectangularBoard) (fixed : Sound b.fixed) (laid : Sound b.laid) (t
 
     -- the list with a number below the count
     module _ (m : ℕ) (below : m < count_of_graph g) where
-      full_node : (v : ℕ) × (g.complete ≡ some v) × (v < length g.nodes) × (m < path_count_at g.counts v)
+      full_node_lem : (v : ℕ) × (g.complete ≡ some v) × (v < length g.nodes) × (m < path_count_at g.counts v)
       unfolding count_of_graph at_node
-      full_node = go g.complete refl below
+      full_node_lem = go g.complete refl below
         where
           go : (o : Option ℕ) → g.complete ≡ o → m < at_node (path_count_at g.counts) o
               → (v : ℕ) × (g.complete ≡ some v) × (v < length g.nodes) × (m < path_count_at g.counts v)
@@ -80,7 +80,7 @@ module _ (b : RectangularBoard) (fixed : Sound b.fixed) (laid : Sound b.laid) (t
       -- is a chain of edges from node 0 to the full node,
       pub list_chain : (v : ℕ) × (g.complete ≡ some v) × Chain (λ p c. Mem (p, c) g.edges) 0 v (node_list_of g m)
       list_chain =
-          let f = full_node in (
+          let f = full_node_lem in (
             f.0,
             f.1,
             subst (Chain (λ p c. Mem (p, c) g.edges) 0 f.0) (list_to f.0 f.1)
@@ -90,17 +90,17 @@ module _ (b : RectangularBoard) (fixed : Sound b.fixed) (laid : Sound b.laid) (t
       -- each of its nodes is one of the graph,
       pub list_below : (v : ℕ) → Mem v (node_list_of g m) → v < length g.nodes
       list_below v i =
-          let f = full_node in
+          let f = full_node_lem in
           tiling_below (length g.nodes) g.edges (path_count_at g.counts) (graph_sums b fixed laid ts node_words count_words edge_words g made) f.0 m f.2 f.3 v
           (subst (Mem v) (sym (list_to f.0 f.1)) i)
 
       -- and there is at most one more than there are free cells
-      list_is : node_list_of g m ≡ node_list (graphEdges S start) (pathCountOf S start) (fullNode S.full (nodesOf S start)) m
+      list_is : node_list_of g m ≡ node_list (graph_edges S start) (path_count_of S start) (full_node S.full (nodes_of S start)) m
       unfolding node_list_of graph_in
       list_is = ap (λ (k : Graph). node_list_of k m) (sym (graph_is b fixed laid ts node_words count_words edge_words g made))
 
-      counted : m < graphCount S start
-      counted = subst (λ (n : ℕ). m < n) (graph_count b fixed laid ts node_words count_words edge_words g made) below
+      counted : m < graph_count S start
+      counted = subst (λ (n : ℕ). m < n) (graph_count_lem b fixed laid ts node_words count_words edge_words g made) below
 
       counted_not_full : S.full start ≡ false
       counted_not_full = go (S.full start) refl
@@ -122,18 +122,18 @@ module _ (b : RectangularBoard) (fixed : Sound b.fixed) (laid : Sound b.laid) (t
             tiling_length S (graph_laws b fixed laid ts node_words count_words edge_words g made) (step_of (paths_in ts)) (graph_steps b fixed laid ts node_words count_words edge_words g made) start
                 (graph_start b fixed laid ts node_words count_words edge_words g made) counted_not_full m counted,
             ap length list_is,
-            length-map (node_list (graphEdges S start) (pathCountOf S start) (fullNode S.full (nodesOf S start)) m) (λ v. get_or (nodesOf S start) v start),
+            length-map (node_list (graph_edges S start) (path_count_of S start) (full_node S.full (nodes_of S start)) m) (λ v. get_or (nodes_of S start) v start),
             accepted_free b ts (plot_accepted b fixed laid ts node_words count_words edge_words g made) (number_lt b.fixed fixed) (number_lt b.laid laid),
           )
 
       -- its boards are those of the definition, and so are the pieces that its steps mark
       boards_are : map (λ v. get_or g.nodes v 0) (node_list_of g m) ≡ tiling_of S start m
       boards_are =
-          map_ext (λ v. get_or g.nodes v 0) (λ v. get_or (nodesOf S start) v start) (node_list_of g m)
+          map_ext (λ v. get_or g.nodes v 0) (λ v. get_or (nodes_of S start) v start) (node_list_of g m)
           (λ v i. get_d_any g.nodes v 0 start (list_below v i) ∙ ap (λ (ns : List ℕ). get_or ns v start) (nodes_are b fixed laid ts node_words count_words edge_words g made))
-          ∙ ap (map (λ v. get_or (nodesOf S start) v start)) list_is
+          ∙ ap (map (λ v. get_or (nodes_of S start) v start)) list_is
 
-      cutting_is : marked_pieces_of g m ≡ cuttingAt S start m
+      cutting_is : marked_pieces_of g m ≡ cutting_at S start m
       unfolding marked_pieces_of setting
       cutting_is = ap marked_pieces boards_are
 
@@ -141,7 +141,7 @@ module _ (b : RectangularBoard) (fixed : Sound b.fixed) (laid : Sound b.laid) (t
     pub lists_number_cuttings : HasFreeCell (board_of b) → AllEdgeJoined (paths_in ts)
         → Numbering (IsCutting (board_of b) (paths_in ts)) (count_of_graph g) (marked_pieces_of g)
     lists_number_cuttings free joined =
-        renumber (sym (graph_count b fixed laid ts node_words count_words edge_words g made)) cutting_is
+        renumber (sym (graph_count_lem b fixed laid ts node_words count_words edge_words g made)) cutting_is
         (cuttings_numbered b fixed laid ts (plot_accepted b fixed laid ts node_words count_words edge_words g made) free joined)
 
   -- ---- the words and the result that `generate_graph` leaves hold it
@@ -151,7 +151,7 @@ module _ (b : RectangularBoard) (fixed : Sound b.fixed) (laid : Sound b.laid) (t
     -- the count,
     pub count_read : count_from_graph (complete_node r.graph.complete) counts' ≡ count_of_graph g
     count_read =
-        words_count b fixed laid ts nodes counts edges nodes' counts' edges' r made g e ∙ sym (graph_count b fixed laid ts (length nodes) (length counts) (length edges) g e)
+        words_count b fixed laid ts nodes counts edges nodes' counts' edges' r made g e ∙ sym (graph_count_lem b fixed laid ts (length nodes) (length counts) (length edges) g e)
 
     pub words_count_small : count_from_graph (complete_node r.graph.complete) counts' < count_limit
     words_count_small = subst (λ (n : ℕ). n < count_limit) (sym count_read) (graph_count_small (length nodes) (length counts) (length edges) g e)

@@ -25,7 +25,7 @@ use Rattle.board.specs.Board.{board_of}
 use Rattle.rectangle.specs.Board.{board_at, is_full}
 use Rattle.children.specs.Children.{children_at}
 use Rattle.covers.specs.Counts.{Exactly, ChildSequence, counts}
-use Rattle.covers.specs.Setting.{childBoards, Laws, EqualSteps, graphCount, graphEdges, nodesOf, pathCountOf}
+use Rattle.covers.specs.Setting.{child_boards, Laws, EqualSteps, graph_count, graph_edges, nodes_of, path_count_of}
 use Rattle.covers.proofs.Theorems.{nodes_are_reached, nodes_by_first_finding, graph_edges_are_children, graph_edges_once, graph_tilings, full_counts_none, none_reached_counts_none, count_is_child_sequences}
 use Rattle.covers.proofs.SettingLaws.{start_node}
 use Rattle.tiler.specs.declared.MadeGraph.{MadeGraph}
@@ -41,7 +41,7 @@ use Rattle.expansion.proofs.SettingLaws.{same_children}
 use Rattle.expansion.proofs.AcceptedLaws.{accepted_laws, accepted_steps, accepted_at, start_accepted}
 use Rattle.layers.proofs.CountLaws.{layers_count}
 use Rattle.tiler.specs.AnswerLaws.{node_behind, given_graph, nodes_back, counts_back, edges_back, sound_words, only_start_lem}
-use Rattle.tiler.specs.GivenLaws.{graph_is, graph_laws, graph_steps, graph_start, nodes_are, nodes_small, graph_sums, graph_room, graph_count, graph_stored, words_count}
+use Rattle.tiler.specs.GivenLaws.{graph_is, graph_laws, graph_steps, graph_start, nodes_are, nodes_small, graph_sums, graph_room, graph_count_lem, graph_stored, words_count}
 
 module _ (b : RectangularBoard) (fixed : Sound b.fixed) (laid : Sound b.laid) (ts : Tiles) where
   -- "child sequences that reach it": from the start to a board
@@ -63,14 +63,14 @@ module _ (b : RectangularBoard) (fixed : Sound b.fixed) (laid : Sound b.laid) (t
     is : graph_in (setting_of b ts) (start_of b) ≡ g
     is = graph_is b fixed laid ts node_words count_words edge_words g made
 
-    nodes_is : g.nodes ≡ nodesOf (setting_of b ts) (start_of b)
+    nodes_is : g.nodes ≡ nodes_of (setting_of b ts) (start_of b)
     nodes_is = nodes_are b fixed laid ts node_words count_words edge_words g made
 
     -- The nodes are the boards that child sequences reach.
     pub nodes_are_boards_reached : (t : ℕ) → Mem t g.nodes ↔ ((xs : List ℕ) × Reaches t xs)
     nodes_are_boards_reached t =
         subst (λ (ch : ℕ → List ℕ). Mem t g.nodes ↔ ((xs : List ℕ) × ChildSequence ch (start_of b) t xs)) (same_children (board_of b) (paths_in ts))
-        (subst (λ (ns : List ℕ). Mem t ns ↔ ((xs : List ℕ) × ChildSequence (childBoards (setting_of b ts)) (start_of b) t xs)) (sym nodes_is)
+        (subst (λ (ns : List ℕ). Mem t ns ↔ ((xs : List ℕ) × ChildSequence (child_boards (setting_of b ts)) (start_of b) t xs)) (sym nodes_is)
         (nodes_are_reached (setting_of b ts) laws (start_of b) ok t))
 
     -- "Nodes are numbered by first finding: 0 the board, parents in number order, children in order".
@@ -78,7 +78,7 @@ module _ (b : RectangularBoard) (fixed : Sound b.fixed) (laid : Sound b.laid) (t
     unfolding setting
     nodes_in_order =
         subst (λ (ch : ℕ → List ℕ). g.nodes ≡ firsts eqb (start_of b ∷ flat_map ch g.nodes)) (same_children (board_of b) (paths_in ts))
-        (subst (λ (ns : List ℕ). ns ≡ firsts eqb (start_of b ∷ flat_map (childBoards (setting_of b ts)) ns)) (sym nodes_is)
+        (subst (λ (ns : List ℕ). ns ≡ firsts eqb (start_of b ∷ flat_map (child_boards (setting_of b ts)) ns)) (sym nodes_is)
         (nodes_by_first_finding (setting_of b ts) laws (start_of b) ok (step_of (paths_in ts)) steps))
 
     -- "Edges are (parent, child)": there is one from a node to each child of its board, and no other.
@@ -88,9 +88,9 @@ module _ (b : RectangularBoard) (fixed : Sound b.fixed) (laid : Sound b.laid) (t
     edges_are_children p c =
         subst (λ (k : Graph). Mem (p, c) k.edges
         ↔ ((p < length k.nodes) × (c < length k.nodes) × Mem (get_or k.nodes c (start_of b)) (children_at (board_of b) (paths_in ts) (get_or k.nodes p (start_of b))))) is
-        (subst (λ (ch : ℕ → List ℕ). Mem (p, c) (graphEdges (setting_of b ts) (start_of b))
-        ↔ ((p < length (nodesOf (setting_of b ts) (start_of b))) × (c < length (nodesOf (setting_of b ts) (start_of b)))
-        × Mem (get_or (nodesOf (setting_of b ts) (start_of b)) c (start_of b)) (ch (get_or (nodesOf (setting_of b ts) (start_of b)) p (start_of b))))) (same_children (board_of b) (paths_in ts))
+        (subst (λ (ch : ℕ → List ℕ). Mem (p, c) (graph_edges (setting_of b ts) (start_of b))
+        ↔ ((p < length (nodes_of (setting_of b ts) (start_of b))) × (c < length (nodes_of (setting_of b ts) (start_of b)))
+        × Mem (get_or (nodes_of (setting_of b ts) (start_of b)) c (start_of b)) (ch (get_or (nodes_of (setting_of b ts) (start_of b)) p (start_of b))))) (same_children (board_of b) (paths_in ts))
         (graph_edges_are_children (setting_of b ts) laws (start_of b) ok (step_of (paths_in ts)) steps p c))
 
     -- "Beside each node stands its path count", and "A board's path count is the number of child sequences that reach it".
@@ -98,7 +98,7 @@ module _ (b : RectangularBoard) (fixed : Sound b.fixed) (laid : Sound b.laid) (t
     unfolding graph_in
     path_count_is_number_of_sequences v h =
         subst (λ (k : Graph). Exactly (path_count_at k.counts v) (Reaches (get_or k.nodes v (start_of b)))) is
-        (subst (λ (ch : ℕ → List ℕ). Exactly (pathCountOf (setting_of b ts) (start_of b) v) (ChildSequence ch (start_of b) (get_or (nodesOf (setting_of b ts) (start_of b)) v (start_of b)))) (same_children (board_of b) (paths_in ts))
+        (subst (λ (ch : ℕ → List ℕ). Exactly (path_count_of (setting_of b ts) (start_of b) v) (ChildSequence ch (start_of b) (get_or (nodes_of (setting_of b ts) (start_of b)) v (start_of b)))) (same_children (board_of b) (paths_in ts))
         (_, graph_tilings (setting_of b ts) laws (start_of b) ok (step_of (paths_in ts)) steps v (subst (λ (ns : List ℕ). v < length ns) nodes_is h)))
 
     -- Each path count is below the limit, 2^64.
@@ -110,13 +110,13 @@ module _ (b : RectangularBoard) (fixed : Sound b.fixed) (laid : Sound b.laid) (t
     unfolding graph_in setting
     full_node_is_full v e =
         subst (λ (k : Graph). (0 < v) × (v < length k.nodes) × So (is_full (board_at (board_of b) (get_or k.nodes v (start_of b))))) is
-        (node_behind (λ n. is_full (board_at (board_of b) n)) (nodesOf (setting_of b ts) (start_of b)) v (start_of b) (ap (λ (k : Graph). k.complete) is ∙ e))
+        (node_behind (λ n. is_full (board_at (board_of b) n)) (nodes_of (setting_of b ts) (start_of b)) v (start_of b) (ap (λ (k : Graph). k.complete) is ∙ e))
 
     -- With none, no full board is reached but the start itself.
     pub no_full_node : g.complete ≡ none → (t : ℕ) → Mem t g.nodes → So (is_full (board_at (board_of b) t)) → t ≡ start_of b
     unfolding graph_in setting
     no_full_node e t m full =
-        only_start_lem (λ n. is_full (board_at (board_of b) n)) (start_of b) (nodesOf (setting_of b ts) (start_of b)) (start_node (setting_of b ts) laws (start_of b) ok)
+        only_start_lem (λ n. is_full (board_at (board_of b) n)) (start_of b) (nodes_of (setting_of b ts) (start_of b)) (start_node (setting_of b ts) laws (start_of b) ok)
         (ap (λ (k : Graph). k.complete) is ∙ e) t (subst (Mem t) nodes_is m) full
 
     -- Each edge stands once.
@@ -155,7 +155,7 @@ module _ (b : RectangularBoard) (fixed : Sound b.fixed) (laid : Sound b.laid) (t
     plot : Accepted b ts
     plot = (layers_count b fixed laid ts room n told).0
 
-    count_is : n ≡ graphCount (setting_of b ts) (start_of b)
+    count_is : n ≡ graph_count (setting_of b ts) (start_of b)
     count_is = (layers_count b fixed laid ts room n told).1
 
     start : (setting_of b ts).Ok (start_of b)
@@ -170,7 +170,7 @@ module _ (b : RectangularBoard) (fixed : Sound b.fixed) (laid : Sound b.laid) (t
     unfolding setting
     layer_count_is_number_of_sequences free t full xs r =
         subst (λ (ch : ℕ → List ℕ). Exactly n (ChildSequence ch (start_of b) t)) (same_children (board_of b) (paths_in ts))
-        (subst (λ (k : ℕ). Exactly k (ChildSequence (childBoards (setting_of b ts)) (start_of b) t)) (sym count_is)
+        (subst (λ (k : ℕ). Exactly k (ChildSequence (child_boards (setting_of b ts)) (start_of b) t)) (sym count_is)
         (count_is_child_sequences (setting_of b ts) (accepted_laws b ts plot) (step_of (paths_in ts)) (accepted_steps b ts plot) (start_of b)
         start (ap is_full same_start ∙ free) t full xs
         (subst (λ (ch : ℕ → List ℕ). ChildSequence ch (start_of b) t xs) (sym (same_children (board_of b) (paths_in ts))) r)))
@@ -194,7 +194,7 @@ module _ (b : RectangularBoard) (fixed : Sound b.fixed) (laid : Sound b.laid) (t
     -- Both counts agree where neither is refused: over the definitions,
     pub counts_agree : (node_words count_words edge_words : ℕ) (g : Graph) → generate_graph b ts node_words count_words edge_words ≡ given g
         → count_of_graph g ≡ n
-    counts_agree node_words count_words edge_words g made = graph_count b fixed laid ts node_words count_words edge_words g made ∙ sym count_is
+    counts_agree node_words count_words edge_words g made = graph_count_lem b fixed laid ts node_words count_words edge_words g made ∙ sym count_is
 
     -- and over the result and the count words that `generate_graph` leaves, as `count_tilings_from_graph` reads them.
     pub calls_agree : (nodes counts edges nodes' counts' edges' : List ℕ) (r : MadeGraph) → GeneratesGraph b ts nodes counts edges nodes' counts' edges' r

@@ -9,8 +9,8 @@ ghost use Rattle.tiles.specs.Paths.{paths_in};
 ghost use Rattle.fit.specs.Parts.{most_children};
 ghost use Rattle.board.specs.Board.{board_of};
 ghost use Rattle.rectangle.specs.Board.{board_at, is_full};
-ghost use Rattle.covers.specs.Setting.{childBoards, nodesOf, graphEdges};
-ghost use Rattle.covers.specs.Inner.{addChild, addChildren};
+ghost use Rattle.covers.specs.Setting.{child_boards, nodes_of, graph_edges};
+ghost use Rattle.covers.specs.Inner.{add_child, add_children};
 ghost use Rattle.path_count.specs.PathCounts.{count_room, count_in};
 ghost use Rattle.path_count.specs.Parts.{AddsCount};
 ghost use Rattle.path_count.specs.Inner.{count_words};
@@ -61,7 +61,7 @@ fn add_child(
     child: Cells,
 ) -> Growth
     requires { (nodes_in growth ≤ node_room) × (4 * node_room ≤ length nodes.old) × (2 * edge_room ≤ length edges.old) }
-    ensures { AddsToGraph node_room edge_room nodes.old edges.old growth nodes.new edges.new result (addChild eqb parent (number child)) }
+    ensures { AddsToGraph node_room edge_room nodes.old edges.old growth nodes.new edges.new result (add_child eqb parent (number child)) }
 {
     let Growth::Size(n, e) = growth else {
         return Growth::NoRoom;
@@ -89,7 +89,7 @@ fn add_children(
     n: usize,
 ) -> Growth
     requires { (nodes_in growth ≤ node_room) × (4 * node_room ≤ length nodes.old) × (2 * edge_room ≤ length edges.old) }
-    ensures { AddsToGraph node_room edge_room nodes.old edges.old growth nodes.new edges.new result (addChildren eqb parent (list_of (set_at children.now) n)) }
+    ensures { AddsToGraph node_room edge_room nodes.old edges.old growth nodes.new edges.new result (add_children eqb parent (list_of (set_at children.now) n)) }
 {
     let mut state = growth;
     let mut i = 0;
@@ -121,7 +121,7 @@ fn expand_node(
     i: usize,
 ) -> Growth
     requires { Accepted board tiles × From (board_of board) (set_at nodes.old i) × (4 * most_children (paths_in tiles) ≤ length children.old) × (nodes_in growth ≤ node_room) × (4 * node_room ≤ length nodes.old) × (2 * edge_room ≤ length edges.old) }
-    ensures { AddsToGraph node_room edge_room nodes.old edges.old growth nodes.new edges.new result (addChildren eqb i (childBoards (setting_of board tiles) (set_at nodes.old i))) }
+    ensures { AddsToGraph node_room edge_room nodes.old edges.old growth nodes.new edges.new result (add_children eqb i (child_boards (setting_of board tiles) (set_at nodes.old i))) }
 {
     let n = expansion::expand(board, tiles, list::get(nodes, i), children);
     add_children(nodes, edges, growth, node_room, edge_room, i, children, n)
@@ -148,7 +148,7 @@ fn build(
     edge_room: usize,
 ) -> Growth
     requires { Accepted board tiles × (4 * most_children (paths_in tiles) ≤ length children.old) × (0 < node_room) × (4 * node_room ≤ length nodes.old) × (2 * edge_room ≤ length edges.old) × (set_at nodes.old 0 ≡ start_of board) }
-    ensures { (nodes_in result ≤ node_room) × HoldsGraph node_room edge_room nodes.new edges.new result (nodesOf (setting_of board tiles) (start_of board), graphEdges (setting_of board tiles) (start_of board)) }
+    ensures { (nodes_in result ≤ node_room) × HoldsGraph node_room edge_room nodes.new edges.new result (nodes_of (setting_of board tiles) (start_of board), graph_edges (setting_of board tiles) (start_of board)) }
 {
     let mut growth = Growth::Size(1, 0);
     let mut n: usize = 1;
@@ -173,7 +173,7 @@ fn grown(
     edge_room: usize,
 ) -> Growth
     requires { Accepted board tiles × (4 * node_room ≤ length nodes.old) × (2 * edge_room ≤ length edges.old) }
-    ensures { (nodes_in result ≤ node_room) × HoldsGraph node_room edge_room nodes.new edges.new result (nodesOf (setting_of board tiles) (start_of board), graphEdges (setting_of board tiles) (start_of board)) }
+    ensures { (nodes_in result ≤ node_room) × HoldsGraph node_room edge_room nodes.new edges.new result (nodes_of (setting_of board tiles) (start_of board), graph_edges (setting_of board tiles) (start_of board)) }
 {
     if node_room == 0 {
         return Growth::NoRoom;

@@ -8,6 +8,7 @@
 // count is on specs/Theorems.antt and specs/CuttingTheorems.antt, what the figure means on the crate
 // `cuttings`' proofs/Theorems.antt.
 #![tactic(auto)]
+
 ghost use Rattle.cuttings.specs.Cuttings.{AnswersCuttings, IsNumberOfCuttings};
 ghost use Rattle.tiler.specs.Graphs.{GeneratesGraph, NumbersCuttings};
 

@@ -11,7 +11,7 @@ use native.Mathlib.Decide.{ℕ_discrete}
 use native.Mathlib.Omega.{arith}
 use lib.ListN.{length, get_or}
 use lib.Seq.{get_or-append-add}
-use Rattle.cells.specs.Lists.{holds, addNew, addFirsts, firsts}
+use Rattle.cells.specs.Lists.{holds, add_new, add_firsts, firsts}
 use Rattle.cells.specs.FirstsLaws.{add_new_old, add_new_new, add_firsts_append, length_add_firsts}
 use Rattle.cells.specs.ArrayLaws.{length_list_of, get_d_snoc}
 use Rattle.tile.specs.declared.Tile.{Tile}
@@ -31,7 +31,7 @@ use Rattle.tiles.specs.StoredLaws.{paths_in_tiles_of, clean_tiles_of, count_tile
 
 -- ---- the orbit is collected
 
-short_add_new : (ps : List Path) (p : Path) → Short ps → length p ≤ 32 → Short (addNew same_path ps p)
+short_add_new : (ps : List Path) (p : Path) → Short ps → length p ≤ 32 → Short (add_new same_path ps p)
 short_add_new ps p s h = go (holds same_path ps p) refl
   where
     more : Short (ps ++ p ∷ [])
@@ -41,12 +41,12 @@ short_add_new ps p s h = go (holds same_path ps p) refl
         step (yes e) = subst (λ (q : Path). length q ≤ 32) (sym (ap (λ (j : ℕ). get_or (ps ++ p ∷ []) j []) (e ∙ sym (add-zero (length ps))) ∙ get_or-append-add ps (p ∷ []) 0 [])) h
         step (no e) = subst (λ (q : Path). length q ≤ 32) (sym (get_d_snoc ps p [] i e)) (s i)
 
-    go : (b : Bool) → holds same_path ps p ≡ b → Short (addNew same_path ps p)
+    go : (b : Bool) → holds same_path ps p ≡ b → Short (add_new same_path ps p)
     go true e = subst Short (sym (add_new_old same_path ps p e)) s
     go false e = subst Short (sym (add_new_new same_path ps p e)) more
 
-length_add_new_le : (ps : List Path) (p : Path) → length (addNew same_path ps p) ≤ length ps + 1
-unfolding addFirsts
+length_add_new_le : (ps : List Path) (p : Path) → length (add_new same_path ps p) ≤ length ps + 1
+unfolding add_firsts
 length_add_new_le ps p = (length_add_firsts same_path ps (p ∷ [])).1
 
 -- a tile that is made of a path, and one that is made of an accepted tile's path
@@ -64,17 +64,17 @@ pub record Collected (ps : List Path) (p : Path) (i : ℕ) (out : Tiles) (next :
   pub clean_tile : CleanTile next
   pub ok : So (codes_ok (path_in next))
   pub few : out.count ≤ 4 + i
-  pub left : addFirsts same_path ps (turns 4 p) ≡ addFirsts same_path (paths_in out) (turns (4 - i) (path_in next))
+  pub left : add_firsts same_path ps (turns 4 p) ≡ add_firsts same_path (paths_in out) (turns (4 - i) (path_in next))
 
 pub collected_start : (out : Tiles) (next : Tile) → Clean out → CleanTile next → So (codes_ok (path_in next)) → out.count ≤ 4 → Collected (paths_in out) (path_in next) 0 out next
 collected_start out next c d k h = record { clean = c; clean_tile = d; ok = k; few = omega arith; left = refl }
 
-turns_more : (ps : List Path) (p : Path) (i : ℕ) → i < 4 → addFirsts same_path ps (turns (4 - i) p) ≡ addFirsts same_path (addNew same_path ps p) (turns (4 - (i + 1)) (rotated p))
-unfolding turns addFirsts
-turns_more ps p i h = let e : 4 - i ≡ suc (4 - (i + 1)) = omega arith in ap (λ (k : ℕ). addFirsts same_path ps (turns k p)) e
+turns_more : (ps : List Path) (p : Path) (i : ℕ) → i < 4 → add_firsts same_path ps (turns (4 - i) p) ≡ add_firsts same_path (add_new same_path ps p) (turns (4 - (i + 1)) (rotated p))
+unfolding turns add_firsts
+turns_more ps p i h = let e : 4 - i ≡ suc (4 - (i + 1)) = omega arith in ap (λ (k : ℕ). add_firsts same_path ps (turns k p)) e
 
 pub collected_step : (ps : List Path) (p : Path) (i : ℕ) (out out' : Tiles) (next : Tile) (made : MadeTile) → Collected ps p i out next → i < 4
-    → out' ≡ tiles_of (addNew same_path (paths_in out) (path_in next)) → MakesTile (map_answer rotated (read_tile next)) made → Collected ps p (i + 1) out' made.tile
+    → out' ≡ tiles_of (add_new same_path (paths_in out) (path_in next)) → MakesTile (map_answer rotated (read_tile next)) made → Collected ps p (i + 1) out' made.tile
 collected_step ps p i out out' next made c h e m =
     let q = made_of_tile rotated next c.clean_tile.short c.ok made m in
     let short : length (path_in next) ≤ 32 = omega (arith, length_path_in next, c.clean_tile.short) in
@@ -85,27 +85,27 @@ collected_step ps p i out out' next made c h e m =
     let turned : length (rotated (path_in next)) ≤ 32 = omega (arith, length_rotated (path_in next)) in
     let path : path_in made.tile ≡ rotated (path_in next) = ap path_in q ∙ path_in_tile_of (rotated (path_in next)) turned in
     record {
-      clean = subst Clean (sym e) (clean_tiles_of (addNew same_path (paths_in out) (path_in next)) all (omega arith));
+      clean = subst Clean (sym e) (clean_tiles_of (add_new same_path (paths_in out) (path_in next)) all (omega arith));
       clean_tile = subst CleanTile (sym q) (clean_tile_of (rotated (path_in next)) turned);
       ok = subst (λ (r : Path). So (codes_ok r)) (sym path) (codes_ok_rotated (path_in next) c.ok);
-      few = subst (λ (ts : Tiles). ts.count ≤ 4 + (i + 1)) (sym e) (subst (λ (n : ℕ). n ≤ 4 + (i + 1)) (sym (count_tiles_of (addNew same_path (paths_in out) (path_in next)))) (omega arith));
+      few = subst (λ (ts : Tiles). ts.count ≤ 4 + (i + 1)) (sym e) (subst (λ (n : ℕ). n ≤ 4 + (i + 1)) (sym (count_tiles_of (add_new same_path (paths_in out) (path_in next)))) (omega arith));
       left = c.left
           ∙ turns_more (paths_in out) (path_in next) i h
-          ∙ ap₂ (λ (l : List Path) (r : Path). addFirsts same_path l (turns (4 - (i + 1)) r))
-          (sym (ap paths_in e ∙ paths_in_tiles_of (addNew same_path (paths_in out) (path_in next)) all (omega arith)))
+          ∙ ap₂ (λ (l : List Path) (r : Path). add_firsts same_path l (turns (4 - (i + 1)) r))
+          (sym (ap paths_in e ∙ paths_in_tiles_of (add_new same_path (paths_in out) (path_in next)) all (omega arith)))
           (sym path);
     }
 
-pub collected_end : (ps : List Path) (p : Path) (i : ℕ) (out : Tiles) (next : Tile) → Collected ps p i out next → 4 ≤ i → out ≡ tiles_of (addFirsts same_path ps (turns 4 p))
-unfolding turns addFirsts
+pub collected_end : (ps : List Path) (p : Path) (i : ℕ) (out : Tiles) (next : Tile) → Collected ps p i out next → 4 ≤ i → out ≡ tiles_of (add_firsts same_path ps (turns 4 p))
+unfolding turns add_firsts
 collected_end ps p i out next c h =
     let e : 4 - i ≡ 0 = omega arith in
-    c.clean.is ∙ ap tiles_of (sym (c.left ∙ ap (λ (k : ℕ). addFirsts same_path (paths_in out) (turns k (path_in next))) e))
+    c.clean.is ∙ ap tiles_of (sym (c.left ∙ ap (λ (k : ℕ). add_firsts same_path (paths_in out) (turns k (path_in next))) e))
 
-short_add_firsts : (ps qs : List Path) → Short ps → ((q : Path) → Mem q qs → length q ≤ 32) → Short (addFirsts same_path ps qs)
-unfolding addFirsts
+short_add_firsts : (ps qs : List Path) → Short ps → ((q : Path) → Mem q qs → length q ≤ 32) → Short (add_firsts same_path ps qs)
+unfolding add_firsts
 short_add_firsts ps [] s h = s
-short_add_firsts ps (q ∷ qs) s h = short_add_firsts (addNew same_path ps q) qs (short_add_new ps q s (h q (here refl))) (λ x m. h x (there m))
+short_add_firsts ps (q ∷ qs) s h = short_add_firsts (add_new same_path ps q) qs (short_add_new ps q s (h q (here refl))) (λ x m. h x (there m))
 
 short_none : Short []
 short_none i = omega arith
@@ -121,7 +121,7 @@ module _ (p : Path) (short : length p ≤ 32) (ok : So (codes_ok p)) (none : Til
   )
 
   half_paths : List Path
-  half_paths = addFirsts same_path [] (turns 4 p)
+  half_paths = add_firsts same_path [] (turns 4 p)
 
   half_short : Short half_paths
   unfolding half_paths
@@ -131,11 +131,11 @@ module _ (p : Path) (short : length p ≤ 32) (ok : So (codes_ok p)) (none : Til
   unfolding half_paths
   half_few = omega (arith, (length_add_firsts same_path [] (turns 4 p)).1, length_turns 4 p)
 
-  module _ (half : Tiles) (eh : half ≡ tiles_of (addFirsts same_path (paths_in none) (turns 4 (path_in first)))) (mirror : Tile) (em : mirror ≡ tile_of (reflected A.Horizontal p)) where
+  module _ (half : Tiles) (eh : half ≡ tiles_of (add_firsts same_path (paths_in none) (turns 4 (path_in first)))) (mirror : Tile) (em : mirror ≡ tile_of (reflected A.Horizontal p)) where
     half_is : half ≡ tiles_of half_paths
     unfolding half_paths
     half_is =
-        eh ∙ ap₂ (λ (l : List Path) (q : Path). tiles_of (addFirsts same_path l (turns 4 q))) (ap paths_in en ∙ paths_in_tiles_of [] short_none (omega arith)) (ap path_in ef ∙ path_in_tile_of p short)
+        eh ∙ ap₂ (λ (l : List Path) (q : Path). tiles_of (add_firsts same_path l (turns 4 q))) (ap paths_in en ∙ paths_in_tiles_of [] short_none (omega arith)) (ap path_in ef ∙ path_in_tile_of p short)
 
     mirror_short : length (reflected A.Horizontal p) ≤ 32
     mirror_short = subst (λ (n : ℕ). n ≤ 32) (sym (length_reflected A.Horizontal p)) short
@@ -151,10 +151,10 @@ module _ (p : Path) (short : length p ≤ 32) (ok : So (codes_ok p)) (none : Til
       subst (λ (ts : Tiles). ts.count ≤ 4) (sym half_is) (subst (λ (n : ℕ). n ≤ 4) (sym (count_tiles_of half_paths)) half_few),
     )
 
-    pub orbit_is : tiles_of (addFirsts same_path (paths_in half) (turns 4 (path_in mirror))) ≡ tiles_of (orbit p)
+    pub orbit_is : tiles_of (add_firsts same_path (paths_in half) (turns 4 (path_in mirror))) ≡ tiles_of (orbit p)
     unfolding orbit firsts half_paths
     orbit_is =
-        ap₂ (λ (l : List Path) (q : Path). tiles_of (addFirsts same_path l (turns 4 q)))
+        ap₂ (λ (l : List Path) (q : Path). tiles_of (add_firsts same_path l (turns 4 q)))
         (ap paths_in half_is ∙ paths_in_tiles_of half_paths half_short (omega (arith, half_few)))
         mirror_path
         ∙ ap tiles_of (sym (add_firsts_append same_path [] (turns 4 p) (turns 4 (reflected A.Horizontal p))))

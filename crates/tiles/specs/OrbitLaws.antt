@@ -15,7 +15,7 @@ use mathlib.Core.List.Memᴰ.{tail as there}
 use mathlib.Core.List.{List, [], ◌∷◌, ◌++◌, map, Memᴰ as Mem}
 use Rattle.std.proofs.lemmas.List.{length-map}
 use Rattle.cells.specs.FirstsLaws.{Once, holds_iff, mem_firsts, once_firsts, add_firsts_append, add_firsts_old, add_firsts_new, length_add_firsts, Tells}
-use Rattle.cells.specs.Lists.{holds, addFirsts, firsts}
+use Rattle.cells.specs.Lists.{holds, add_firsts, firsts}
 use Rattle.direction.specs.declared.Axis.{Axis}
 use Rattle.direction.specs.declared.Axis.TheVariants as A
 use Rattle.direction.specs.Direction.{rotate, reflect}
@@ -202,11 +202,11 @@ length_turns zero p = refl
 length_turns (suc k) p = ap suc (length_turns k (rotated p))
 
 module _ (p : Path) (once : Once (turns 4 p)) (once' : Once (turns 4 (reflected Horizontal p))) where
-  orbit_split : orbit p ≡ addFirsts same_path (turns 4 p) (turns 4 (reflected Horizontal p))
+  orbit_split : orbit p ≡ add_firsts same_path (turns 4 p) (turns 4 (reflected Horizontal p))
   unfolding orbit
   orbit_split =
       add_firsts_append same_path [] (turns 4 p) (turns 4 (reflected Horizontal p))
-      ∙ ap (λ (l : List Path). addFirsts same_path l (turns 4 (reflected Horizontal p))) (add_firsts_new same_path same_path_iff [] (turns 4 p) once (λ y m k. not-nil k))
+      ∙ ap (λ (l : List Path). add_firsts same_path l (turns 4 (reflected Horizontal p))) (add_firsts_new same_path same_path_iff [] (turns 4 p) once (λ y m k. not-nil k))
 
   four_or_eight : (length (orbit p) ≡ 4) ⊎ (length (orbit p) ≡ 8)
   four_or_eight = go (holds same_path (turns 4 p) (reflected Horizontal p)) refl

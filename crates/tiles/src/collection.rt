@@ -3,7 +3,7 @@
 // lengths are in range.
 ghost use Rattle.std.specs.Prelude.{◌≡◌, ◌&&◌, ◌+◌, ◌≤◌, ◌<◌, leb, length, get_or, take, drop};
 ghost use Rattle.std.proofs.Math.Bool.{So};
-ghost use Rattle.cells.specs.Lists.{list_of, all_below, holds, addNew, addFirsts};
+ghost use Rattle.cells.specs.Lists.{list_of, all_below, holds, add_new, add_firsts};
 ghost use Rattle.refusal.specs.Refusal.{given};
 ghost use Rattle.tile.specs.Path.{codes_ok, is_path, cell_count, path_in};
 ghost use Rattle.tile.specs.Inner.{CleanTile};
@@ -192,7 +192,7 @@ pub fn appended(tiles: Tiles, tile: Tile) -> Tiles
 // The tiles with one more, unless it is there.
 fn with_new(tiles: Tiles, tile: Tile) -> Tiles
     requires { Clean tiles × CleanTile tile × (tiles.count < 64) }
-    ensures { result ≡ tiles_of (addNew same_path (paths_in tiles) (path_in tile)) }
+    ensures { result ≡ tiles_of (add_new same_path (paths_in tiles) (path_in tile)) }
 {
     let len = tile.len;
     let codes = tile.codes;
@@ -205,7 +205,7 @@ fn with_new(tiles: Tiles, tile: Tile) -> Tiles
 // The tiles with a tile and its three clockwise turns, those that are not there.
 pub fn with_turns(tiles: Tiles, tile: Tile) -> Tiles
     requires { Clean tiles × CleanTile tile × So (codes_ok (path_in tile)) × (tiles.count ≤ 4) }
-    ensures { result ≡ tiles_of (addFirsts same_path (paths_in tiles) (turns 4 (path_in tile))) }
+    ensures { result ≡ tiles_of (add_firsts same_path (paths_in tiles) (turns 4 (path_in tile))) }
 {
     let mut out = tiles;
     let mut turned = tile;

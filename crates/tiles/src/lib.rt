@@ -5,6 +5,7 @@
 // before 5 (a path over 32 or a code over 7), so that nothing is asked of a caller. Only `with_tile`
 // and `get` take a tile as it stands. What each call answers is a definition of specs/Paths.antt.
 #![tactic(auto)]
+
 ghost use Rattle.std.specs.Prelude.{◌≡◌, []};
 ghost use Rattle.refusal.specs.Refusal.{map_answer, refusal_of, verdict_number};
 ghost use Rattle.tile.specs.Path.{read_tile, cell_count_answer};

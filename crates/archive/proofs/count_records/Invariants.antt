@@ -3,12 +3,12 @@ use Prim.Native.Nat.{◌-◌}
 use lib.ListN.{length}
 use borrow.Author.Tests.{not-true, not-false}
 use Rattle.archive.specs.Archive.{count_records}
-use Rattle.archive.proofs.ReadingLaws.{Ahead, ahead_broken, ahead_long, toCount, count_start, count_step, count_end}
+use Rattle.archive.proofs.ReadingLaws.{Ahead, ahead_broken, ahead_long, to_count, count_start, count_step, count_end}
 use borrow.Author.Rules.{rules}
 use Rattle.archive.proofs.count_records.Given as goal
 
 abbrev pub invariant-loop-at : goal.invariant-loop-at
-invariant-loop-at l = Ahead l.file (count_records l.file) (toCount l.file l.place) l.place l.at
+invariant-loop-at l = Ahead l.file (count_records l.file) (to_count l.file l.place) l.place l.at
 
 abbrev pub decreases-loop-at : goal.decreases-loop-at
 decreases-loop-at l = length l.file - l.at

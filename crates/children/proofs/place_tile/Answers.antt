@@ -24,7 +24,7 @@ pub returns-in-Number : goal.returns-in-Number
 returns-in-Number c =
     let accepted : 0 ≡ refusal_of (children_of (board_of c.args.board) c.args.tiles) = sym (ap verdict_number c.in-Accepted.is) ∙ c.judged-verdict.ensures in
     places_number _ _ _ _ (accepted) _ c.add_children-stored.auto.out _ c.add_children-stored.ensures _ c.in-Number.is
-    (λ i. (c.type_inv.out i).fits) c.clear_from.ensures
+    (λ i. search rules) c.clear_from.ensures
 
 pub returns-in-Full : goal.returns-in-Full
 returns-in-Full c =

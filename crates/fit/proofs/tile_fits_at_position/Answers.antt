@@ -11,7 +11,6 @@ use Rattle.rectangle.proofs.BoardLaws.{size_ok_le, inside_iff}
 use Rattle.fit.proofs.FitForLaws.{fit_in_size, fit_in_path, fit_in_point, fit_in_outside, fit_in_fit}
 use Rattle.fit.proofs.WalkLaws.{path_codes}
 use Rattle.fit.proofs.tile_fits_at_position.Goals as goal
-use Rattle.fit.proofs.tile_fits_at_position.Goals.{Else-not-is_path}
 
 pub returns-then-path-start : goal.returns-then-path-start
 returns-then-path-start c = sym (fit_in_point _ _ _ _ _ _ c.if-path-start.true)
@@ -25,21 +24,16 @@ returns-then-not-is_inside c = sym (fit_in_outside _ _ _ _ _ _ (sym c.is_inside.
 pub returns-then-not-is_path : goal.returns-then-not-is_path
 returns-then-not-is_path c = sym (fit_in_path _ _ _ _ _ _ (sym c.is_path.ensures ∙ c.if-not-is_path.true))
 
--- what the tests told of the size, the cell and the codes
-size : (c : Else-not-is_path) → size_ok c.args.width c.args.height ≡ true
-size c = sym c.size_ok.ensures ∙ c.if-not-size_ok.false
-
-within : (c : Else-not-is_path) → inside c.args.width c.args.height (position_of c.args.cell) ≡ true
-within c = sym c.is_inside.ensures ∙ c.if-not-is_inside.false
-
-sound : (c : Else-not-is_path) → is_path c.args.path.now ≡ true
-sound c = sym c.is_path.ensures ∙ c.if-not-is_path.false
-
 pub tile_fits_at_position-requires : goal.tile_fits_at_position-requires
 tile_fits_at_position-requires c =
-    let s = size_ok_le _ _ (size c) in
-    let i = (inside_iff _ _ _ _).0 (within c) in
-    (s.0, s.1, i.0, i.1, omega arith, path_codes _ (sound c))
+    let size : size_ok c.args.width c.args.height ≡ true = sym c.size_ok.ensures ∙ c.if-not-size_ok.false in
+    let within : inside c.args.width c.args.height (position_of c.args.cell) ≡ true = sym c.is_inside.ensures ∙ c.if-not-is_inside.false in
+    let sound : is_path c.args.path.now ≡ true = sym c.is_path.ensures ∙ c.if-not-is_path.false in
+    let s = size_ok_le _ _ size in
+    let i = (inside_iff _ _ _ _).0 within in
+    (s.0, s.1, i.0, i.1, omega arith, path_codes _ sound)
 
 pub returns : goal.returns
-returns c = c.tile_fits_at_position.ensures ∙ sym (fit_in_fit _ _ _ _ _ _ (size c.before) (sound c.before) (omega arith))
+returns c =
+    let size : size_ok c.args.width c.args.height ≡ true = sym c.size_ok.ensures ∙ c.if-not-size_ok.false in
+    let sound : is_path c.args.path.now ≡ true = sym c.is_path.ensures ∙ c.if-not-is_path.false in c.tile_fits_at_position.ensures ∙ sym (fit_in_fit _ _ _ _ _ _ size sound (omega arith))

@@ -1,12 +1,12 @@
 -- `graph::write_edges` meets its contract: each child is stored behind those before it.
 -- Assumes nothing.
 use mathlib.Core.Path.{◌∙◌}
-use mathlib.Core.Logic.{⊎_elim}
 use Prim.Native.Nat.{◌-◌, ◌≤◌}
 use Rattle.graph.proofs.GraphLoops.{WrittenTo, written_none, written_hit, written_miss, written_all}
 use borrow.Author.Rules.{rules}
 use native.Mathlib.Omega.{arith}
 use Rattle.graph.proofs.write_edges.Goals as goal
+use Rattle.graph.proofs.write_edges.Goals.{then-parent-node, else-parent-node}
 
 pub loop-i-init : goal.loop-i-init
 loop-i-init c = (search rules, written_none _ _ _)
@@ -15,8 +15,10 @@ pub loop-i-preserved : goal.loop-i-preserved
 loop-i-preserved c =
     let before = c.loop-i.invariant.1 in (
       omega arith,
-      ⊎_elim (λ w. written_hit _ _ _ _ _ _ before _ _ w.0.taken w.6 (w.5 ∙ w.2.ensures))
-          (λ w. written_miss _ _ _ _ _ _ before _ _ w.0.left w.2 w.1) c.if-parent-node.branch,
+      elim c.if-parent-node.branch [
+        | then-parent-node w ↦ written_hit _ _ _ _ _ _ before _ _ w.if-parent-node.true w.count-is (w.out-is ∙ w.store.ensures)
+        | else-parent-node w ↦ written_miss _ _ _ _ _ _ before _ _ w.if-parent-node.false w.count-is w.out-is
+      ],
     )
 
 pub shape_of-out : goal.shape_of-out

@@ -12,12 +12,12 @@ pub returns-in-Accepted : goal.returns-in-Accepted
 unfolding cuttings_counted
 returns-in-Accepted c =
     count_accepted _ _ c.args.marks.now c.args.tiles.now c.args.answer.now _ c.of_plot-verdict.ensures
-    (λ b ts. count_cuttings b ts (layer_room (length c.args.boards-a.now) (length c.args.counts-a.now) (length c.args.boards-b.now) (length c.args.counts-b.now))) _ _ _ _ _ _ _ _ _ _ _ _
+    (λ b ts. count_cuttings b ts (layer_room (length c.args.boards_a.now) (length c.args.counts_a.now) (length c.args.boards_b.now) (length c.args.counts_b.now))) _ _ _ _ _ _ _ _ _ _ _ _
     c.in-Accepted.is c.board_from.ensures c.tiles_from.ensures c.count_cuttings.ensures
 
 pub returns-in-Refused : goal.returns-in-Refused
 unfolding cuttings_counted
 returns-in-Refused c =
     count_unshaped c.args.width c.args.height c.args.marks.now c.args.tiles.now c.args.answer.now _ c.of_plot-verdict.ensures
-    (λ b ts. count_cuttings b ts (layer_room (length c.args.boards-a.now) (length c.args.counts-a.now) (length c.args.boards-b.now) (length c.args.counts-b.now))) _ _ _ _ _ _ _ _ _ _ _
+    (λ b ts. count_cuttings b ts (layer_room (length c.args.boards_a.now) (length c.args.counts_a.now) (length c.args.boards_b.now) (length c.args.counts_b.now))) _ _ _ _ _ _ _ _ _ _ _
     c.in-Refused.is c.refuse_count.ensures

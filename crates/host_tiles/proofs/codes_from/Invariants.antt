@@ -7,7 +7,7 @@ use borrow.Author.Rules.{rules}
 use Rattle.host_tiles.proofs.codes_from.Given as goal
 
 abbrev pub invariant-loop-k : goal.invariant-loop-k
-invariant-loop-k l = (l.k ≤ 2048) × Filled 0 (λ l.k. get_or l.bytes (33 * (l.k / 32) + (1 + l.k % 32)) 0) (λ l.k. 0) 2048 l.k l.codes
+invariant-loop-k l = (l.k ≤ 2048) × Filled 0 (λ k. get_or l.bytes (33 * (k / 32) + (1 + k % 32)) 0) (λ k. 0) 2048 l.k l.codes
 
 abbrev pub decreases-loop-k : goal.decreases-loop-k
 decreases-loop-k l = 2048 - l.k

@@ -8,7 +8,7 @@ use borrow.Author.Rules.{rules}
 use Rattle.host_tiles.proofs.put_tiles.Given as goal
 
 abbrev pub invariant-loop-k : goal.invariant-loop-k
-invariant-loop-k l = Filled 0 (stored_byte l.lens l.codes) (λ l.k. get_or l.initial.bytes l.k 0) (length l.initial.bytes) l.k l.bytes
+invariant-loop-k l = Filled 0 (stored_byte l.lens l.codes) (λ k. get_or l.initial.bytes k 0) (length l.initial.bytes) l.k l.bytes
 
 abbrev pub decreases-loop-k : goal.decreases-loop-k
 decreases-loop-k l = length l.initial.bytes - l.k

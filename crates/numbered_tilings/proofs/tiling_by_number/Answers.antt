@@ -8,7 +8,8 @@ use Rattle.numbered_tilings.proofs.tiling_by_number.Goals as goal
 pub returns-in_default : goal.returns-in_default
 returns-in_default c =
     let args = c.args in
-    gives_none args.graph args.nodes.now args.counts.now args.edges.now (count_value args.m) args.output.now _ c.judged-answer.ensures _ c.in_default.is _ c.clear_from.ensures
+    let told = gives_none args.graph args.nodes.now args.counts.now args.edges.now (count_value args.m) args.output.now _ c.judged-answer.ensures _ c.in_default.is _ c.clear_from.ensures in
+    record { answer = told.0; chain = told.1 }
 
 pub write_list-requires : goal.write_list-requires
 write_list-requires c =
@@ -19,5 +20,6 @@ write_list-requires c =
 pub returns : goal.returns
 returns c =
     let args = c.args in
-    gives_list args.graph args.nodes.now args.counts.now args.edges.now (count_value args.m) args.output.now _ c.judged-answer.ensures _ c.in-Length.is _ c.last_node-last.ensures _ _
-    c.write_list.auto.out c.write_list.ensures c.clear_from-2.ensures
+    let told = gives_list args.graph args.nodes.now args.counts.now args.edges.now (count_value args.m) args.output.now _ c.judged-answer.ensures _ c.in-Length.is _ c.last_node-last.ensures _ _
+    c.write_list.auto.out c.write_list.ensures c.clear_from-2.ensures in
+    record { answer = told.0; chain = told.1 }

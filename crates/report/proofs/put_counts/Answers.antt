@@ -12,10 +12,11 @@ put_cuttings-requires c =
 
 pub returns : goal.returns
 returns c =
-    let both = puts_append c.requires c.put_layers-next.ensures c.put_cuttings.ensures in (
-      λ p h.
+    let both = puts_append c.requires c.put_layers-next.ensures c.put_cuttings.ensures in
+    record {
+      text = λ p h.
           let counted = held_counted p _ _ h _ _ _ _ _ _ _ _ _ c.count_tilings-count.ensures.answer refl counts_lent.0 refl counts_lent.0 in
           puts_append c.requires (puts_as (ap layers_line counted) c.put_layers-next.ensures)
-          (puts_as (ap cuttings_line (c.count_cuttings_from_layers-figure.ensures ∙ held_figure p _ _ h _ counted)) c.put_cuttings.ensures),
-      puts_within c.requires both,
-    )
+          (puts_as (ap cuttings_line (c.count_cuttings_from_layers-figure.ensures ∙ held_figure p _ _ h _ counted)) c.put_cuttings.ensures);
+      within = puts_within c.requires both;
+    }

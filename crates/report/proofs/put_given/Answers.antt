@@ -13,9 +13,10 @@ put_tilings-requires c = puts_inside c.requires c.put_sizes-next.ensures
 pub returns : goal.returns
 unfolding graph_lines
 returns c =
-    let inside = c.requires in (
-      λ g built.
+    let inside = c.requires in
+    record {
+      text = λ g built.
           puts_append inside (puts_as (graph_line_lem built _ c.count_tilings_from_graph-count.ensures) c.put_sizes-next.ensures)
-          (c.put_tilings.ensures.text g built (c.count_tilings_from_graph-count.ensures ∙ built.count)),
-      omega (arith, c.put_tilings.ensures.within, puts_length inside c.put_sizes-next.ensures),
-    )
+          (c.put_tilings.ensures.text g built (c.count_tilings_from_graph-count.ensures ∙ built.count));
+      within = omega (arith, c.put_tilings.ensures.within, puts_length inside c.put_sizes-next.ensures);
+    }

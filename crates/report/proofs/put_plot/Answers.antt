@@ -11,13 +11,13 @@ use Rattle.report.proofs.put_plot.Goals as goal
 pub returns : goal.returns
 unfolding plot_lines
 returns c =
-    (
-      λ p h.
+    record {
+      text = λ p h.
           puts_append (omega arith)
           (puts_as (sym (append_assoc (board_line p ++ tiles_line p) (layers_line (plot_layers p)) (cuttings_line (plot_cuttings p))))
           (puts_append (omega arith)
           (puts_append (omega arith) (puts_as (board_line_lem h _ c.free_cells.ensures) c.put_board-second.ensures) (puts_as (tiles_line_lem h) c.put_tiles-third.ensures))
           (c.put_counts-fourth.ensures.text p h)))
-          (c.put_graph.ensures.text p h),
-      omega (arith, c.put_graph.ensures.within, c.put_counts-fourth.auto.0, c.put_tiles-third.auto.0, c.put_board-second.auto.0),
-    )
+          (c.put_graph.ensures.text p h);
+      within = omega (arith, c.put_graph.ensures.within, c.put_counts-fourth.auto.out, c.put_tiles-third.auto.out, c.put_board-second.auto.out);
+    }

@@ -25,15 +25,19 @@ pub returns-in-Length : goal.returns-in-Length
 unfolding tiling_line
 returns-in-Length c =
     let gives = gives_same c.args.graph c.args.nodes.now c.args.counts.now c.args.edges.now _ c.args.m _ _ c.tiling_by_number-tiling.result
-    (word_count c.args.m (search rules) _ c.of_words-number.ensures) c.tiling_by_number-tiling.ensures.answer in (
-      λ g built below.
+    (word_count c.args.m (search rules) _ c.of_words-number.ensures) c.tiling_by_number-tiling.ensures.answer in
+    record {
+      text = λ g built below.
           puts_as (ap (λ (l : List ℕ). field "tiling " c.args.m ++ ascii ":" ++ flat_map (field " ") l ++ feed)
-          (told_list c.args.graph c.args.nodes.now c.args.counts.now c.args.edges.now c.args.m _ _ c.tiling_by_number-tiling.result gives built below refl _ c.in-Length.is)) c.put_list.ensures,
-      puts_within c.requires c.put_list.ensures,
-    )
+          (told_list c.args.graph c.args.nodes.now c.args.counts.now c.args.edges.now c.args.m _ _ c.tiling_by_number-tiling.result gives built below refl _ c.in-Length.is)) c.put_list.ensures;
+      within = puts_within c.requires c.put_list.ensures;
+    }
 
 pub returns-in-Refused : goal.returns-in-Refused
 returns-in-Refused c =
     let gives = gives_same c.args.graph c.args.nodes.now c.args.counts.now c.args.edges.now _ c.args.m _ _ c.tiling_by_number-tiling.result
     (word_count c.args.m (search rules) _ c.of_words-number.ensures) c.tiling_by_number-tiling.ensures.answer in
-    (λ g built below. absurd (told_given c.args.graph c.args.nodes.now c.args.counts.now c.args.edges.now c.args.m _ _ c.tiling_by_number-tiling.result gives built below refl _ c.in-Refused.is), c.requires)
+    record {
+      text = λ g built below. absurd (told_given c.args.graph c.args.nodes.now c.args.counts.now c.args.edges.now c.args.m _ _ c.tiling_by_number-tiling.result gives built below refl _ c.in-Refused.is);
+      within = c.requires;
+    }

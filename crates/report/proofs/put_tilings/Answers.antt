@@ -29,7 +29,7 @@ pub returns-then-not-less : goal.returns-then-not-less
 returns-then-not-less c =
     let inv = c.loop-m.invariant in
     let past = not_below _ _ _ inv.0 c.of_words.ensures (sym c.less.ensures ∙ c.if-not-less.true) in
-    (λ g built counted. puts_listed g _ (omega (arith, counted, inv.0, inv.1, past)) (inv.4 g built counted), inv.2)
+    record { text = λ g built counted. puts_listed g _ (omega (arith, counted, inv.0, inv.1, past)) (inv.4 g built counted); within = inv.2 }
 
 pub put_tiling-next-requires : goal.put_tiling-next-requires
 put_tiling-next-requires c = let inv = c.loop-m.invariant in omega (arith, inv.2, inv.3)
@@ -41,7 +41,7 @@ loop-m-preserved c =
       omega (arith, c.loop-m-test.true),
       omega (arith, below),
       omega (arith, c.put_tiling-next.ensures.within, inv.3),
-      c.put_tiling-next.auto.0 ∙ inv.3,
+      c.put_tiling-next.auto.out ∙ inv.3,
       λ g built counted.
           puts_tiling g _ c.requires (inv.4 g built counted)
           (c.put_tiling-next.ensures.text g built (omega (arith, counted, below))),
@@ -53,4 +53,4 @@ shape_of-out c = c.loop-m.invariant.3
 pub returns : goal.returns
 returns c =
     let inv = c.loop-m.invariant in
-    (λ g built counted. puts_listed g _ (omega (arith, counted, inv.0, inv.1, c.loop-m-test.false)) (inv.4 g built counted), inv.2)
+    record { text = λ g built counted. puts_listed g _ (omega (arith, counted, inv.0, inv.1, c.loop-m-test.false)) (inv.4 g built counted); within = inv.2 }

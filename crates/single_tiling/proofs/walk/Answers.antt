@@ -3,7 +3,7 @@
 use mathlib.Core.Path.{sym, subst}
 use Prim.Native.Nat.{ℕ, ◌≤◌}
 use borrow.Author.Tests.{not-true}
-use Rattle.cells.specs.Set.{Sound}
+use Rattle.board.proofs.SoundLaws.{board_sound}
 use Rattle.rectangle.proofs.FreeLaws.{free_le}
 use Rattle.single_tiling.proofs.SearchLaws.{searched_held, walk_full, walk_no_sum, walk_first}
 use borrow.Author.Rules.{rules}
@@ -11,25 +11,23 @@ use Rattle.single_tiling.proofs.walk.Goals as goal
 
 pub returns-then-free-eq0 : goal.returns-then-free-eq0
 returns-then-free-eq0 c =
-    let fixed : Sound c.args.board.fixed = record { s0 = search rules; s1 = search rules; s2 = search rules; s3 = search rules } in
-    let laid : Sound c.args.board.laid = record { s0 = search rules; s1 = search rules; s2 = search rules; s3 = search rules } in walk_full _ (fixed) (laid) _ _ _ c.requires _ c.if-free-eq0.true
+    let sound = board_sound _ c.well_formed.0 in
+    walk_full _ sound.0 sound.1 _ _ _ c.requires _ c.if-free-eq0.true
 
 pub is_sum-requires : goal.is_sum-requires
 is_sum-requires c = (c.requires.tiles, subst (λ (n : ℕ). n ≤ 256) (sym c.requires.cells) (free_le _))
 
 pub returns-then-not-is_sum : goal.returns-then-not-is_sum
 returns-then-not-is_sum c =
-    let fixed : Sound c.args.board.fixed = record { s0 = search rules; s1 = search rules; s2 = search rules; s3 = search rules } in
-    let laid : Sound c.args.board.laid = record { s0 = search rules; s1 = search rules; s2 = search rules; s3 = search rules } in walk_no_sum _ (fixed) (laid) _ _ _ c.requires _ _ c.if-not-is_sum.true c.is_sum.ensures
+    let sound = board_sound _ c.well_formed.0 in
+    walk_no_sum _ sound.0 sound.1 _ _ _ c.requires _ _ c.if-not-is_sum.true c.is_sum.ensures
 
 pub descend-requires : goal.descend-requires
 descend-requires c =
-    let fixed : Sound c.args.board.fixed = record { s0 = search rules; s1 = search rules; s2 = search rules; s3 = search rules } in
-    let laid : Sound c.args.board.laid = record { s0 = search rules; s1 = search rules; s2 = search rules; s3 = search rules } in
-    searched_held _ (fixed) (laid) _ _ _ c.requires _ c.has_single-single.ensures
+    let sound = board_sound _ c.well_formed.0 in
+    searched_held _ sound.0 sound.1 _ _ _ c.requires _ c.has_single-single.ensures
 
 pub returns : goal.returns
 returns c =
-    let fixed : Sound c.args.board.fixed = record { s0 = search rules; s1 = search rules; s2 = search rules; s3 = search rules } in
-    let laid : Sound c.args.board.laid = record { s0 = search rules; s1 = search rules; s2 = search rules; s3 = search rules } in
-    walk_first _ (fixed) (laid) _ _ _ c.requires _ _ _ c.if-free-eq0.false c.descend.ensures
+    let sound = board_sound _ c.well_formed.0 in
+    walk_first _ sound.0 sound.1 _ _ _ c.requires _ _ _ c.if-free-eq0.false c.descend.ensures

@@ -7,7 +7,7 @@ use lib.Dec.{eqb}
 use lib.ListN.{length}
 use borrow.Author.Rules.{rules}
 use native.Mathlib.Omega.{arith}
-use Rattle.cells.specs.Lists.{addFirsts}
+use Rattle.cells.specs.Lists.{add_firsts}
 use Rattle.board.specs.Board.{board_of}
 use Rattle.children.specs.Inner.{Keeps}
 use Rattle.children.proofs.PlacingLaws.{point_children, points_none, points_more, points_all}

@@ -8,7 +8,7 @@ use lib.Dec.{eqb}
 use lib.ListN.{length}
 use borrow.Author.Rules.{rules}
 use native.Mathlib.Omega.{arith}
-use Rattle.cells.specs.Lists.{addFirsts}
+use Rattle.cells.specs.Lists.{add_firsts}
 use Rattle.tiles.specs.ReadLaws.{sound_tile}
 use Rattle.tile.specs.Path.{Path, is_path}
 use Rattle.board.specs.Board.{board_of}

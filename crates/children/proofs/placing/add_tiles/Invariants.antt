@@ -6,7 +6,7 @@ use lib.Dec.{eqb}
 use lib.ListN.{length}
 use borrow.Author.Rules.{rules}
 use native.Mathlib.Omega.{arith}
-use Rattle.cells.specs.Lists.{addFirsts}
+use Rattle.cells.specs.Lists.{add_firsts}
 use Rattle.tiles.specs.ReadLaws.{sound_tile}
 use Rattle.tile.specs.Path.{Path, is_path}
 use Rattle.board.specs.Board.{board_of}
@@ -15,7 +15,7 @@ use Rattle.children.proofs.PlacingLaws.{keeps_none, tile_children, tiles_none, t
 use Rattle.children.proofs.placing.add_tiles.Given as goal
 
 abbrev pub invariant-loop-i : goal.invariant-loop-i
-invariant-loop-i l = (l.i ≤ l.count) × (length l.out ≡ length l.initial.out) × Keeps (addFirsts eqb [] (tile_children (board_of l.board) l.cell l.lens l.codes l.i)) l.out l.state
+invariant-loop-i l = (l.i ≤ l.count) × (length l.out ≡ length l.initial.out) × Keeps (add_firsts eqb [] (tile_children (board_of l.board) l.cell l.lens l.codes l.i)) l.out l.state
 
 abbrev pub decreases-loop-i : goal.decreases-loop-i
 decreases-loop-i l = l.count - l.i

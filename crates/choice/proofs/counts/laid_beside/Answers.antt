@@ -29,16 +29,16 @@ pub returns-then-has_cell : goal.returns-then-has_cell
 unfolding one
 returns-then-has_cell c =
     let stepped : place_answer c.move_in_direction-place.result ≡ place_if (inside c.args.width c.args.height) (shift (position_of c.args.cell) (step c.args.code)) = beside_step _ _ c.args.cell _ c.move_in_direction-place.result c.move_in_direction-place.ensures c.requires.2 c.requires.3 in (
-  beside_place _ _ _ _ _ _ (stepped) _ _ c.in-At.is true
-      (sym c.has_cell.ensures ∙ c.if-has_cell.true),
-  search rules,
-)
+      beside_place _ _ _ _ _ _ (stepped) _ _ c.in-At.is true
+          (sym c.has_cell.ensures ∙ c.if-has_cell.true),
+      search rules,
+    )
 
 pub returns : goal.returns
 unfolding one
 returns c =
     let stepped : place_answer c.move_in_direction-place.result ≡ place_if (inside c.args.width c.args.height) (shift (position_of c.args.cell) (step c.args.code)) = beside_step _ _ c.args.cell _ c.move_in_direction-place.result c.move_in_direction-place.ensures c.requires.2 c.requires.3 in (
-  beside_place _ _ _ _ _ _ (stepped) _ _ c.in-At.is false
-      (sym c.has_cell.ensures ∙ c.if-has_cell.false),
-  search rules,
-)
+      beside_place _ _ _ _ _ _ (stepped) _ _ c.in-At.is false
+          (sym c.has_cell.ensures ∙ c.if-has_cell.false),
+      search rules,
+    )

@@ -19,7 +19,7 @@ pub loop-col-preserved : goal.loop-col-preserved
 loop-col-preserved c = (
   omega arith,
   omega arith,
-  columns_more _ _ _ _ _ _ c.loop-col.invariant.2 c.scan_column-scan.ensures.0,
+  columns_more _ _ _ _ _ _ c.loop-col.invariant.2 c.scan_column-scan.ensures.best,
 )
 
 pub returns : goal.returns

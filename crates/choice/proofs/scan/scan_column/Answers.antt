@@ -22,7 +22,7 @@ loop-row-preserved c = (
 )
 
 pub returns : goal.returns
-returns c = (
-  scanned_all _ _ _ _ _ _ _ c.loop-row.invariant.2 c.loop-row.invariant.0 c.loop-row-test.false,
-  omega arith,
-)
+returns c = record {
+  best = scanned_all _ _ _ _ _ _ _ c.loop-row.invariant.2 c.loop-row.invariant.0 c.loop-row-test.false;
+  below = omega arith;
+}

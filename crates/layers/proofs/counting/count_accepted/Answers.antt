@@ -18,8 +18,8 @@ returns-then-room-eq0 c = start_no_room _ _ _ _ c.layer_room-room.ensures c.if-r
 -- s is what is known at the start, f after `free_cells`, m after `start`, r after `run`; w is that the room is lent
 pub returns-then-free-eq0 : goal.returns-then-free-eq0
 returns-then-free-eq0 c =
-    let small_fixed : number c.args.board.fixed < 2 ^ 256 = number_lt _ (record { s0 = search rules; s1 = search rules; s2 = search rules; s3 = search rules }) in
-    let small_laid : number c.args.board.laid < 2 ^ 256 = number_lt _ (record { s0 = search rules; s1 = search rules; s2 = search rules; s3 = search rules }) in
+    let small_fixed : number c.args.board.fixed < 2 ^ 256 = number_lt _ (record { s0 = search (rules, c.well_formed); s1 = search (rules, c.well_formed); s2 = search (rules, c.well_formed); s3 = search (rules, c.well_formed) }) in
+    let small_laid : number c.args.board.laid < 2 ^ 256 = number_lt _ (record { s0 = search (rules, c.well_formed); s1 = search (rules, c.well_formed); s2 = search (rules, c.well_formed); s3 = search (rules, c.well_formed) }) in
     start_full _ _ c.requires.0 (small_fixed) (small_laid) _ c.free_cells-free.ensures _ _ c.layer_room-room.ensures c.if-room-eq0.false
     _ (word_count 0 (lit< tt) _ c.of_words.ensures) c.if-free-eq0.true
 
@@ -31,8 +31,8 @@ start-requires c =
 
 pub run-requires : goal.run-requires
 run-requires c =
-    let small_fixed : number c.args.board.fixed < 2 ^ 256 = number_lt _ (record { s0 = search rules; s1 = search rules; s2 = search rules; s3 = search rules }) in
-    let small_laid : number c.args.board.laid < 2 ^ 256 = number_lt _ (record { s0 = search rules; s1 = search rules; s2 = search rules; s3 = search rules }) in
+    let small_fixed : number c.args.board.fixed < 2 ^ 256 = number_lt _ (record { s0 = search (rules, c.well_formed); s1 = search (rules, c.well_formed); s2 = search (rules, c.well_formed); s3 = search (rules, c.well_formed) }) in
+    let small_laid : number c.args.board.laid < 2 ^ 256 = number_lt _ (record { s0 = search (rules, c.well_formed); s1 = search (rules, c.well_formed); s2 = search (rules, c.well_formed); s3 = search (rules, c.well_formed) }) in
     let w = layer_room_lem _ _ _ _ _ c.layer_room-room.ensures in (
       (c.requires.0, c.requires.1),
       (omega (arith, w.0, c.start.auto.boards), room_kept _ _ _ w.1 c.start.auto.counts),
@@ -43,7 +43,7 @@ run-requires c =
 
 pub returns : goal.returns
 returns c =
-    let small_fixed : number c.args.board.fixed < 2 ^ 256 = number_lt _ (record { s0 = search rules; s1 = search rules; s2 = search rules; s3 = search rules }) in
-    let small_laid : number c.args.board.laid < 2 ^ 256 = number_lt _ (record { s0 = search rules; s1 = search rules; s2 = search rules; s3 = search rules }) in
+    let small_fixed : number c.args.board.fixed < 2 ^ 256 = number_lt _ (record { s0 = search (rules, c.well_formed); s1 = search (rules, c.well_formed); s2 = search (rules, c.well_formed); s3 = search (rules, c.well_formed) }) in
+    let small_laid : number c.args.board.laid < 2 ^ 256 = number_lt _ (record { s0 = search (rules, c.well_formed); s1 = search (rules, c.well_formed); s2 = search (rules, c.well_formed); s3 = search (rules, c.well_formed) }) in
     start_run _ _ c.requires.0 (small_fixed) (small_laid) _ c.free_cells-free.ensures _ _ c.layer_room-room.ensures c.if-room-eq0.false
     _ c.start.ensures c.if-free-eq0.false _ c.run.ensures

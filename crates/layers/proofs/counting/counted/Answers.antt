@@ -1,6 +1,6 @@
 -- `layers::counting::counted` meets its contract: what is refused is refused, and the rest is counted. Assumes nothing.
 use Rattle.expansion.proofs.ExpansionLaws.{judged_size, judged_refused}
-use Rattle.layers.proofs.StartLaws.{count_given, count_refused}
+use Rattle.layers.proofs.StartLaws.{count_given_lem, count_refused}
 use borrow.Author.Rules.{rules}
 use Rattle.layers.proofs.counting.counted.Goals as goal
 
@@ -11,7 +11,7 @@ count_accepted-requires c =
 
 pub returns-in-Size : goal.returns-in-Size
 returns-in-Size c =
-    count_given _ _ _ _ (judged_size _ _ _ _ c.judge-judged.ensures c.in-Size.is).2 c.count_accepted.ensures
+    count_given_lem _ _ _ _ (judged_size _ _ _ _ c.judge-judged.ensures c.in-Size.is).2 c.count_accepted.ensures
 
 pub returns-in-Refused : goal.returns-in-Refused
 returns-in-Refused c = count_refused _ _ _ _ (judged_refused _ _ _ _ c.judge-judged.ensures c.in-Refused.is)

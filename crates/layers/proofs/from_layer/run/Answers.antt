@@ -32,12 +32,11 @@ loop-free-smaller c =
 
 pub loop-free-preserved : goal.loop-free-preserved
 loop-free-preserved c =
-    let i = c.loop-free.invariant in
-    let k = c.grow_twice-grown.auto in (
-      k.1.0 ∙ i.0,
-      k.1.1.0 ∙ i.1,
-      k.1.1.1.0 ∙ i.2,
-      k.1.1.1.1.0 ∙ i.3,
+    let i = c.loop-free.invariant in (
+      c.grow_twice-grown.auto.boards ∙ i.0,
+      c.grow_twice-grown.auto.counts ∙ i.1,
+      c.grow_twice-grown.auto.next_boards ∙ i.2,
+      c.grow_twice-grown.auto.next_counts ∙ i.3,
       grown_ready _ _ _ _ _ _ _ _ c.grow_twice-grown.ensures _ _ c.in-Boards.is,
       λ x h. i.5 x (grown_on _ _ _ _ _ _ _ _ c.grow_twice-grown.ensures _ _ c.in-Boards.is x h),
     )

@@ -23,13 +23,12 @@ add_paths-state-requires c =
 
 pub loop-i-preserved : goal.loop-i-preserved
 loop-i-preserved c =
-    let d = c.add_paths-state in
     let l = c.loop-i in (
       omega arith,
-      d.ensures.0,
-      d.auto.0 ∙ l.invariant.2,
-      d.auto.1.0 ∙ l.invariant.3,
-      λ es h. each_more _ _ _ _ _ _ _ _ _ c.get.ensures (d.ensures.1 _ (l.invariant.4 es h)),
+      c.add_paths-state.ensures.0,
+      c.add_paths-state.auto.boards ∙ l.invariant.2,
+      c.add_paths-state.auto.counts ∙ l.invariant.3,
+      λ es h. each_more _ _ _ _ _ _ _ _ _ c.get.ensures (c.add_paths-state.ensures.1 _ (l.invariant.4 es h)),
     )
 
 pub shape_of-boards : goal.shape_of-boards

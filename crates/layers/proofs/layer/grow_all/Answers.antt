@@ -27,14 +27,13 @@ grow_by-state-requires c =
 
 pub loop-i-preserved : goal.loop-i-preserved
 loop-i-preserved c =
-    let d = c.grow_by-state in
     let l = c.loop-i in (
       omega arith,
-      d.ensures.0,
-      d.auto.1.1.1.1.1.0 ∙ l.invariant.2,
-      d.auto.1.1.1.1.1.1.0 ∙ l.invariant.3,
-      d.auto.1.1.1.1.1.1.1.0 ∙ l.invariant.4,
-      grown_more _ _ _ _ _ _ _ _ _ (d.ensures.1 _ l.invariant.5),
+      c.grow_by-state.ensures.0,
+      c.grow_by-state.auto.next_boards ∙ l.invariant.2,
+      c.grow_by-state.auto.next_counts ∙ l.invariant.3,
+      c.grow_by-state.auto.children ∙ l.invariant.4,
+      grown_more _ _ _ _ _ _ _ _ _ (c.grow_by-state.ensures.1 _ l.invariant.5),
     )
 
 pub shape_of-next_boards : goal.shape_of-next_boards

@@ -21,12 +21,11 @@ returns-in_default c =
     c.loop-i-test.true (sum_large _ _ c.plus-next.ensures c.in_default.is)
 
 pub loop-i-preserved : goal.loop-i-preserved
-loop-i-preserved c =
-    (
-      search rules,
-      sum_added c.args.counts.now c.args.edges.now _ _ _ _ c.loop-i.invariant.1 c.share_at.ensures _
-          (sum_is _ _ c.plus-next.ensures _ c.in-Is.is).0,
-    )
+loop-i-preserved c = (
+  search rules,
+  sum_added c.args.counts.now c.args.edges.now _ _ _ _ c.loop-i.invariant.1 c.share_at.ensures _
+      (sum_is _ _ c.plus-next.ensures _ c.in-Is.is).0,
+)
 
 pub returns : goal.returns
 returns c =

@@ -6,7 +6,7 @@ use Rattle.cells.specs.Lists.{list_of}
 use Rattle.covers.specs.Counts.{parents_of, turn}
 use Rattle.graph.specs.Graph.{edge_at}
 use Rattle.path_count.specs.PathCounts.{count_value, count_in}
-use Rattle.numbered_tilings.proofs.WalkLoops.{turnFrom, turn_start, turn_none, turn_passed, turn_held}
+use Rattle.numbered_tilings.proofs.WalkLoops.{turn_from, turn_start, turn_none, turn_passed, turn_held}
 use borrow.Author.Tests.{ltb-true, ltb-false}
 use borrow.Author.Rules.{rules}
 use Rattle.numbered_tilings.proofs.walk.find_turn.Goals as goal
@@ -21,13 +21,12 @@ returns-then-less c =
     ∙ sym c.loop-i.invariant.1
 
 pub loop-i-preserved : goal.loop-i-preserved
-loop-i-preserved c =
-    (
-      search rules,
-      c.loop-i.invariant.1
-          ∙ turn_passed _ _ _ _ _ c.loop-i-test.true _ _ c.share_at-share.ensures
-          (ltb-false _ _ (sym c.less.ensures ∙ c.if-less.false)) _ c.minus-left.ensures,
-    )
+loop-i-preserved c = (
+  search rules,
+  c.loop-i.invariant.1
+      ∙ turn_passed _ _ _ _ _ c.loop-i-test.true _ _ c.share_at-share.ensures
+      (ltb-false _ _ (sym c.less.ensures ∙ c.if-less.false)) _ c.minus-left.ensures,
+)
 
 pub returns : goal.returns
 returns c = turn_none _ _ _ _ _ _ c.loop-i-test.false ∙ sym c.loop-i.invariant.1

@@ -8,8 +8,8 @@ use Rattle.path_count.proofs.PathCount.plus.Goals as goal
 
 pub returns-then-word-self : goal.returns-then-word-self
 unfolding count_value sum_answer
-returns-then-word-self c = sum_wraps _ _ _ (search rules) (search rules) c.wrapping_add_u64-word.ensures c.if-word-self.true
+returns-then-word-self c = sum_wraps _ _ _ (search rules) (search rules) c.wrapping_add_u64-word.ensures.value c.if-word-self.true
 
 pub returns : goal.returns
 unfolding count_value sum_answer
-returns c = sum_fits _ _ _ (search rules) (search rules) c.wrapping_add_u64-word.ensures c.if-word-self.false
+returns c = sum_fits _ _ _ (search rules) (search rules) c.wrapping_add_u64-word.ensures.value c.if-word-self.false

@@ -21,11 +21,10 @@ put_field-next-requires c = puts_inside c.requires c.loop-i.invariant.1
 
 pub loop-i-preserved : goal.loop-i-preserved
 unfolding field ascii
-loop-i-preserved c =
-    (
-      omega arith,
-      puts_part c.requires (field " ") _ _ c.loop-i-test.true c.loop-i.invariant.1 c.put_field-next.ensures,
-    )
+loop-i-preserved c = (
+  omega arith,
+  puts_part c.requires (field " ") _ _ c.loop-i-test.true c.loop-i.invariant.1 c.put_field-next.ensures,
+)
 
 pub shape_of-out : goal.shape_of-out
 shape_of-out c = puts_length c.requires c.loop-i.invariant.1

@@ -15,11 +15,10 @@ pub put_byte-next-requires : goal.put_byte-next-requires
 put_byte-next-requires c = puts_inside c.requires c.loop-i.invariant.1
 
 pub loop-i-preserved : goal.loop-i-preserved
-loop-i-preserved c =
-    (
-      omega arith,
-      puts_byte c.requires _ _ c.loop-i-test.true c.loop-i.invariant.1 c.put_byte-next.ensures,
-    )
+loop-i-preserved c = (
+  omega arith,
+  puts_byte c.requires _ _ c.loop-i-test.true c.loop-i.invariant.1 c.put_byte-next.ensures,
+)
 
 pub shape_of-out : goal.shape_of-out
 shape_of-out c = puts_length c.requires c.loop-i.invariant.1

@@ -22,20 +22,18 @@ returns-then-table-n-eq1 c =
     (one_more c.args.table.now c.args.n (get_or c.args.sizes.now c.loop-i.i 0) c.if-size-n.true c.if-table-n-eq1.true))
 
 pub loop-i-preserved-else-table-n-eq1 : goal.loop-i-preserved-else-table-n-eq1
-loop-i-preserved-else-table-n-eq1 c =
-    (
-      search rules,
-      below_more _ _ c.loop-i.invariant.1
-          (not_marked c.args.table.now c.args.n (get_or c.args.sizes.now c.loop-i.i 0) c.if-table-n-eq1.false),
-    )
+loop-i-preserved-else-table-n-eq1 c = (
+  search rules,
+  below_more _ _ c.loop-i.invariant.1
+      (not_marked c.args.table.now c.args.n (get_or c.args.sizes.now c.loop-i.i 0) c.if-table-n-eq1.false),
+)
 
 pub loop-i-preserved : goal.loop-i-preserved
-loop-i-preserved c =
-    (
-      search rules,
-      below_more _ _ c.loop-i.invariant.1
-          (too_large_lem c.args.table.now c.args.n (get_or c.args.sizes.now c.loop-i.i 0) c.if-size-n.false),
-    )
+loop-i-preserved c = (
+  search rules,
+  below_more _ _ c.loop-i.invariant.1
+      (too_large_lem c.args.table.now c.args.n (get_or c.args.sizes.now c.loop-i.i 0) c.if-size-n.false),
+)
 
 pub returns : goal.returns
 returns c = let inv = c.loop-i.invariant in sym (none_list_of _ _ _ (λ k h. inv.1 k (omega arith)))

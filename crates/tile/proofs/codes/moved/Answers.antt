@@ -21,8 +21,7 @@ loop-i-init c =
 
 pub loop-i-preserved : goal.loop-i-preserved
 loop-i-preserved c =
-    let inv = c.loop-i.invariant in
-    (
+    let inv = c.loop-i.invariant in (
       omega arith,
       filled_step 0 _ _ 32 _ _ _ inv.1 (omega arith)
           (c.image_of.ensures ∙ image_at _ _ _ (long c.before.before.before.before) _ c.loop-i-test.true),

@@ -6,7 +6,7 @@ use Prim.Native.Nat.{◌+◌, ◌≤◌, ◌-◌}
 use lib.Dec.{eqb, lit≤}
 use lib.ListN.{length, drop}
 use lib.Seq.{length-take-le}
-use Rattle.cells.specs.Lists.{addFirsts}
+use Rattle.cells.specs.Lists.{add_firsts}
 use Rattle.tile.specs.Inner.{keys_after, keys_in, Near}
 use Rattle.tile.specs.PathLaws.{codes_ok_at}
 use Rattle.tile.proofs.KeyLaws.{near_first, near_step, cell_count_keys, add_firsts_step, add_firsts_end}

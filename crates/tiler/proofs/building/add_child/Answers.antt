@@ -13,16 +13,14 @@ pub returns-in_default : goal.returns-in_default
 returns-in_default c = (omega arith, λ g k. child_no_room _ _ _ _ _ _ k _ _ c.in_default.is)
 
 pub returns-then-node_room-n : goal.returns-then-node_room-n
-returns-then-node_room-n c =
-    (
-      omega arith,
-      λ g k. child_over _ _ _ _ _ _ k _ _ _ _ c.in-Size.is c.requires.1 _ c.find-found.ensures c.in_default-found.is c.if-node_room-n.true,
-    )
+returns-then-node_room-n c = (
+  omega arith,
+  λ g k. child_over _ _ _ _ _ _ k _ _ _ _ c.in-Size.is c.requires.1 _ c.find-found.ensures c.in_default-found.is c.if-node_room-n.true,
+)
 
 pub returns-in_default-found : goal.returns-in_default-found
 returns-in_default-found c =
-    let small : number c.args.child < 2 ^ 256 = number_lt _ (record { s0 = search rules; s1 = search rules; s2 = search rules; s3 = search rules }) in
-    (
+    let small : number c.args.child < 2 ^ 256 = number_lt _ (record { s0 = search rules; s1 = search rules; s2 = search rules; s3 = search rules }) in (
       search rules,
       λ g k.
           child_put _ _ _ _ _ _ k _ _ _ _ c.in-Size.is c.requires.1 _ c.find-found.ensures c.in_default-found.is c.if-node_room-n.false
@@ -30,10 +28,9 @@ returns-in_default-found c =
     )
 
 pub returns : goal.returns
-returns c =
-    (
-      size_within _ _ _ _ c.in-Size.is c.requires.0,
-      λ g k.
-          child_old _ _ _ _ _ _ k _ _ _ _ c.in-Size.is c.requires.1 _ c.find-found.ensures _ c.in-At.is _ _
-          c.add_edge-2.ensures,
-    )
+returns c = (
+  size_within _ _ _ _ c.in-Size.is c.requires.0,
+  λ g k.
+      child_old _ _ _ _ _ _ k _ _ _ _ c.in-Size.is c.requires.1 _ c.find-found.ensures _ c.in-At.is _ _
+      c.add_edge-2.ensures,
+)

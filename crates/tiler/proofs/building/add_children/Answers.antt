@@ -6,7 +6,7 @@ use Prim.Native.Nat.{ℕ, ◌-◌, ◌≤◌}
 use lib.Dec.{eqb}
 use lib.ListN.{length}
 use Rattle.cells.specs.Lists.{list_of, set_at}
-use Rattle.covers.specs.Inner.{addChildren}
+use Rattle.covers.specs.Inner.{add_children}
 use Rattle.tiler.specs.Inner.{nodes_in, HoldsGraph}
 use Rattle.tiler.proofs.BuildLaws.{children_none, children_more, children_all}
 use native.Mathlib.Omega.{arith}
@@ -21,14 +21,13 @@ add_child-state-requires c =
     (c.loop-i.invariant.1, omega (arith, c.requires.1, c.loop-i.invariant.2), omega (arith, c.requires.2, c.loop-i.invariant.3))
 
 pub loop-i-preserved : goal.loop-i-preserved
-loop-i-preserved c =
-    (
-      search rules,
-      c.add_child-state.ensures.0,
-      search rules,
-      search rules,
-      λ g k. children_more _ _ _ _ _ _ _ _ _ _ c.get.ensures (c.add_child-state.ensures.1 _ (c.loop-i.invariant.4 g k)),
-    )
+loop-i-preserved c = (
+  search rules,
+  c.add_child-state.ensures.0,
+  search rules,
+  search rules,
+  λ g k. children_more _ _ _ _ _ _ _ _ _ _ c.get.ensures (c.add_child-state.ensures.1 _ (c.loop-i.invariant.4 g k)),
+)
 
 pub shape_of-nodes : goal.shape_of-nodes
 shape_of-nodes c = c.loop-i.invariant.2
@@ -37,8 +36,7 @@ pub shape_of-edges : goal.shape_of-edges
 shape_of-edges c = c.loop-i.invariant.3
 
 pub returns : goal.returns
-returns c =
-    (
-      c.loop-i.invariant.1,
-      λ g k. children_all _ _ _ _ _ _ _ _ _ _ c.loop-i.invariant.0 c.loop-i-test.false (c.loop-i.invariant.4 g k),
-    )
+returns c = (
+  c.loop-i.invariant.1,
+  λ g k. children_all _ _ _ _ _ _ _ _ _ _ c.loop-i.invariant.0 c.loop-i-test.false (c.loop-i.invariant.4 g k),
+)

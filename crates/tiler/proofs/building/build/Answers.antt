@@ -5,7 +5,7 @@ use Prim.Native.Nat.{◌-◌, ◌^◌, ◌≤◌, ◌<◌}
 use lib.ListN.{length}
 use Rattle.cells.specs.Set.{number}
 use Rattle.cells.specs.WordLaws.{number_lt}
-use Rattle.covers.specs.Setting.{nodesOf}
+use Rattle.covers.specs.Setting.{nodes_of}
 use Rattle.expansion.specs.Boards.{setting_of, start_of}
 use Rattle.tiler.specs.Inner.{nodes_in, HoldsGraph}
 use Rattle.tiler.proofs.BuildLaws.{found_graph, build_start, build_node, build_more, build_below, build_end}
@@ -15,9 +15,8 @@ use Rattle.tiler.proofs.building.build.Goals as goal
 
 pub loop-i-init : goal.loop-i-init
 loop-i-init c =
-    let fixed_small : number c.args.board.fixed < 2 ^ 256 = number_lt _ (record { s0 = search rules; s1 = search rules; s2 = search rules; s3 = search rules }) in
-    let laid_small : number c.args.board.laid < 2 ^ 256 = number_lt _ (record { s0 = search rules; s1 = search rules; s2 = search rules; s3 = search rules }) in
-    (
+    let fixed_small : number c.args.board.fixed < 2 ^ 256 = number_lt _ (record { s0 = search (rules, c.well_formed); s1 = search (rules, c.well_formed); s2 = search (rules, c.well_formed); s3 = search (rules, c.well_formed) }) in
+    let laid_small : number c.args.board.laid < 2 ^ 256 = number_lt _ (record { s0 = search (rules, c.well_formed); s1 = search (rules, c.well_formed); s2 = search (rules, c.well_formed); s3 = search (rules, c.well_formed) }) in (
       refl,
       omega (arith, c.requires.2),
       refl,
@@ -29,9 +28,8 @@ loop-i-init c =
 
 pub expand_node-growth-requires : goal.expand_node-growth-requires
 expand_node-growth-requires c =
-    let fixed_small : number c.args.board.fixed < 2 ^ 256 = number_lt _ (record { s0 = search rules; s1 = search rules; s2 = search rules; s3 = search rules }) in
-    let laid_small : number c.args.board.laid < 2 ^ 256 = number_lt _ (record { s0 = search rules; s1 = search rules; s2 = search rules; s3 = search rules }) in
-    (
+    let fixed_small : number c.args.board.fixed < 2 ^ 256 = number_lt _ (record { s0 = search (rules, c.well_formed); s1 = search (rules, c.well_formed); s2 = search (rules, c.well_formed); s3 = search (rules, c.well_formed) }) in
+    let laid_small : number c.args.board.laid < 2 ^ 256 = number_lt _ (record { s0 = search (rules, c.well_formed); s1 = search (rules, c.well_formed); s2 = search (rules, c.well_formed); s3 = search (rules, c.well_formed) }) in (
       c.requires.0,
       build_node c.args.board c.args.tiles c.requires.0 (fixed_small) (laid_small)
           _ _ _ _ _ _ c.loop-i.invariant.6 _ c.loop-i.invariant.0 c.loop-i-test.true,
@@ -43,9 +41,8 @@ expand_node-growth-requires c =
 
 pub loop-i-preserved : goal.loop-i-preserved
 loop-i-preserved c =
-    let fixed_small : number c.args.board.fixed < 2 ^ 256 = number_lt _ (record { s0 = search rules; s1 = search rules; s2 = search rules; s3 = search rules }) in
-    let laid_small : number c.args.board.laid < 2 ^ 256 = number_lt _ (record { s0 = search rules; s1 = search rules; s2 = search rules; s3 = search rules }) in
-    (
+    let fixed_small : number c.args.board.fixed < 2 ^ 256 = number_lt _ (record { s0 = search (rules, c.well_formed); s1 = search (rules, c.well_formed); s2 = search (rules, c.well_formed); s3 = search (rules, c.well_formed) }) in
+    let laid_small : number c.args.board.laid < 2 ^ 256 = number_lt _ (record { s0 = search (rules, c.well_formed); s1 = search (rules, c.well_formed); s2 = search (rules, c.well_formed); s3 = search (rules, c.well_formed) }) in (
       c.node_count-n.ensures,
       c.expand_node-growth.ensures.0,
       search rules,
@@ -69,9 +66,8 @@ shape_of-children c = c.loop-i.invariant.4
 
 pub returns : goal.returns
 returns c =
-    let fixed_small : number c.args.board.fixed < 2 ^ 256 = number_lt _ (record { s0 = search rules; s1 = search rules; s2 = search rules; s3 = search rules }) in
-    let laid_small : number c.args.board.laid < 2 ^ 256 = number_lt _ (record { s0 = search rules; s1 = search rules; s2 = search rules; s3 = search rules }) in
-    (
+    let fixed_small : number c.args.board.fixed < 2 ^ 256 = number_lt _ (record { s0 = search (rules, c.well_formed); s1 = search (rules, c.well_formed); s2 = search (rules, c.well_formed); s3 = search (rules, c.well_formed) }) in
+    let laid_small : number c.args.board.laid < 2 ^ 256 = number_lt _ (record { s0 = search (rules, c.well_formed); s1 = search (rules, c.well_formed); s2 = search (rules, c.well_formed); s3 = search (rules, c.well_formed) }) in (
       c.loop-i.invariant.1,
       build_end c.args.board c.args.tiles c.requires.0 (fixed_small) (laid_small)
           _ _ _ _ _ _ c.loop-i.invariant.6 _ c.loop-i.invariant.0 c.loop-i.invariant.5 c.loop-i-test.false,

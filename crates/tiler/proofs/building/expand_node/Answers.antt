@@ -8,10 +8,9 @@ use borrow.Author.Rules.{rules}
 use Rattle.tiler.proofs.building.expand_node.Goals as goal
 
 pub returns : goal.returns
-returns c =
-    (
-      c.add_children.ensures.0,
-      λ g k.
-          children_read c.args.board c.args.tiles _ _ _ _ _ _ _ _ _ _ (expanded_children _ _ c.requires.0 _ (subst (From _) (sym c.get.ensures) c.requires.1) _ _ c.requires.2 _ c.expand-n.ensures).1 c.get.ensures
-          (c.add_children.ensures.1 g k),
-    )
+returns c = (
+  c.add_children.ensures.0,
+  λ g k.
+      children_read c.args.board c.args.tiles _ _ _ _ _ _ _ _ _ _ (expanded_children _ _ c.requires.0 _ (subst (From _) (sym c.get.ensures) c.requires.1) _ _ c.requires.2 _ c.expand-n.ensures).1 c.get.ensures
+      (c.add_children.ensures.1 g k),
+)

@@ -22,12 +22,11 @@ returns-then-pass_edge c =
     pass_large _ _ _ _ _ _ _ c.loop-i-test.true c.loop-i.invariant.2 (c.requires.1 _ c.loop-i-test.true) c.pass_edge.ensures c.if-pass_edge.true
 
 pub loop-i-preserved : goal.loop-i-preserved
-loop-i-preserved c =
-    (
-      omega arith,
-      search rules,
-      pass_more _ _ _ _ _ _ _ c.loop-i-test.true c.loop-i.invariant.2 (c.requires.1 _ c.loop-i-test.true) c.pass_edge.ensures c.if-pass_edge.false,
-    )
+loop-i-preserved c = (
+  omega arith,
+  search rules,
+  pass_more _ _ _ _ _ _ _ c.loop-i-test.true c.loop-i.invariant.2 (c.requires.1 _ c.loop-i-test.true) c.pass_edge.ensures c.if-pass_edge.false,
+)
 
 pub shape_of-counts : goal.shape_of-counts
 shape_of-counts c = c.loop-i.invariant.1
