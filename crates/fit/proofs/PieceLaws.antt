@@ -29,7 +29,7 @@ use Rattle.rectangle.specs.Board.{Board, cell_of, position_of, inside, free_at}
 use Rattle.rectangle.proofs.BoardLaws.{cell_of_lt, position_of_cell_of, cell_of_inj, cell_of_position_of, free_at_inside}
 use Rattle.fit.specs.Fit.{with_cells, cover, moved, offset, point_at, Fits, IsPiece, fit_at, fits_of, pieces}
 use Rattle.fit.specs.Parts.{most_children}
-use Rattle.fit.specs.FitLaws.{mem_cover, length_cover, bit_with_cells_past, bit_with_cells_new, bit_with_cells_iff, offset_takes, offset_only}
+use Rattle.fit.specs.FitLaws.{mem_cover, length_cover, bit_with_cells_past, bit_with_cells_new, bit_with_cells_iff, offset_takes, offset_only, fit_at_piece}
 
 -- ---- the points of a path stand on its moved cells
 
@@ -52,10 +52,6 @@ moved_point path d p m =
     (r.0, omega (arith, r.1, length_points origin path), ap (λ (q : Position). shift q d) r.2 ∙ a.2)
 
 -- ---- a fit is a piece over the cell
-
-pub fit_at_piece : (b : Board) (path : Path) (j cell n : ℕ) → Mem n (fit_at b path j cell) → Fits b path (offset (point_at path j) (position_of cell)) × (n ≡ with_cells 0 (moved (offset (point_at path j) (position_of cell)) path))
-unfolding fit_at
-fit_at_piece b path j cell n m = (mem_cover (free_at b) 0 (moved (offset (point_at path j) (position_of cell)) path) n).0 m
 
 -- point j stands on the cell
 pub fit_on : (path : Path) (j cell : ℕ) → j ≤ length path → Mem (position_of cell) (moved (offset (point_at path j) (position_of cell)) path)

@@ -1,5 +1,6 @@
 -- Laws of fits: a list of positions is covered position by position; which cells the set has; lists of the same positions give the same set; so the
--- walk from point j of a path, back and on, covers what the tile's cells do. Rests on cells' `SetLaws` and `FirstsLaws` and tile's `PathLaws`. Assumes nothing.
+-- walk from point j of a path, back and on, covers what the tile's cells do; and what a fit is, whose tile's moved cells are all free. Rests on cells'
+-- `SetLaws` and `FirstsLaws` and tile's `PathLaws`. Assumes nothing.
 use Rattle.std.specs.Prelude.{◌≡◌, ◌⊎◌, ◌↔◌, Bool, not, cond, ℕ, zero, suc, ◌^◌, ◌≤◌, ◌<◌, length, get_or, drop, ℤ, ◌+ℤ◌, neg_ℤ}
 use Rattle.std.proofs.Math.Path.{refl, sym, ap}
 use Rattle.std.proofs.Common.{ap₂, ◌∙◌, subst, inl, inr, ⊎_elim, arith, pow_pos, drop-cons}
@@ -25,8 +26,8 @@ use Rattle.direction.specs.PositionLaws.{same_position_iff, shift_origin, shift_
 use Rattle.direction.specs.DirectionLaws.{step_opposite}
 use Rattle.tile.specs.Path.{Path, points}
 use Rattle.tile.specs.PathLaws.{cells_shift}
-use Rattle.rectangle.specs.Board.{cell_of}
-use Rattle.fit.specs.Fit.{with_cells, cover, moved, offset, point_at}
+use Rattle.rectangle.specs.Board.{Board, cell_of, position_of, free_at}
+use Rattle.fit.specs.Fit.{with_cells, cover, moved, offset, point_at, Fits, fit_at}
 use Rattle.fit.specs.Inner.{back, onward, walked}
 
 -- ---- position by position
@@ -269,3 +270,9 @@ walked_moved f path j q h =
     walked_points f path j q h
     ∙ cover_same f (points d path) (firsts same_position (points d path)) (λ p. (mem_firsts same_position same_position_iff (points d path) p).1) (λ p. (mem_firsts same_position same_position_iff (points d path) p).0)
     ∙ ap (cover f 0) (cells_shift d path)
+
+-- ---- a fit is the piece of a tile that fits
+
+pub fit_at_piece : (b : Board) (path : Path) (j cell n : ℕ) → Mem n (fit_at b path j cell) → Fits b path (offset (point_at path j) (position_of cell)) × (n ≡ with_cells 0 (moved (offset (point_at path j) (position_of cell)) path))
+unfolding fit_at
+fit_at_piece b path j cell n m = (mem_cover (free_at b) 0 (moved (offset (point_at path j) (position_of cell)) path) n).0 m

@@ -23,7 +23,7 @@ use Rattle.rectangle.specs.Board.{Board, position_of, free_count, size_ok, valid
 use Rattle.fit.specs.Fit.{offset, point_at, IsPiece, fit_at, fits_of, pieces}
 use Rattle.fit.specs.Inner.{fit_for}
 use Rattle.rectangle.proofs.BoardLaws.{valid_size}
-use Rattle.fit.proofs.PieceLaws.{fit_at_piece}
+use Rattle.fit.specs.FitLaws.{fit_at_piece}
 use Rattle.fit.proofs.FitForLaws.{fit_for_point, fit_for_fit}
 use Rattle.fit.proofs.LayLaws.{lay_valid, piece_iff, piece_size, lay_count}
 use Rattle.single_tiling.specs.Inner.{or_else, first_of, fit_index}
