@@ -2,7 +2,6 @@
 -- `current_record` answers; what one record more changes. Rests on `PlaceLaws`, `OutcomeLaws` and `BrokenLaws`. Assumes nothing.
 use Rattle.std.specs.Prelude.{◌≡◌, refl, ◌↔◌, Bool, true, false, cond, ◌&&◌, ◌||◌, ℕ, ◌≤◌, eqb, leb, ltb, length}
 use Rattle.std.proofs.Common.{sym, ap, ◌∙◌, subst, inl, inr, ⊎_elim, arith, eq-eqb, eqb-true, leb-true, leb-false, le-leb, lt-ltb, ltb-true, ltb-false, ne_eqb}
-use mathlib.Core.List.Memᴰ.{tail as there}
 use mathlib.Core.List.{List, [], ◌∷◌, ◌++◌, append-nil, Memᴰ as Mem}
 use Rattle.std.proofs.Math.Option.{Option, none, some}
 use Rattle.std.proofs.lemmas.Bool.{eqb-false}

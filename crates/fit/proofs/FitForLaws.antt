@@ -9,7 +9,6 @@ use mathlib.Core.List.Memᴰ.{head as here}
 use mathlib.Core.List.{List, [], ◌∷◌, Memᴰ as Mem}
 use borrow.Author.Tests.{le-leb, lt-leb, leb-true}
 use Rattle.std.proofs.Math.Dec.{leb}
-use Rattle.cells.specs.Set.{size}
 use Rattle.direction.specs.Direction.{Position}
 use Rattle.tile.specs.Path.{is_path}
 use Rattle.rectangle.specs.Parts.{free_in}

@@ -1,11 +1,7 @@
 -- `archive::count_records` meets its contract: what is counted, and what is still to be read.
 -- Assumes nothing.
 use mathlib.Core.Path.{sym, ◌∙◌}
-use Prim.Native.Nat.{◌-◌}
-use lib.ListN.{length}
-use borrow.Author.Tests.{not-true, not-false}
-use Rattle.archive.specs.Archive.{count_records}
-use Rattle.archive.proofs.ReadingLaws.{Ahead, ahead_broken, ahead_long, to_count, count_start, count_step, count_end}
+use Rattle.archive.proofs.ReadingLaws.{ahead_broken, ahead_long, count_start, count_step, count_end}
 use borrow.Author.Rules.{rules}
 use Rattle.archive.proofs.count_records.Goals as goal
 

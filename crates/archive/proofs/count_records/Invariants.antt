@@ -1,10 +1,7 @@
-use mathlib.Core.Path.{sym, ◌∙◌}
 use Prim.Native.Nat.{◌-◌}
 use lib.ListN.{length}
-use borrow.Author.Tests.{not-true, not-false}
 use Rattle.archive.specs.Archive.{count_records}
-use Rattle.archive.proofs.ReadingLaws.{Ahead, ahead_broken, ahead_long, to_count, count_start, count_step, count_end}
-use borrow.Author.Rules.{rules}
+use Rattle.archive.proofs.ReadingLaws.{Ahead, to_count}
 use Rattle.archive.proofs.count_records.Given as goal
 
 abbrev pub invariant-loop-at : goal.invariant-loop-at

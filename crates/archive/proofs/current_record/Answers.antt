@@ -1,12 +1,7 @@
 -- `archive::current_record` meets its contract: the record that counts so far, and what is still to be read.
 -- Assumes nothing.
 use mathlib.Core.Path.{sym, ◌∙◌}
-use Prim.Native.Nat.{◌-◌}
-use lib.ListN.{length}
-use borrow.Author.Tests.{not-true, not-false}
-use Rattle.archive.specs.Archive.{current_record}
-use Rattle.archive.specs.Inner.{candidate_of}
-use Rattle.archive.proofs.ReadingLaws.{Ahead, ahead_broken, ahead_long, to_compare, current_start, current_step, current_end}
+use Rattle.archive.proofs.ReadingLaws.{ahead_broken, ahead_long, current_start, current_step, current_end}
 use borrow.Author.Rules.{rules}
 use Rattle.archive.proofs.current_record.Goals as goal
 

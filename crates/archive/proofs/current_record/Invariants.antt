@@ -1,11 +1,8 @@
-use mathlib.Core.Path.{sym, ◌∙◌}
 use Prim.Native.Nat.{◌-◌}
 use lib.ListN.{length}
-use borrow.Author.Tests.{not-true, not-false}
 use Rattle.archive.specs.Archive.{current_record}
 use Rattle.archive.specs.Inner.{candidate_of}
-use Rattle.archive.proofs.ReadingLaws.{Ahead, ahead_broken, ahead_long, to_compare, current_start, current_step, current_end}
-use borrow.Author.Rules.{rules}
+use Rattle.archive.proofs.ReadingLaws.{Ahead, to_compare}
 use Rattle.archive.proofs.current_record.Given as goal
 
 abbrev pub invariant-loop-at : goal.invariant-loop-at

@@ -1,7 +1,6 @@
 -- `archive::write_record` meets its contract: zeros where there is no room, and else the bytes.
 -- Assumes nothing.
 use Rattle.archive.proofs.OutputLaws.{write_short, write_whole}
-use borrow.Author.Rules.{rules}
 use Rattle.archive.proofs.write_record.Goals as goal
 
 pub returns-then-out-lt24 : goal.returns-then-out-lt24

@@ -1,8 +1,6 @@
 -- `board::made` meets its contract: the marks of the shape, if the size is right.
 -- Assumes nothing.
 use mathlib.Core.Path.{sym, ◌∙◌}
-use borrow.Author.Tests.{not-true, not-false}
-use borrow.Author.Rules.{rules}
 use Rattle.cells.specs.ListLaws.{value_none}
 use Rattle.board.proofs.MadeLaws.{shaped_refused, makes_refused, makes_shaped}
 use Rattle.board.proofs.made.Goals as goal

@@ -1,7 +1,6 @@
 -- `board::refused` meets its contract: the 0 by 0 board and the refusal.
 -- Assumes nothing.
 use mathlib.Core.Path.{refl, ◌∙◌}
-use borrow.Author.Rules.{rules}
 use Rattle.cells.specs.ListLaws.{value_none}
 use Rattle.board.proofs.MadeLaws.{no_board_lem}
 use Rattle.board.proofs.refused.Goals as goal

@@ -1,6 +1,5 @@
 -- `children::earlier` meets its contract: case by case.
 -- Assumes nothing.
-use borrow.Author.Rules.{rules}
 use Rattle.children.proofs.AnswerLaws.{earlier_accepted, earlier_refused}
 use Rattle.children.proofs.earlier.Goals as goal
 

@@ -1,7 +1,6 @@
 -- `children::judged` meets its contract: the board first, then the tiles.
 -- Assumes nothing.
 use mathlib.Core.Path.{ap₂, ◌∙◌}
-use borrow.Author.Rules.{rules}
 use Rattle.children.specs.Inner.{earlier_of}
 use Rattle.children.proofs.AnswerLaws.{children_earlier}
 use Rattle.children.proofs.judged.Goals as goal

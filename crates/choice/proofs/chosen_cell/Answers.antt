@@ -2,8 +2,6 @@
 -- Assumes nothing.
 use mathlib.Core.Path.{◌≡◌, sym, ◌∙◌}
 use mathlib.Core.Bool.{true}
-use borrow.Author.Tests.{not-true, not-false}
-use borrow.Author.Rules.{rules}
 use Rattle.rectangle.specs.Board.{size_ok}
 use Rattle.rectangle.proofs.BoardLaws.{size_ok_le}
 use Rattle.choice.specs.ChosenLaws.{chosen_for_refused}

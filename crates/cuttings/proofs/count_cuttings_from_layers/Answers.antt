@@ -1,6 +1,5 @@
 -- `cuttings::count_cuttings_from_layers` meets its contract: a refusal is handed on; then the board is judged, and the figure is that of a full board or of one that
 -- is not. Assumes nothing.
-use borrow.Author.Rules.{rules}
 use Rattle.cuttings.proofs.FromLaws.{count_stays, figure_told_lem, board_refused}
 use Rattle.cuttings.proofs.count_cuttings_from_layers.Goals as goal
 

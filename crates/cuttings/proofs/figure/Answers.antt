@@ -1,5 +1,4 @@
 -- `cuttings::figure` meets its contract: 1, or the number that was handed in. Assumes nothing.
-use borrow.Author.Rules.{rules}
 use Rattle.cuttings.proofs.figure.Goals as goal
 
 pub returns-then-full : goal.returns-then-full

@@ -1,6 +1,5 @@
 -- `direction::reflect` meets its contract: the function for the axis does.
 -- Assumes nothing.
-use borrow.Author.Rules.{rules}
 use Rattle.direction.proofs.reflect.Goals as goal
 
 pub returns-in-Vertical : goal.returns-in-Vertical

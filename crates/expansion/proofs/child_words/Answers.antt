@@ -1,6 +1,5 @@
 -- `expansion::child_words` meets its contract: four words for each child of accepted tiles, none where they are refused.
 -- Assumes nothing.
-use borrow.Author.Rules.{rules}
 use Rattle.expansion.proofs.PlotLaws.{words_read, words_accepted, words_refused}
 use Rattle.expansion.proofs.child_words.Goals as goal
 

@@ -1,6 +1,5 @@
 -- `expansion::expand` meets its contract: the children of the board with the marks are written.
 -- Assumes nothing.
-use borrow.Author.Rules.{rules}
 use Rattle.expansion.proofs.PlotLaws.{expands_number, expands_none}
 use Rattle.expansion.proofs.expand.Goals as goal
 

@@ -1,6 +1,5 @@
 -- `expansion::judge` meets its contract: the board first, then the tiles.
 -- Assumes nothing.
-use borrow.Author.Rules.{rules}
 use Rattle.expansion.proofs.PlotLaws.{judge_accepted, judge_refused}
 use Rattle.expansion.proofs.judge.Goals as goal
 

@@ -1,12 +1,11 @@
 -- `expansion::most_children` meets its contract: the lengths are added in order.
 -- Assumes nothing.
 use mathlib.Core.Path.{◌≡◌}
-use Prim.Native.Nat.{◌-◌, ◌*◌, ◌≤◌}
 use lib.ListN.{length}
 use native.Mathlib.Omega.{arith}
 use borrow.Author.Rules.{rules}
 use Rattle.tiles.specs.ReadLaws.{read_tiles_sound, sound_tile}
-use Rattle.expansion.proofs.PlotLaws.{points_to, points_none, points_more, points_all}
+use Rattle.expansion.proofs.PlotLaws.{points_none, points_more, points_all}
 use Rattle.expansion.proofs.most_children.Goals as goal
 
 pub loop-i-init : goal.loop-i-init

@@ -1,6 +1,5 @@
 -- `expansion::sized` meets its contract: case by case.
 -- Assumes nothing.
-use borrow.Author.Rules.{rules}
 use Rattle.expansion.proofs.PlotLaws.{sized_given, sized_refused}
 use Rattle.expansion.proofs.sized.Goals as goal
 

@@ -1,6 +1,5 @@
 -- `exports::cuttings_count_cuttings` meets its contract: it is that of `host_counts::count_cuttings`.
 -- Assumes nothing.
-use borrow.Author.Rules.{rules}
 use Rattle.exports.proofs.cuttings_count_cuttings.Goals as goal
 
 pub returns : goal.returns

@@ -1,6 +1,5 @@
 -- `exports::cuttings_count_tilings` meets its contract: it is that of `host_counts::count_tilings`.
 -- Assumes nothing.
-use borrow.Author.Rules.{rules}
 use Rattle.exports.proofs.cuttings_count_tilings.Goals as goal
 
 pub returns : goal.returns

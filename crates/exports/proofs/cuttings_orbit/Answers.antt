@@ -1,6 +1,5 @@
 -- `exports::cuttings_orbit` meets its contract: it is that of `host_plots::orbit`.
 -- Assumes nothing.
-use borrow.Author.Rules.{rules}
 use Rattle.exports.proofs.cuttings_orbit.Goals as goal
 
 pub returns : goal.returns

@@ -1,6 +1,5 @@
 -- `exports::cuttings_read_plot` meets its contract: it is that of `host_plots::read_plot`.
 -- Assumes nothing.
-use borrow.Author.Rules.{rules}
 use Rattle.exports.proofs.cuttings_read_plot.Goals as goal
 
 pub returns : goal.returns

@@ -1,6 +1,5 @@
 -- `exports::cuttings_single_tiling` meets its contract: it is that of `host_tilings::single_tiling`.
 -- Assumes nothing.
-use borrow.Author.Rules.{rules}
 use Rattle.exports.proofs.cuttings_single_tiling.Goals as goal
 
 pub returns : goal.returns

@@ -1,6 +1,5 @@
 -- `exports::cuttings_tiling` meets its contract: it is that of `host_tilings::tiling`.
 -- Assumes nothing.
-use borrow.Author.Rules.{rules}
 use Rattle.exports.proofs.cuttings_tiling.Goals as goal
 
 pub returns : goal.returns

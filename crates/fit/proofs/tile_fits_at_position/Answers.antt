@@ -3,8 +3,6 @@
 use mathlib.Core.Path.{◌≡◌, sym, ◌∙◌}
 use mathlib.Core.Bool.{true}
 use native.Mathlib.Omega.{arith}
-use borrow.Author.Tests.{not-true, not-false}
-use borrow.Author.Rules.{rules}
 use Rattle.tile.specs.Path.{is_path}
 use Rattle.rectangle.specs.Board.{inside, position_of, size_ok}
 use Rattle.rectangle.proofs.BoardLaws.{size_ok_le, inside_iff}

@@ -1,7 +1,6 @@
 -- `graph::count_edges` meets its contract: the edges that are lent are looked at one by one from the first on.
 -- Assumes nothing.
-use Prim.Native.Nat.{◌-◌, ◌≤◌}
-use Rattle.graph.proofs.GraphLoops.{CountedTo, counted_none, counted_hit, counted_miss, counted_all}
+use Rattle.graph.proofs.GraphLoops.{counted_none, counted_hit, counted_miss, counted_all}
 use borrow.Author.Rules.{rules}
 use native.Mathlib.Omega.{arith}
 use Rattle.graph.proofs.count_edges.Goals as goal

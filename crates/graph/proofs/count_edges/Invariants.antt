@@ -1,8 +1,5 @@
-use mathlib.Core.Logic.{⊎_elim}
 use Prim.Native.Nat.{◌-◌, ◌≤◌}
-use Rattle.graph.proofs.GraphLoops.{CountedTo, counted_none, counted_hit, counted_miss, counted_all}
-use borrow.Author.Rules.{rules}
-use native.Mathlib.Omega.{arith}
+use Rattle.graph.proofs.GraphLoops.{CountedTo}
 use Rattle.graph.proofs.count_edges.Given as goal
 
 abbrev pub invariant-loop-i : goal.invariant-loop-i

@@ -2,7 +2,6 @@
 -- Assumes nothing.
 use Rattle.covers.specs.Counts.{at_node}
 use Rattle.graph.specs.Graph.{count_from_graph}
-use borrow.Author.Rules.{rules}
 use native.Mathlib.Omega.{arith}
 use Rattle.graph.proofs.count_tilings_from_graph.Goals as goal
 

@@ -1,7 +1,6 @@
 -- `graph::get_edges` meets its contract: the children are counted, then written if there is room, and the words behind the last are cleared.
 -- Assumes nothing.
 use Rattle.graph.proofs.GraphLoops.{gets_refused, gets_number}
-use borrow.Author.Rules.{rules}
 use Rattle.graph.proofs.get_edges.Goals as goal
 
 pub returns-then-out-count : goal.returns-then-out-count

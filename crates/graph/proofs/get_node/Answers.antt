@@ -1,7 +1,6 @@
 -- `graph::get_node` meets its contract: the four words at the place, or none.
 -- Assumes nothing.
 use Rattle.graph.proofs.GraphLoops.{part_lent, part_none}
-use borrow.Author.Rules.{rules}
 use Rattle.graph.proofs.get_node.Goals as goal
 
 pub returns-then-n-nodes : goal.returns-then-n-nodes

@@ -2,7 +2,6 @@
 -- Assumes nothing.
 use mathlib.Core.Path.{sym}
 use lib.Seq.{set_out}
-use borrow.Author.Rules.{rules}
 use Rattle.graph.proofs.store.Goals as goal
 
 pub returns-else-i-words : goal.returns-else-i-words

@@ -1,8 +1,7 @@
 -- `graph::write_edges` meets its contract: each child is stored behind those before it.
 -- Assumes nothing.
 use mathlib.Core.Path.{◌∙◌}
-use Prim.Native.Nat.{◌-◌, ◌≤◌}
-use Rattle.graph.proofs.GraphLoops.{WrittenTo, written_none, written_hit, written_miss, written_all}
+use Rattle.graph.proofs.GraphLoops.{written_none, written_hit, written_miss, written_all}
 use borrow.Author.Rules.{rules}
 use native.Mathlib.Omega.{arith}
 use Rattle.graph.proofs.write_edges.Goals as goal

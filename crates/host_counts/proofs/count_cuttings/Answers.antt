@@ -5,7 +5,6 @@ use Rattle.graph.specs.Graph.{layer_room}
 use Rattle.cuttings.specs.Cuttings.{count_cuttings}
 use Rattle.host_counts.specs.Calls.{cuttings_counted}
 use Rattle.host_counts.proofs.HostLaws.{count_accepted, count_unshaped}
-use borrow.Author.Rules.{rules}
 use Rattle.host_counts.proofs.count_cuttings.Goals as goal
 
 pub returns-in-Accepted : goal.returns-in-Accepted

@@ -5,7 +5,6 @@ use Rattle.graph.specs.Graph.{layer_room}
 use Rattle.layers.specs.LayerCounts.{count_tilings}
 use Rattle.host_counts.specs.Calls.{counted}
 use Rattle.host_counts.proofs.HostLaws.{count_accepted, count_unshaped}
-use borrow.Author.Rules.{rules}
 use Rattle.host_counts.proofs.count_tilings.Goals as goal
 
 pub returns-in-Accepted : goal.returns-in-Accepted

@@ -1,7 +1,6 @@
 -- `host_counts::generate_graph` meets its contract: the call where the shapes are right, and zeros where they are not.
 -- Assumes nothing.
 use Rattle.host_counts.proofs.HostLaws.{graph_accepted, graph_unshaped}
-use borrow.Author.Rules.{rules}
 use Rattle.host_counts.proofs.generate_graph.Goals as goal
 
 pub returns-in-Accepted : goal.returns-in-Accepted

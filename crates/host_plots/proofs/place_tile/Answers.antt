@@ -1,7 +1,6 @@
 -- `host_plots::place_tile` meets its contract: the call where the shapes are right, and zeros where they are not.
 -- Assumes nothing.
 use Rattle.host_plots.proofs.HostLaws.{place_accepted, place_unshaped}
-use borrow.Author.Rules.{rules}
 use Rattle.host_plots.proofs.place_tile.Goals as goal
 
 pub returns-in-Accepted : goal.returns-in-Accepted

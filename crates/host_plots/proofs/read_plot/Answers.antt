@@ -1,7 +1,6 @@
 -- `host_plots::read_plot` meets its contract: the call where the shapes are right, and zeros where they are not.
 -- Assumes nothing.
 use Rattle.host_plots.proofs.HostLaws.{plot_accepted, plot_unshaped}
-use borrow.Author.Rules.{rules}
 use Rattle.host_plots.proofs.read_plot.Goals as goal
 
 pub returns-in-Accepted : goal.returns-in-Accepted

@@ -1,7 +1,6 @@
 -- `host_records::count_records` meets its contract: the answer words, then the call below.
 -- Assumes nothing.
 use Rattle.host_records.proofs.AnswerLaws.{counted_number, counted_broken, counted_short}
-use borrow.Author.Rules.{rules}
 use Rattle.host_records.proofs.count_records.Goals as goal
 
 pub returns-then-answer-lt1 : goal.returns-then-answer-lt1

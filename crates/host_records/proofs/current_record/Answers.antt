@@ -1,7 +1,6 @@
 -- `host_records::current_record` meets its contract: the answer words, then the call below.
 -- Assumes nothing.
 use Rattle.host_records.proofs.AnswerLaws.{current_found_lem, current_short}
-use borrow.Author.Rules.{rules}
 use Rattle.host_records.proofs.current_record.Goals as goal
 
 pub returns-then-answer-lt5 : goal.returns-then-answer-lt5

@@ -1,7 +1,6 @@
 -- `host_records::record_at` meets its contract: the answer words, then the call below.
 -- Assumes nothing.
 use Rattle.host_records.proofs.AnswerLaws.{at_found, at_short}
-use borrow.Author.Rules.{rules}
 use Rattle.host_records.proofs.record_at.Goals as goal
 
 pub returns-then-answer-lt5 : goal.returns-then-answer-lt5

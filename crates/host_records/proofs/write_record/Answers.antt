@@ -1,7 +1,6 @@
 -- `host_records::write_record` meets its contract: the number of the verdict.
 -- Assumes nothing.
 use Rattle.host_records.proofs.AnswerLaws.{written_accepted, written_refused}
-use borrow.Author.Rules.{rules}
 use Rattle.host_records.proofs.write_record.Goals as goal
 
 pub returns-in-Accepted : goal.returns-in-Accepted

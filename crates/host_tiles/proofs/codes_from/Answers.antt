@@ -1,9 +1,8 @@
 -- `host_tiles::codes_from` meets its contract: the codes are filled in order (`Filled`).
 -- Assumes nothing.
 use mathlib.Core.Path.{refl}
-use Prim.Native.Nat.{◌+◌, ◌*◌, ◌/◌, ◌%◌, ◌-◌, ◌≤◌}
-use lib.ListN.{get_or, get_or-replicate}
-use Rattle.cells.specs.ArrayLaws.{Filled, filled_start, filled_step, filled_end}
+use lib.ListN.{get_or-replicate}
+use Rattle.cells.specs.ArrayLaws.{filled_start, filled_step, filled_end}
 use native.Mathlib.Omega.{arith}
 use borrow.Author.Rules.{rules}
 use Rattle.host_tiles.proofs.codes_from.Goals as goal

@@ -1,9 +1,6 @@
-use mathlib.Core.Path.{refl}
 use Prim.Native.Nat.{◌*◌, ◌-◌, ◌≤◌}
-use lib.ListN.{get_or, get_or-replicate}
-use Rattle.cells.specs.ArrayLaws.{Filled, filled_start, filled_step, filled_end}
-use native.Mathlib.Omega.{arith}
-use borrow.Author.Rules.{rules}
+use lib.ListN.{get_or}
+use Rattle.cells.specs.ArrayLaws.{Filled}
 use Rattle.host_tiles.proofs.lens_from.Given as goal
 
 abbrev pub invariant-loop-i : goal.invariant-loop-i

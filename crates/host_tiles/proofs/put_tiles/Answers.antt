@@ -1,11 +1,9 @@
 -- `host_tiles::put_tiles` meets its contract: the bytes are written in order.
 -- Assumes nothing.
-use Prim.Native.Nat.{◌-◌}
-use lib.ListN.{length, get_or}
-use Rattle.cells.specs.ArrayLaws.{Filled, filled_start, filled_step, filled_end}
+use Rattle.cells.specs.ArrayLaws.{filled_start, filled_step, filled_end}
 use native.Mathlib.Omega.{arith}
 use mathlib.Core.Path.{refl}
-use Rattle.host_tiles.specs.TileBytes.{stored_byte, struct_bytes}
+use Rattle.host_tiles.specs.TileBytes.{struct_bytes}
 use borrow.Author.Rules.{rules}
 use Rattle.host_tiles.proofs.put_tiles.Goals as goal
 

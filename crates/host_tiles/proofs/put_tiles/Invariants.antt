@@ -1,10 +1,7 @@
 use Prim.Native.Nat.{◌-◌}
 use lib.ListN.{length, get_or}
-use Rattle.cells.specs.ArrayLaws.{Filled, filled_start, filled_step, filled_end}
-use native.Mathlib.Omega.{arith}
-use mathlib.Core.Path.{refl}
-use Rattle.host_tiles.specs.TileBytes.{stored_byte, struct_bytes}
-use borrow.Author.Rules.{rules}
+use Rattle.cells.specs.ArrayLaws.{Filled}
+use Rattle.host_tiles.specs.TileBytes.{stored_byte}
 use Rattle.host_tiles.proofs.put_tiles.Given as goal
 
 abbrev pub invariant-loop-k : goal.invariant-loop-k

@@ -1,7 +1,6 @@
 -- `host_tiles::tiles_from` meets its contract: lengths and codes are read, and the bytes are counted.
 -- Assumes nothing.
 use Rattle.host_tiles.proofs.TileReadLaws.{tiles_made}
-use borrow.Author.Rules.{rules}
 use Rattle.host_tiles.proofs.tiles_from.Goals as goal
 
 pub returns : goal.returns

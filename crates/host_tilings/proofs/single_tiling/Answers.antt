@@ -1,7 +1,6 @@
 -- `host_tilings::single_tiling` meets its contract: the call where the shapes are right, and zeros where they are not.
 -- Assumes nothing.
 use Rattle.host_tilings.proofs.HostLaws.{single_accepted, single_unshaped}
-use borrow.Author.Rules.{rules}
 use Rattle.host_tilings.proofs.single_tiling.Goals as goal
 
 pub returns-in-Accepted : goal.returns-in-Accepted

@@ -1,7 +1,6 @@
 -- `host_tilings::tiling` meets its contract: the call where the shapes are right, and zeros where they are not.
 -- Assumes nothing.
 use Rattle.host_tilings.proofs.HostLaws.{tiling_words, tiling_accepted, tiling_unshaped}
-use borrow.Author.Rules.{rules}
 use Rattle.host_tilings.proofs.tiling.Goals as goal
 
 pub tiling-requires : goal.tiling-requires

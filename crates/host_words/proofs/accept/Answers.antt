@@ -1,7 +1,6 @@
 -- `host_words::accept` meets its contract: four words are written.
 -- Assumes nothing.
 use Rattle.host_words.specs.AnswerLaws.{tells_given}
-use borrow.Author.Rules.{rules}
 use Rattle.host_words.proofs.accept.Goals as goal
 
 pub returns : goal.returns

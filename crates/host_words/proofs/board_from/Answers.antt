@@ -1,7 +1,6 @@
 -- `host_words::board_from` meets its contract: each word is read in its place.
 -- Assumes nothing.
 use Rattle.host_words.proofs.InputLaws.{board_made}
-use borrow.Author.Rules.{rules}
 use Rattle.host_words.proofs.board_from.Goals as goal
 
 pub returns : goal.returns

@@ -3,7 +3,6 @@
 use Rattle.cells.proofs.Match.{rest_le}
 use Rattle.host_words.specs.Inner.{struct_words}
 use Rattle.host_words.proofs.InputLaws.{past}
-use borrow.Author.Rules.{rules}
 use Rattle.host_words.proofs.board_word.Goals as goal
 
 pub returns-in_default : goal.returns-in_default

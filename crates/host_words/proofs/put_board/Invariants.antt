@@ -1,14 +1,7 @@
-use Prim.Native.Nat.{ℕ, ◌-◌}
+use Prim.Native.Nat.{◌-◌}
 use lib.ListN.{length, get_or}
-use Rattle.cells.specs.ArrayLaws.{Filled, filled_step, padded_start, padded_end}
-use native.Mathlib.Omega.{arith}
-use mathlib.Core.Path.{ap, ◌∙◌}
-use mathlib.Core.List.{List}
-use Rattle.cells.specs.Set.{Sound}
-use Rattle.cells.specs.Lists.{padded}
+use Rattle.cells.specs.ArrayLaws.{Filled}
 use Rattle.host_words.specs.Inner.{struct_words}
-use Rattle.host_words.specs.LayoutLaws.{board_words_lem}
-use borrow.Author.Rules.{rules}
 use Rattle.host_words.proofs.put_board.Given as goal
 
 abbrev pub invariant-loop-i : goal.invariant-loop-i

@@ -1,11 +1,8 @@
 -- `host_words::put_words` meets its contract: the words are written in order.
 -- Assumes nothing.
-use Prim.Native.Nat.{◌-◌}
 use mathlib.Core.List.{[], ◌∷◌}
-use lib.ListN.{length, get_or}
-use Rattle.cells.specs.ArrayLaws.{Filled, filled_step, padded_start, padded_end}
+use Rattle.cells.specs.ArrayLaws.{filled_step, padded_start, padded_end}
 use native.Mathlib.Omega.{arith}
-use borrow.Author.Rules.{rules}
 use Rattle.host_words.proofs.put_words.Goals as goal
 
 pub loop-i-init : goal.loop-i-init

@@ -1,9 +1,7 @@
 use Prim.Native.Nat.{◌-◌}
 use mathlib.Core.List.{[], ◌∷◌}
 use lib.ListN.{length, get_or}
-use Rattle.cells.specs.ArrayLaws.{Filled, filled_step, padded_start, padded_end}
-use native.Mathlib.Omega.{arith}
-use borrow.Author.Rules.{rules}
+use Rattle.cells.specs.ArrayLaws.{Filled}
 use Rattle.host_words.proofs.put_words.Given as goal
 
 abbrev pub invariant-loop-i : goal.invariant-loop-i

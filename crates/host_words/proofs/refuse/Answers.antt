@@ -1,7 +1,6 @@
 -- `host_words::refuse` meets its contract: zeros are written.
 -- Assumes nothing.
 use Rattle.host_words.specs.AnswerLaws.{tells_refused}
-use borrow.Author.Rules.{rules}
 use Rattle.host_words.proofs.refuse.Goals as goal
 
 pub returns : goal.returns

@@ -3,7 +3,6 @@
 use mathlib.Core.List.{[], ◌∷◌}
 use Rattle.cells.proofs.Match.{rest_le}
 use Rattle.host_words.proofs.InputLaws.{past}
-use borrow.Author.Rules.{rules}
 use Rattle.host_words.proofs.word_of.Goals as goal
 
 pub returns-in_default : goal.returns-in_default

@@ -4,8 +4,7 @@ use mathlib.Core.Path.{◌≡◌, sym, ◌∙◌}
 use mathlib.Core.Bool.{false}
 use Rattle.numbered_tilings.specs.Tilings.{bad_graph}
 use Rattle.numbered_tilings.proofs.WalkLoops.{walkable, answers_bad, answers_none, answers_short, answers_given}
-use borrow.Author.Rules.{rules}
-use borrow.Author.Tests.{ltb-true, ltb-false, not-true, not-false}
+use borrow.Author.Tests.{ltb-true, ltb-false}
 use Rattle.numbered_tilings.proofs.judged.Goals as goal
 
 pub returns-then-is_bad_graph : goal.returns-then-is_bad_graph

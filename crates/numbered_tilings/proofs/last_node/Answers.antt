@@ -1,7 +1,6 @@
 -- `numbered_tilings::last_node` meets its contract: the node that the result tells, or 0.
 -- Assumes nothing.
 use Rattle.covers.specs.Counts.{at_node}
-use borrow.Author.Rules.{rules}
 use Rattle.numbered_tilings.proofs.last_node.Goals as goal
 
 pub returns-in-Node : goal.returns-in-Node

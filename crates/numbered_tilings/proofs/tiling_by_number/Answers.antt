@@ -2,7 +2,6 @@
 -- a list is a chain of edges follows. Assumes nothing.
 use Rattle.numbered_tilings.proofs.WalkLoops.{gives_none, gives_list, told_writable}
 use Rattle.path_count.specs.PathCounts.{count_value}
-use borrow.Author.Rules.{rules}
 use Rattle.numbered_tilings.proofs.tiling_by_number.Goals as goal
 
 pub returns-in_default : goal.returns-in_default

@@ -1,7 +1,6 @@
 -- `path_count::add` meets its contract: the count is read, the sum is made, and it is stored unless it is too large.
 -- Assumes nothing.
 use Rattle.path_count.proofs.Sums.{add_refused, add_stored}
-use Rattle.std.proofs.Common.{rules}
 use Rattle.path_count.proofs.add.Goals as goal
 
 pub returns-in_default : goal.returns-in_default

@@ -1,7 +1,7 @@
 -- `plot_file::read_plot` meets its contract. A turn of the loop reads the record at the reader's position. It ends with the position and the plot so far in the
 -- place of those before (`Going`), and the position behind where it was; or it returns.
 -- Assumes nothing.
-use Rattle.std.proofs.Common.{◌-◌, ◌<◌, length, ap, refl, arith}
+use Rattle.std.proofs.Common.{ap, arith}
 use Rattle.plot_file.proofs.StepLaws.{going_first, going_on, going_end, going_refused, plot_is}
 use Rattle.plot_file.proofs.read_plot.Goals as goal
 

@@ -2,7 +2,6 @@
 -- Assumes nothing.
 use mathlib.Core.Path.{refl}
 use Rattle.plot_file.proofs.StepLaws.{plot_refused}
-use borrow.Author.Rules.{rules}
 use Rattle.plot_file.proofs.unread.Goals as goal
 
 pub returns : goal.returns

@@ -5,7 +5,6 @@ use mathlib.Core.Path.{sym, ◌∙◌}
 use Prim.Native.Nat.{◌≤◌, ◌<◌}
 use native.Mathlib.Omega.{arith}
 use lib.Signed.{mag}
-use borrow.Author.Rules.{rules}
 use Rattle.rectangle.proofs.PlaceLaws.{place_after_is}
 use Rattle.rectangle.proofs.Signed.{step_fits, step_back}
 use Rattle.rectangle.proofs.StepLaws.{after_row, after_col, after_code, told_code, told_step, told_small, told_refusal, place_step}

@@ -1,6 +1,5 @@
 use mathlib.Core.Path.{◌≡◌}
 use lib.ListN.{length}
-use borrow.Author.Rules.{rules}
 use Rattle.replay_plots.proofs.main.Given as goal
 
 abbrev pub invariant-loop : goal.invariant-loop

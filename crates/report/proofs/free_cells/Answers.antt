@@ -3,7 +3,6 @@ use mathlib.Core.Path.{sym, ap, ◌∙◌}
 use Rattle.refusal.specs.Refusal.{value_or}
 use Rattle.board.specs.declared.FreeCells.{FreeCells}
 use Rattle.board.specs.Board.{free_cells_answer}
-use borrow.Author.Rules.{rules}
 use Rattle.report.proofs.free_cells.Goals as goal
 
 pub returns-in-Number : goal.returns-in-Number

@@ -3,7 +3,6 @@ use mathlib.Core.Path.{refl, ap, ◌∙◌}
 use Rattle.report.specs.Report.{layers_line, cuttings_line}
 use Rattle.report.specs.TextLaws.{puts_append, puts_within, puts_inside, puts_as}
 use Rattle.report.specs.HoldsLaws.{counts_lent, held_counted, held_figure}
-use borrow.Author.Rules.{rules}
 use Rattle.report.proofs.put_counts.Goals as goal
 
 pub put_cuttings-requires : goal.put_cuttings-requires

@@ -3,7 +3,6 @@ use mathlib.Core.Path.{◌∙◌}
 use Rattle.report.specs.Report.{graph_lines}
 use Rattle.report.specs.TextLaws.{puts_length, puts_inside, puts_append, puts_as}
 use Rattle.report.specs.MadeLaws.{graph_line_lem}
-use borrow.Author.Rules.{rules}
 use native.Mathlib.Omega.{arith}
 use Rattle.report.proofs.put_given.Goals as goal
 

@@ -6,7 +6,6 @@ use Rattle.report.specs.Report.{graph_lines}
 use Rattle.report.specs.TextLaws.{puts_within, puts_as}
 use Rattle.report.specs.HoldsLaws.{counts_lent}
 use Rattle.report.specs.MadeLaws.{made_refused, made_given}
-use borrow.Author.Rules.{rules}
 use Rattle.report.proofs.put_graph.Goals as goal
 
 pub returns-in-Accepted : goal.returns-in-Accepted

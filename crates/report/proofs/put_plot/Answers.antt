@@ -4,7 +4,6 @@ use mathlib.Core.List.{◌++◌, append_assoc}
 use Rattle.report.specs.Report.{board_line, tiles_line, layers_line, plot_layers, cuttings_line, plot_cuttings, plot_lines}
 use Rattle.report.specs.TextLaws.{puts_append, puts_as}
 use Rattle.report.specs.MadeLaws.{board_line_lem, tiles_line_lem}
-use borrow.Author.Rules.{rules}
 use native.Mathlib.Omega.{arith}
 use Rattle.report.proofs.put_plot.Goals as goal
 

@@ -3,7 +3,6 @@
 use mathlib.Core.Path.{sym}
 use Rattle.report.specs.TextLaws.{puts_as}
 use Rattle.report.specs.ReportLaws.{accepted_text, refused_text}
-use borrow.Author.Rules.{rules}
 use Rattle.report.proofs.put_report.Goals as goal
 
 pub returns-in-Accepted : goal.returns-in-Accepted

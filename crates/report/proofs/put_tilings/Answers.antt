@@ -1,19 +1,11 @@
 -- `report::put_tilings` meets its contract. The loop's invariant: the lines of the tilings before m are put, where the words hold a graph of so many.
 -- Assumes nothing.
-use mathlib.Core.Path.{◌≡◌, refl, sym, ◌∙◌}
+use mathlib.Core.Path.{refl, sym, ◌∙◌}
 use mathlib.Core.List.{flat_map}
-use Prim.Native.Nat.{◌-◌, ◌≤◌}
-use lib.ListN.{length}
 use Rattle.cells.specs.Lists.{list_from, list_of}
-use Rattle.path_count.specs.PathCounts.{count_value}
-use Rattle.tiler.specs.Graphs.{Graph, count_of_graph}
-use Rattle.report.specs.Report.{tiling_line}
-use Rattle.report.specs.Inner.{Puts, Built}
 use Rattle.report.specs.TextLaws.{puts_none}
 use Rattle.report.specs.CountLaws.{not_below, is_below}
 use Rattle.report.specs.ListedLaws.{puts_tiling, puts_listed}
-use borrow.Author.Rules.{rules}
-use borrow.Author.Tests.{not-true, not-false}
 use native.Mathlib.Omega.{arith}
 use Rattle.report.proofs.put_tilings.Goals as goal
 

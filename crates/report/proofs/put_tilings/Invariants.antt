@@ -1,18 +1,12 @@
-use mathlib.Core.Path.{◌≡◌, refl, sym, ◌∙◌}
+use mathlib.Core.Path.{◌≡◌}
 use mathlib.Core.List.{flat_map}
 use Prim.Native.Nat.{◌-◌, ◌≤◌}
 use lib.ListN.{length}
-use Rattle.cells.specs.Lists.{list_from, list_of}
+use Rattle.cells.specs.Lists.{list_of}
 use Rattle.path_count.specs.PathCounts.{count_value}
 use Rattle.tiler.specs.Graphs.{Graph, count_of_graph}
 use Rattle.report.specs.Report.{tiling_line}
 use Rattle.report.specs.Inner.{Puts, Built}
-use Rattle.report.specs.TextLaws.{puts_none}
-use Rattle.report.specs.CountLaws.{not_below, is_below}
-use Rattle.report.specs.ListedLaws.{puts_tiling, puts_listed}
-use borrow.Author.Rules.{rules}
-use borrow.Author.Tests.{not-true, not-false}
-use native.Mathlib.Omega.{arith}
 use Rattle.report.proofs.put_tilings.Given as goal
 
 abbrev pub invariant-loop-m : goal.invariant-loop-m

@@ -1,7 +1,6 @@
 -- `report::write_report` meets its contract: the text is put in front, and the bytes behind it are cleared.
 -- Assumes nothing.
 use Rattle.report.specs.TextLaws.{puts_cleared}
-use borrow.Author.Rules.{rules}
 use Rattle.report.proofs.write_report.Goals as goal
 
 pub returns : goal.returns

@@ -1,6 +1,5 @@
 -- `single_tiling::has_single` meets its contract: accepted tiles are not refused.
 -- Assumes nothing.
-use borrow.Author.Rules.{rules}
 use Rattle.single_tiling.proofs.JudgeLaws.{single_is, single_refused}
 use Rattle.single_tiling.proofs.has_single.Goals as goal
 

@@ -1,6 +1,5 @@
 -- `single_tiling::judge` meets its contract: the board first, then tiles and room.
 -- Assumes nothing.
-use borrow.Author.Rules.{rules}
 use Rattle.single_tiling.proofs.JudgeLaws.{judge_free, judge_refused}
 use Rattle.single_tiling.proofs.judge.Goals as goal
 

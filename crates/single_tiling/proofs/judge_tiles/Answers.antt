@@ -1,6 +1,5 @@
 -- `single_tiling::judge_tiles` meets its contract: the tiles are tested, and then the room.
 -- Assumes nothing.
-use borrow.Author.Rules.{rules}
 use Rattle.single_tiling.proofs.JudgeLaws.{tiles_free, tiles_no_room, tiles_refused}
 use Rattle.single_tiling.proofs.judge_tiles.Goals as goal
 

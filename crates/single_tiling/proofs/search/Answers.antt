@@ -3,7 +3,6 @@
 use Rattle.board.proofs.SoundLaws.{board_sound}
 use Rattle.single_tiling.proofs.SearchLaws.{boards_few, gets_boards, gets_nothing}
 use native.Mathlib.Omega.{arith}
-use borrow.Author.Rules.{rules}
 use Rattle.single_tiling.proofs.search.Goals as goal
 
 pub overflow_mul-n : goal.overflow_mul-n

@@ -2,11 +2,9 @@
 -- Assumes nothing.
 use mathlib.Core.Path.{sym, subst}
 use Prim.Native.Nat.{ℕ, ◌≤◌}
-use borrow.Author.Tests.{not-true}
 use Rattle.board.proofs.SoundLaws.{board_sound}
 use Rattle.rectangle.proofs.FreeLaws.{free_le}
 use Rattle.single_tiling.proofs.SearchLaws.{searched_held, walk_full, walk_no_sum, walk_first}
-use borrow.Author.Rules.{rules}
 use Rattle.single_tiling.proofs.walk.Goals as goal
 
 pub returns-then-free-eq0 : goal.returns-then-free-eq0

@@ -2,7 +2,6 @@
 -- Assumes nothing.
 use mathlib.Core.Path.{sym, ◌∙◌}
 use Rattle.tile.specs.StoredLaws.{is_path_long, is_path_short}
-use borrow.Author.Rules.{rules}
 use Rattle.tile.proofs.is_path.Goals as goal
 
 pub returns-then-path-gt32 : goal.returns-then-path-gt32

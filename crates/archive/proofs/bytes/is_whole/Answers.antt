@@ -1,7 +1,6 @@
 -- `archive::bytes::is_whole` meets its contract: the length, and the two letters of the mark.
 -- Assumes nothing.
 use Rattle.archive.proofs.InputLaws.{whole_short, whole_first, whole_second}
-use borrow.Author.Rules.{rules}
 use Rattle.archive.proofs.bytes.is_whole.Goals as goal
 
 pub returns-then-file-at-lt24 : goal.returns-then-file-at-lt24

@@ -2,7 +2,6 @@
 -- Assumes nothing.
 use mathlib.Core.Path.{◌∙◌}
 use Rattle.archive.proofs.InputLaws.{pair_read}
-use borrow.Author.Rules.{rules}
 use Rattle.archive.proofs.bytes.pair_from.Goals as goal
 
 pub returns : goal.returns

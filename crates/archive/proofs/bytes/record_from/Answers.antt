@@ -1,7 +1,6 @@
 -- `archive::bytes::record_from` meets its contract: field by field.
 -- Assumes nothing.
 use Rattle.archive.proofs.InputLaws.{record_read}
-use borrow.Author.Rules.{rules}
 use Rattle.archive.proofs.bytes.record_from.Goals as goal
 
 pub returns : goal.returns

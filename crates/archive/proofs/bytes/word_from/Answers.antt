@@ -1,11 +1,10 @@
 -- `archive::bytes::word_from` meets its contract: so many bytes are read as are done.
 -- Assumes nothing.
 use mathlib.Core.Path.{◌≡◌, subst}
-use Prim.Native.Nat.{ℕ, ◌+◌, ◌-◌, ◌*◌, ◌^◌, ◌≤◌, ◌<◌}
+use Prim.Native.Nat.{ℕ, ◌+◌}
 use native.Mathlib.Omega.{arith}
 use Rattle.archive.specs.Archive.{number_at}
 use Rattle.archive.proofs.InputLaws.{number_more, number_room, word_room, none_read}
-use borrow.Author.Rules.{rules}
 use Rattle.archive.proofs.bytes.word_from.Goals as goal
 
 pub loop-i-init : goal.loop-i-init

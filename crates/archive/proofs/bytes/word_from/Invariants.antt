@@ -1,9 +1,6 @@
-use mathlib.Core.Path.{◌≡◌, subst}
-use Prim.Native.Nat.{ℕ, ◌+◌, ◌-◌, ◌*◌, ◌^◌, ◌≤◌, ◌<◌}
-use native.Mathlib.Omega.{arith}
+use mathlib.Core.Path.{◌≡◌}
+use Prim.Native.Nat.{◌-◌, ◌*◌, ◌^◌, ◌≤◌, ◌<◌}
 use Rattle.archive.specs.Archive.{number_at}
-use Rattle.archive.proofs.InputLaws.{number_more, number_room, word_room, none_read}
-use borrow.Author.Rules.{rules}
 use Rattle.archive.proofs.bytes.word_from.Given as goal
 
 abbrev pub invariant-loop-i : goal.invariant-loop-i

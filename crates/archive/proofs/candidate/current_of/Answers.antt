@@ -2,7 +2,6 @@
 -- Assumes nothing.
 use mathlib.Core.Path.{sym, ◌∙◌}
 use Rattle.archive.proofs.ReadingLaws.{candidate_other, candidate_first, candidate_newer, candidate_older}
-use borrow.Author.Rules.{rules}
 use Rattle.archive.proofs.candidate.current_of.Goals as goal
 
 pub returns-then-record-id : goal.returns-then-record-id

@@ -1,7 +1,6 @@
 -- `archive::candidate::told` meets its contract: the record, or that there is none.
 -- Assumes nothing.
 use Rattle.archive.proofs.ReadingLaws.{none_told, one_told}
-use borrow.Author.Rules.{rules}
 use Rattle.archive.proofs.candidate.told.Goals as goal
 
 pub returns-in-Nothing : goal.returns-in-Nothing

@@ -3,7 +3,6 @@
 use mathlib.Core.Path.{ap}
 use Prim.Native.Nat.{ℕ, ◌/◌, ◌%◌}
 use Rattle.archive.proofs.OutputLaws.{pow_bytes}
-use borrow.Author.Rules.{rules}
 use Rattle.archive.proofs.output.byte_in.Goals as goal
 
 pub returns : goal.returns

@@ -2,11 +2,8 @@
 -- Assumes nothing.
 use mathlib.Core.Path.{refl}
 use mathlib.Core.List.{[]}
-use Prim.Native.Nat.{◌-◌}
 use native.Mathlib.Omega.{arith}
-use lib.ListN.{length, get_or}
-use Rattle.cells.specs.ArrayLaws.{Filled, filled_step, padded_start, padded_end}
-use borrow.Author.Rules.{rules}
+use Rattle.cells.specs.ArrayLaws.{filled_step, padded_start, padded_end}
 use Rattle.archive.proofs.output.clear.Goals as goal
 
 pub loop-i-init : goal.loop-i-init

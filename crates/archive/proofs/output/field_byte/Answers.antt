@@ -3,7 +3,6 @@
 use native.Mathlib.Omega.{arith}
 use Rattle.cells.proofs.Match.{rest_le}
 use Rattle.archive.proofs.OutputLaws.{at_byte, byte_0, byte_1, byte_2, byte_3, byte_4, byte_5, byte_6, byte_7}
-use borrow.Author.Rules.{rules}
 use Rattle.archive.proofs.output.field_byte.Goals as goal
 
 pub returns-in-0 : goal.returns-in-0

@@ -1,11 +1,8 @@
 -- `archive::output::put_record` meets its contract: the bytes are written in order.
 -- Assumes nothing.
-use Prim.Native.Nat.{◌-◌}
 use native.Mathlib.Omega.{arith}
-use lib.ListN.{length, get_or}
-use Rattle.cells.specs.ArrayLaws.{Filled, filled_step, padded_start, padded_end}
+use Rattle.cells.specs.ArrayLaws.{filled_step, padded_start, padded_end}
 use Rattle.archive.specs.Archive.{record_bytes}
-use borrow.Author.Rules.{rules}
 use Rattle.archive.proofs.output.put_record.Goals as goal
 
 pub loop-i-init : goal.loop-i-init

@@ -1,9 +1,7 @@
 use Prim.Native.Nat.{◌-◌}
-use native.Mathlib.Omega.{arith}
 use lib.ListN.{length, get_or}
-use Rattle.cells.specs.ArrayLaws.{Filled, filled_step, padded_start, padded_end}
+use Rattle.cells.specs.ArrayLaws.{Filled}
 use Rattle.archive.specs.Archive.{record_bytes}
-use borrow.Author.Rules.{rules}
 use Rattle.archive.proofs.output.put_record.Given as goal
 
 abbrev pub invariant-loop-i : goal.invariant-loop-i

@@ -1,7 +1,6 @@
 -- `board::RectangularBoard::check` meets its contract: by the test of the board.
 -- Assumes nothing.
 use mathlib.Core.Path.{sym, ◌∙◌, ap}
-use borrow.Author.Rules.{rules}
 use Rattle.refusal.specs.Refusal.{refusal_of}
 use Rattle.board.specs.BoardLaws.{read_board_given, read_board_refused}
 use Rattle.board.proofs.RectangularBoard.check.Goals as goal

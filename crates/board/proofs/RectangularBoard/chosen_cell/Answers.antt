@@ -4,7 +4,6 @@
 use mathlib.Core.Path.{◌≡◌, sym, ap, ◌∙◌}
 use mathlib.Core.Bool.{true}
 use Prim.Native.Nat.{ℕ}
-use borrow.Author.Rules.{rules}
 use Rattle.cells.specs.Set.{number}
 use Rattle.refusal.specs.Refusal.{map_answer}
 use Rattle.rectangle.specs.Board.{valid}

@@ -1,7 +1,6 @@
 -- `board::RectangularBoard::free_cells` meets its contract: an accepted board is counted, and a refusal is handed on.
 -- Assumes nothing.
 use mathlib.Core.Path.{sym, ap, ◌∙◌}
-use borrow.Author.Rules.{rules}
 use Rattle.refusal.specs.Refusal.{given, map_answer}
 use Rattle.rectangle.specs.Board.{free_count}
 use Rattle.board.specs.BoardLaws.{read_board_given, check_accepted, check_refused}

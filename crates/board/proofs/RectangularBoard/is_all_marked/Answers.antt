@@ -3,7 +3,6 @@
 use mathlib.Core.Path.{sym, ap, ◌∙◌}
 use Prim.Native.Nat.{ℕ}
 use lib.Dec.{eqb}
-use borrow.Author.Rules.{rules}
 use Rattle.refusal.specs.Refusal.{given, map_answer}
 use Rattle.rectangle.specs.Board.{is_full}
 use Rattle.board.specs.BoardLaws.{read_board_given, check_accepted, check_refused}

@@ -1,7 +1,6 @@
 -- `board::RectangularBoard::l_board` meets its contract: a shape whose size fits, or refusal 4.
 -- Assumes nothing.
 use mathlib.Core.Path.{subst}
-use borrow.Author.Rules.{rules}
 use native.Mathlib.Omega.{arith}
 use Rattle.refusal.specs.Refusal.{Answer}
 use Rattle.rectangle.specs.Board.{Board}

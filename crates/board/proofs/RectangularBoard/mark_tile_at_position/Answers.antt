@@ -1,6 +1,5 @@
 -- `board::RectangularBoard::mark_tile_at_position` meets its contract: the laid marks are joined with the piece.
 -- Assumes nothing.
-use borrow.Author.Rules.{rules}
 use Rattle.board.proofs.MadeLaws.{lay_parts}
 use Rattle.board.proofs.RectangularBoard.mark_tile_at_position.Goals as goal
 

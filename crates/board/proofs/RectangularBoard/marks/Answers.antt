@@ -1,6 +1,5 @@
 -- `board::RectangularBoard::marks` meets its contract: the union of the two kinds.
 -- Assumes nothing.
-use borrow.Author.Rules.{rules}
 use Rattle.rectangle.specs.Board.{marks}
 use Rattle.board.proofs.RectangularBoard.marks.Goals as goal
 

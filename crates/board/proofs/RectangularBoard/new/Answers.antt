@@ -1,6 +1,5 @@
 -- `board::RectangularBoard::new` meets its contract: a shape with no rows marked.
 -- Assumes nothing.
-use borrow.Author.Rules.{rules}
 use Rattle.board.specs.Board.{new_board}
 use Rattle.board.proofs.RectangularBoard.new.Goals as goal
 

@@ -1,6 +1,5 @@
 -- `board::RectangularBoard::with_hole` meets its contract: an accepted board gets its hole, and a refusal is handed on.
 -- Assumes nothing.
-use borrow.Author.Rules.{rules}
 use Rattle.board.specs.Board.{read_board}
 use Rattle.board.specs.BoardLaws.{check_accepted, check_refused}
 use Rattle.board.specs.HoleLaws.{with_hole_handed}

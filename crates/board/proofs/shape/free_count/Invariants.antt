@@ -1,11 +1,8 @@
 use mathlib.Core.Path.{◌≡◌}
 use Prim.Native.Nat.{◌-◌, ◌≤◌}
-use borrow.Author.Rules.{rules}
-use native.Mathlib.Omega.{arith}
 use Rattle.cells.specs.Set.{size_below}
 use Rattle.rectangle.specs.Board.{free_set}
 use Rattle.board.specs.Board.{board_of}
-use Rattle.board.proofs.ShapeLaws.{counted_none, counted_more, counted_all}
 use Rattle.board.proofs.shape.free_count.Given as goal
 
 abbrev pub invariant-loop-cell : goal.invariant-loop-cell

@@ -1,7 +1,6 @@
 -- `board::shape::free_mark` meets its contract: by the rectangle and the two kinds of marks.
 -- Assumes nothing.
 use mathlib.Core.Path.{sym, ◌∙◌}
-use borrow.Author.Tests.{not-true, not-false}
 use borrow.Author.Rules.{rules}
 use Rattle.board.proofs.ShapeLaws.{free_outside, free_fixed, free_laid, free_none}
 use Rattle.board.proofs.shape.free_mark.Goals as goal

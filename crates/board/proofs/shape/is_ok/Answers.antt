@@ -1,8 +1,6 @@
 -- `board::shape::is_ok` meets its contract: by the size first, then the marks.
 -- Assumes nothing.
 use mathlib.Core.Path.{sym, ◌∙◌}
-use borrow.Author.Tests.{not-true, not-false}
-use borrow.Author.Rules.{rules}
 use Rattle.board.proofs.ShapeLaws.{refused_size, accepted_marks}
 use Rattle.board.proofs.shape.is_ok.Goals as goal
 

@@ -1,8 +1,6 @@
 -- `board::shape::is_shape_mark` meets its contract: by the rectangle, the row and the column.
 -- Assumes nothing.
 use mathlib.Core.Path.{sym, ◌∙◌}
-use borrow.Author.Tests.{not-true, not-false}
-use borrow.Author.Rules.{rules}
 use Rattle.board.proofs.ShapeLaws.{shape_outside, shape_under, shape_low, shape_high}
 use Rattle.board.proofs.shape.is_shape_mark.Goals as goal
 

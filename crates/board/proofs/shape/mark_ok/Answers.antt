@@ -1,7 +1,6 @@
 -- `board::shape::mark_ok` meets its contract: by the two kinds of marks.
 -- Assumes nothing.
 use mathlib.Core.Path.{sym, ◌∙◌}
-use borrow.Author.Rules.{rules}
 use Rattle.board.proofs.ShapeLaws.{mark_both, mark_fixed, mark_laid, mark_none}
 use Rattle.board.proofs.shape.mark_ok.Goals as goal
 

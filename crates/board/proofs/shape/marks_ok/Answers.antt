@@ -1,15 +1,9 @@
 -- `board::shape::marks_ok` meets its contract: every cell is tested.
 -- Assumes nothing.
-use mathlib.Core.Path.{◌≡◌, sym, ◌∙◌}
-use mathlib.Core.Bool.{true}
-use Prim.Native.Nat.{◌-◌, ◌≤◌}
-use borrow.Author.Tests.{not-true, not-false}
+use mathlib.Core.Path.{sym, ◌∙◌}
 use borrow.Author.Rules.{rules}
 use native.Mathlib.Omega.{arith}
-use Rattle.cells.specs.Lists.{all_below}
 use Rattle.cells.specs.ArrayLaws.{all_below_none, all_below_more, all_below_fails}
-use Rattle.rectangle.specs.Board.{mark_ok}
-use Rattle.board.specs.Board.{board_of}
 use Rattle.board.proofs.ShapeLaws.{all_below_end}
 use Rattle.board.proofs.shape.marks_ok.Goals as goal
 

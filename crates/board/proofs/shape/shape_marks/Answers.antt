@@ -1,13 +1,10 @@
 -- `board::shape::shape_marks` meets its contract: the cells are added in order.
 -- Assumes nothing.
-use mathlib.Core.Path.{◌≡◌, ◌∙◌}
-use Prim.Native.Nat.{◌-◌, ◌≤◌}
+use mathlib.Core.Path.{◌∙◌}
 use borrow.Author.Rules.{rules}
 use native.Mathlib.Omega.{arith}
-use Rattle.cells.specs.Set.{from_bits, number}
 use Rattle.cells.specs.ListLaws.{value_none}
-use Rattle.board.specs.Board.{shape_mark}
-use Rattle.board.proofs.ShapeLaws.{bits, filled_none, filled_more, filled_all}
+use Rattle.board.proofs.ShapeLaws.{filled_none, filled_more, filled_all}
 use Rattle.board.proofs.shape.shape_marks.Goals as goal
 
 pub loop-cell-init : goal.loop-cell-init

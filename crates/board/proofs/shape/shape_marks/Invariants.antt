@@ -1,11 +1,8 @@
-use mathlib.Core.Path.{◌≡◌, ◌∙◌}
+use mathlib.Core.Path.{◌≡◌}
 use Prim.Native.Nat.{◌-◌, ◌≤◌}
-use borrow.Author.Rules.{rules}
-use native.Mathlib.Omega.{arith}
 use Rattle.cells.specs.Set.{from_bits, number}
-use Rattle.cells.specs.ListLaws.{value_none}
 use Rattle.board.specs.Board.{shape_mark}
-use Rattle.board.proofs.ShapeLaws.{bits, filled_none, filled_more, filled_all}
+use Rattle.board.proofs.ShapeLaws.{bits}
 use Rattle.board.proofs.shape.shape_marks.Given as goal
 
 abbrev pub invariant-loop-cell : goal.invariant-loop-cell

@@ -1,6 +1,5 @@
 -- `board::shape::with_cell_if` meets its contract: the cell is added if the test holds.
 -- Assumes nothing.
-use borrow.Author.Rules.{rules}
 use Rattle.board.proofs.shape.with_cell_if.Goals as goal
 
 pub returns-then-test : goal.returns-then-test

@@ -1,11 +1,5 @@
 -- `cells::list::find` meets its contract: the sets that are lent are compared one by one from the first on.
 -- Assumes nothing.
-use mathlib.Core.Path.{◌≡◌}
-use mathlib.Core.Bool.{false}
-use Prim.Native.Nat.{ℕ, ◌-◌, ◌≤◌, ◌<◌}
-use lib.Dec.{eqb}
-use Rattle.cells.specs.Set.{number}
-use Rattle.cells.specs.Lists.{set_at}
 use Rattle.cells.proofs.ListLoops.{looked_at}
 use Rattle.cells.specs.SearchLaws.{missed_more, set_found, set_missed}
 use borrow.Author.Rules.{rules}

@@ -4,10 +4,6 @@ use Prim.Native.Nat.{ℕ, ◌-◌, ◌≤◌, ◌<◌}
 use lib.Dec.{eqb}
 use Rattle.cells.specs.Set.{number}
 use Rattle.cells.specs.Lists.{set_at}
-use Rattle.cells.proofs.ListLoops.{looked_at}
-use Rattle.cells.specs.SearchLaws.{missed_more, set_found, set_missed}
-use borrow.Author.Rules.{rules}
-use native.Mathlib.Omega.{arith}
 use Rattle.cells.proofs.list.find.Given as goal
 
 abbrev pub invariant-loop-i : goal.invariant-loop-i

@@ -2,7 +2,6 @@
 -- Assumes nothing.
 use mathlib.Core.Path.{sym}
 use lib.ListN.{length-set}
-use Rattle.cells.specs.Set.{Sound}
 use Rattle.cells.specs.ListLaws.{with_set_none}
 use Rattle.cells.proofs.ListLoops.{with_set_words}
 use borrow.Author.Rules.{rules}

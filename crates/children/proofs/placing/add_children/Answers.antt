@@ -2,7 +2,6 @@
 -- Assumes nothing.
 -- what is told of the chosen cell
 use mathlib.Core.Path.{◌≡◌, ◌∙◌}
-use borrow.Author.Rules.{rules}
 use Rattle.refusal.specs.Refusal.{given}
 use Rattle.choice.specs.Choice.{chosen_count, chosen_answer}
 use Rattle.choice.specs.ChosenLaws.{found_full, found_cell, found_count, found_no_refusal}

@@ -1,7 +1,6 @@
 -- `children::placing::add_fit` meets its contract: the fit by numbers is that of the board; one piece, one child.
 -- Assumes nothing.
 use mathlib.Core.Path.{sym, ap, ◌∙◌}
-use borrow.Author.Rules.{rules}
 use Rattle.rectangle.specs.Board.{marks}
 use Rattle.fit.specs.Parts.{fit_pieces}
 use Rattle.children.proofs.PlacingLaws.{fit_is, fit_none, fit_one}

@@ -1,16 +1,9 @@
 -- `children::placing::add_fits` meets its contract: the points are put down in order.
 -- Assumes nothing.
-use mathlib.Core.Path.{◌≡◌, refl}
-use mathlib.Core.List.{List}
-use Prim.Native.Nat.{ℕ, ◌+◌, ◌-◌, ◌≤◌}
-use lib.Dec.{eqb}
-use lib.ListN.{length}
+use mathlib.Core.Path.{refl}
 use borrow.Author.Rules.{rules}
 use native.Mathlib.Omega.{arith}
-use Rattle.cells.specs.Lists.{add_firsts}
-use Rattle.board.specs.Board.{board_of}
-use Rattle.children.specs.Inner.{Keeps}
-use Rattle.children.proofs.PlacingLaws.{point_children, points_none, points_more, points_all}
+use Rattle.children.proofs.PlacingLaws.{points_none, points_more, points_all}
 use Rattle.children.proofs.placing.add_fits.Goals as goal
 
 pub loop-point-init : goal.loop-point-init

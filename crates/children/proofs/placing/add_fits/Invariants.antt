@@ -1,14 +1,12 @@
-use mathlib.Core.Path.{◌≡◌, refl}
+use mathlib.Core.Path.{◌≡◌}
 use mathlib.Core.List.{List}
 use Prim.Native.Nat.{ℕ, ◌+◌, ◌-◌, ◌≤◌}
 use lib.Dec.{eqb}
 use lib.ListN.{length}
-use borrow.Author.Rules.{rules}
-use native.Mathlib.Omega.{arith}
 use Rattle.cells.specs.Lists.{add_firsts}
 use Rattle.board.specs.Board.{board_of}
 use Rattle.children.specs.Inner.{Keeps}
-use Rattle.children.proofs.PlacingLaws.{point_children, points_none, points_more, points_all}
+use Rattle.children.proofs.PlacingLaws.{point_children}
 use Rattle.children.proofs.placing.add_fits.Given as goal
 
 abbrev pub invariant-loop-point : goal.invariant-loop-point

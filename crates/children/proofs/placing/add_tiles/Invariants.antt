@@ -1,17 +1,12 @@
-use mathlib.Core.Path.{◌≡◌, refl, sym, subst}
-use mathlib.Core.Bool.{So}
+use mathlib.Core.Path.{◌≡◌}
 use mathlib.Core.List.{[]}
 use Prim.Native.Nat.{◌-◌, ◌≤◌}
 use lib.Dec.{eqb}
 use lib.ListN.{length}
-use borrow.Author.Rules.{rules}
-use native.Mathlib.Omega.{arith}
 use Rattle.cells.specs.Lists.{add_firsts}
-use Rattle.tiles.specs.ReadLaws.{sound_tile}
-use Rattle.tile.specs.Path.{Path, is_path}
 use Rattle.board.specs.Board.{board_of}
 use Rattle.children.specs.Inner.{Keeps}
-use Rattle.children.proofs.PlacingLaws.{keeps_none, tile_children, tiles_none, tiles_more, tiles_all, part_path, part_sound}
+use Rattle.children.proofs.PlacingLaws.{tile_children}
 use Rattle.children.proofs.placing.add_tiles.Given as goal
 
 abbrev pub invariant-loop-i : goal.invariant-loop-i

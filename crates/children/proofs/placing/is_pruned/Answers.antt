@@ -1,7 +1,6 @@
 -- `children::placing::is_pruned` meets its contract: the tiles are asked only at count 4.
 -- Assumes nothing.
 use mathlib.Core.Path.{sym}
-use borrow.Author.Rules.{rules}
 use Rattle.children.proofs.PlacingLaws.{pruned_less, pruned_told, pruned_clash}
 use Rattle.children.proofs.placing.is_pruned.Goals as goal
 

@@ -1,8 +1,6 @@
 -- `choice::counts::count_at` meets its contract: the outer cells' 1 and the laid marks beside the cell are added up.
 -- Assumes nothing.
 use mathlib.Core.Path.{sym, ◌∙◌}
-use borrow.Author.Tests.{not-true, not-false}
-use borrow.Author.Rules.{rules}
 use Rattle.choice.specs.CountLaws.{count_outside}
 use Rattle.choice.proofs.ChoiceLaws.{count_sum}
 use Rattle.choice.proofs.counts.count_at.Goals as goal

@@ -1,12 +1,10 @@
 -- `choice::counts::neighbour_counts` meets its contract: the counts are filled in order (`Filled`).
 -- Assumes nothing.
-use Prim.Native.Nat.{ℕ, ◌-◌, ◌≤◌}
+use Prim.Native.Nat.{ℕ}
 use lib.ListN.{length-replicate, get_or-replicate}
 use borrow.Author.Rules.{rules}
 use native.Mathlib.Omega.{arith}
-use Rattle.cells.specs.Set.{number}
-use Rattle.cells.specs.ArrayLaws.{Filled, filled_start, filled_step, filled_end}
-use Rattle.choice.specs.Choice.{neighbour_count}
+use Rattle.cells.specs.ArrayLaws.{filled_start, filled_step, filled_end}
 use Rattle.choice.proofs.counts.neighbour_counts.Goals as goal
 
 pub loop-cell-init : goal.loop-cell-init

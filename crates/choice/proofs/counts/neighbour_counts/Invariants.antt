@@ -1,9 +1,6 @@
-use Prim.Native.Nat.{ℕ, ◌-◌, ◌≤◌}
-use lib.ListN.{length-replicate, get_or-replicate}
-use borrow.Author.Rules.{rules}
-use native.Mathlib.Omega.{arith}
+use Prim.Native.Nat.{◌-◌, ◌≤◌}
 use Rattle.cells.specs.Set.{number}
-use Rattle.cells.specs.ArrayLaws.{Filled, filled_start, filled_step, filled_end}
+use Rattle.cells.specs.ArrayLaws.{Filled}
 use Rattle.choice.specs.Choice.{neighbour_count}
 use Rattle.choice.proofs.counts.neighbour_counts.Given as goal
 

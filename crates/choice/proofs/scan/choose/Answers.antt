@@ -1,14 +1,8 @@
 -- `choice::scan::choose` meets its contract: the loop keeps the best of the columns so far, and the running bit number is 16 × row + column
 -- at the top of every column.
 -- Assumes nothing.
-use mathlib.Core.Path.{◌≡◌}
-use mathlib.Core.Option.{none}
-use Prim.Native.Nat.{◌+◌, ◌-◌, ◌*◌, ◌≤◌}
 use borrow.Author.Rules.{rules}
 use native.Mathlib.Omega.{arith}
-use Rattle.cells.specs.Set.{number}
-use Rattle.choice.specs.Choice.{columns, best_of}
-use Rattle.choice.specs.Inner.{found_of, array_count, open_in}
 use Rattle.choice.proofs.ChoiceLaws.{columns_none, columns_more, columns_all}
 use Rattle.choice.proofs.scan.choose.Goals as goal
 

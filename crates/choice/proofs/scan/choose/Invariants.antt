@@ -1,12 +1,9 @@
 use mathlib.Core.Path.{◌≡◌}
 use mathlib.Core.Option.{none}
 use Prim.Native.Nat.{◌+◌, ◌-◌, ◌*◌, ◌≤◌}
-use borrow.Author.Rules.{rules}
-use native.Mathlib.Omega.{arith}
 use Rattle.cells.specs.Set.{number}
 use Rattle.choice.specs.Choice.{columns, best_of}
 use Rattle.choice.specs.Inner.{found_of, array_count, open_in}
-use Rattle.choice.proofs.ChoiceLaws.{columns_none, columns_more, columns_all}
 use Rattle.choice.proofs.scan.choose.Given as goal
 
 abbrev pub invariant-loop-col : goal.invariant-loop-col

@@ -1,7 +1,6 @@
 -- `choice::scan::look_at` meets its contract: a marked cell changes nothing, and a free one is taken if its count is higher.
 -- Assumes nothing.
 use mathlib.Core.Path.{sym, ◌∙◌}
-use borrow.Author.Rules.{rules}
 use Rattle.choice.proofs.ChoiceLaws.{look_marked, look_first, look_higher, look_lower, look_refused}
 use Rattle.choice.proofs.scan.look_at.Goals as goal
 

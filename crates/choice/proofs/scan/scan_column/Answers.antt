@@ -1,14 +1,9 @@
 -- `choice::scan::scan_column` meets its contract: the loop keeps the best of the rows so far (`Scanned`), and the running bit number is
 -- 16 × row + column at every cell.
 -- Assumes nothing.
-use mathlib.Core.Path.{◌≡◌}
-use Prim.Native.Nat.{◌+◌, ◌-◌, ◌*◌, ◌≤◌}
 use borrow.Author.Rules.{rules}
 use native.Mathlib.Omega.{arith}
-use Rattle.cells.specs.Set.{number}
-use Rattle.cells.specs.Lists.{list_of}
-use Rattle.choice.proofs.ChoiceLaws.{Scanned, scanned_none, scanned_more, scanned_all}
-use Rattle.choice.specs.Inner.{array_count, open_in}
+use Rattle.choice.proofs.ChoiceLaws.{scanned_none, scanned_more, scanned_all}
 use Rattle.choice.proofs.scan.scan_column.Goals as goal
 
 pub loop-row-init : goal.loop-row-init

@@ -1,10 +1,8 @@
 use mathlib.Core.Path.{◌≡◌}
 use Prim.Native.Nat.{◌+◌, ◌-◌, ◌*◌, ◌≤◌}
-use borrow.Author.Rules.{rules}
-use native.Mathlib.Omega.{arith}
 use Rattle.cells.specs.Set.{number}
 use Rattle.cells.specs.Lists.{list_of}
-use Rattle.choice.proofs.ChoiceLaws.{Scanned, scanned_none, scanned_more, scanned_all}
+use Rattle.choice.proofs.ChoiceLaws.{Scanned}
 use Rattle.choice.specs.Inner.{array_count, open_in}
 use Rattle.choice.proofs.scan.scan_column.Given as goal
 

@@ -1,6 +1,5 @@
 -- `fit::walk::back_code` meets its contract: a code 0 to 7 has its opposite, and is not refused.
 -- Assumes nothing.
-use borrow.Author.Rules.{rules}
 use Rattle.fit.proofs.WalkLaws.{told_back, told_back_no_refusal}
 use Rattle.fit.proofs.walk.back_code.Goals as goal
 

@@ -3,7 +3,6 @@
 -- the place that was told is that of the position one step on
 use mathlib.Core.Path.{◌≡◌, sym, ◌∙◌}
 use lib.IntN.{pos}
-use borrow.Author.Rules.{rules}
 use native.Mathlib.Omega.{arith}
 use Rattle.direction.specs.Direction.{at, shift, step}
 use Rattle.rectangle.specs.Board.{inside}

@@ -1,7 +1,6 @@
 -- `fit::walk::tile_fits_at_position` meets its contract: the place itself, the walk back and the walk on cover what the tile's cells do.
 -- Assumes nothing.
 use mathlib.Core.Path.{sym, ◌∙◌}
-use borrow.Author.Rules.{rules}
 use Rattle.fit.proofs.WalkLaws.{fit_marked, fit_stops, fit_goes}
 use Rattle.fit.proofs.walk.tile_fits_at_position.Goals as goal
 

@@ -2,17 +2,12 @@
 -- Assumes nothing.
 use mathlib.Core.Path.{refl, sym, ap, ◌∙◌}
 use Prim.Native.Nat.{◌-◌}
-use lib.IntN.{pos}
-use lib.ListN.{length}
 use borrow.Author.Rules.{rules}
 use native.Mathlib.Omega.{arith}
-use Rattle.cells.specs.Set.{number}
-use Rattle.direction.specs.Direction.{at}
 use Rattle.tile.specs.PathLaws.{codes_ok_at}
-use Rattle.rectangle.specs.Parts.{free_in, place_answer}
-use Rattle.fit.specs.Fit.{cover}
+use Rattle.rectangle.specs.Parts.{place_answer}
 use Rattle.fit.specs.Inner.{back}
-use Rattle.fit.proofs.WalkLaws.{Walking, free_in_placed, walk_stops, walk_goes, walk_ends, back_next, back_none}
+use Rattle.fit.proofs.WalkLaws.{free_in_placed, walk_stops, walk_goes, walk_ends, back_next, back_none}
 use Rattle.fit.proofs.walk.walk_back.Goals as goal
 
 pub loop-i-init : goal.loop-i-init

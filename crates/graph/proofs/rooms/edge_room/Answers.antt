@@ -1,6 +1,5 @@
 -- `graph::rooms::edge_room` meets its contract: by definition.
 -- Assumes nothing.
-use borrow.Author.Rules.{rules}
 use Rattle.graph.specs.Graph.{edge_room}
 use Rattle.graph.proofs.rooms.edge_room.Goals as goal
 

@@ -2,7 +2,6 @@
 -- Assumes nothing.
 use mathlib.Core.Path.{ap, ap₂, ◌∙◌}
 use Prim.Native.Nat.{min}
-use borrow.Author.Rules.{rules}
 use Rattle.graph.specs.Graph.{room_of, layer_room}
 use Rattle.graph.proofs.rooms.layer_room.Goals as goal
 

@@ -2,7 +2,6 @@
 -- Assumes nothing.
 use mathlib.Core.Path.{ap, ◌∙◌}
 use Prim.Native.Nat.{min}
-use borrow.Author.Rules.{rules}
 use Rattle.graph.specs.Graph.{room_of, node_room}
 use Rattle.graph.proofs.rooms.node_room.Goals as goal
 

@@ -1,6 +1,5 @@
 -- `graph::rooms::room` meets its contract: by definition.
 -- Assumes nothing.
-use borrow.Author.Rules.{rules}
 use Rattle.graph.specs.Graph.{room_of}
 use Rattle.graph.proofs.rooms.room.Goals as goal
 

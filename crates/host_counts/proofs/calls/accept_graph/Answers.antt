@@ -1,7 +1,6 @@
 -- `host_counts::calls::accept_graph` meets its contract: the words of the full node, or none.
 -- Assumes nothing.
 use Rattle.host_counts.proofs.ToldLaws.{result_node, result_none}
-use borrow.Author.Rules.{rules}
 use Rattle.host_counts.proofs.calls.accept_graph.Goals as goal
 
 pub returns-in-Node : goal.returns-in-Node

@@ -1,7 +1,6 @@
 -- `host_counts::calls::count_cuttings` meets its contract: what `count_cuttings` answers is told.
 -- Assumes nothing.
 use Rattle.host_counts.proofs.ToldLaws.{count_told_lem}
-use borrow.Author.Rules.{rules}
 use Rattle.host_counts.proofs.calls.count_cuttings.Goals as goal
 
 pub returns : goal.returns

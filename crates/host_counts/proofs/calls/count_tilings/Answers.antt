@@ -1,7 +1,6 @@
 -- `host_counts::calls::count_tilings` meets its contract: what `count_tilings` answers is told.
 -- Assumes nothing.
 use Rattle.host_counts.proofs.ToldLaws.{count_told_lem}
-use borrow.Author.Rules.{rules}
 use Rattle.host_counts.proofs.calls.count_tilings.Goals as goal
 
 pub returns : goal.returns

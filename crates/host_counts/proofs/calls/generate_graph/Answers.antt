@@ -1,7 +1,6 @@
 -- `host_counts::calls::generate_graph` meets its contract: what `generate_graph` answers is told.
 -- Assumes nothing.
 use Rattle.host_counts.proofs.ToldLaws.{graph_told, graph_refused}
-use borrow.Author.Rules.{rules}
 use Rattle.host_counts.proofs.calls.generate_graph.Goals as goal
 
 pub returns-in-Accepted : goal.returns-in-Accepted

@@ -1,7 +1,6 @@
 -- `host_counts::calls::refuse_count` meets its contract: the lent layers are cleared, and the refusal is told.
 -- Assumes nothing.
 use Rattle.host_counts.proofs.HostLaws.{count_cleared}
-use borrow.Author.Rules.{rules}
 use Rattle.host_counts.proofs.calls.refuse_count.Goals as goal
 
 pub returns : goal.returns

@@ -1,7 +1,6 @@
 -- `host_plots::calls::orbit` meets its contract: what `orbit` answers is told.
 -- Assumes nothing.
 use Rattle.host_plots.proofs.ToldLaws.{orbit_told, orbit_refused}
-use borrow.Author.Rules.{rules}
 use Rattle.host_plots.proofs.calls.orbit.Goals as goal
 
 pub returns-in-Accepted : goal.returns-in-Accepted

@@ -1,7 +1,6 @@
 -- `host_plots::calls::place_tile` meets its contract: what `place_tile` answers is told.
 -- Assumes nothing.
 use Rattle.host_plots.proofs.ToldLaws.{children_told, children_refused}
-use borrow.Author.Rules.{rules}
 use Rattle.host_plots.proofs.calls.place_tile.Goals as goal
 
 pub returns-in-Number : goal.returns-in-Number

@@ -1,7 +1,6 @@
 -- `host_plots::calls::read_plot` meets its contract: what `read_plot` answers is told.
 -- Assumes nothing.
 use Rattle.host_plots.proofs.ToldLaws.{plot_told, plot_refused}
-use borrow.Author.Rules.{rules}
 use Rattle.host_plots.proofs.calls.read_plot.Goals as goal
 
 pub returns-in-Accepted : goal.returns-in-Accepted

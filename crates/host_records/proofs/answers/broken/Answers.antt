@@ -1,7 +1,6 @@
 -- `host_records::answers::broken` meets its contract: the place is written, and 13 told.
 -- Assumes nothing.
 use Rattle.host_records.proofs.AnswerLaws.{leaves_place}
-use borrow.Author.Rules.{rules}
 use Rattle.host_records.proofs.answers.broken.Goals as goal
 
 pub returns : goal.returns

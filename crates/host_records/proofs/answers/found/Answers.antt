@@ -1,7 +1,6 @@
 -- `host_records::answers::found` meets its contract: the record, the place, or that there is none.
 -- Assumes nothing.
 use Rattle.host_records.proofs.AnswerLaws.{found_is, found_broken, found_absent}
-use borrow.Author.Rules.{rules}
 use Rattle.host_records.proofs.answers.found.Goals as goal
 
 pub returns-in-Is : goal.returns-in-Is

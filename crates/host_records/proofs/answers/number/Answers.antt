@@ -1,7 +1,6 @@
 -- `host_records::answers::number` meets its contract: the number is written.
 -- Assumes nothing.
 use Rattle.host_records.proofs.AnswerLaws.{leaves_value}
-use borrow.Author.Rules.{rules}
 use Rattle.host_records.proofs.answers.number.Goals as goal
 
 pub returns : goal.returns

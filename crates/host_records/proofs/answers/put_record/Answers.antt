@@ -1,11 +1,8 @@
 -- `host_records::answers::put_record` meets its contract: the words are written in order.
 -- Assumes nothing.
-use Prim.Native.Nat.{◌-◌}
 use native.Mathlib.Omega.{arith}
-use lib.ListN.{length, get_or}
-use Rattle.cells.specs.ArrayLaws.{Filled, filled_step, padded_start, padded_end}
+use Rattle.cells.specs.ArrayLaws.{filled_step, padded_start, padded_end}
 use Rattle.host_records.specs.Calls.{record_words}
-use borrow.Author.Rules.{rules}
 use Rattle.host_records.proofs.answers.put_record.Goals as goal
 
 pub loop-i-init : goal.loop-i-init

@@ -1,11 +1,8 @@
 -- `host_records::answers::put_word` meets its contract: the word and zeros are written in order.
 -- Assumes nothing.
 use mathlib.Core.List.{[], ◌∷◌}
-use Prim.Native.Nat.{◌-◌}
 use native.Mathlib.Omega.{arith}
-use lib.ListN.{length, get_or}
-use Rattle.cells.specs.ArrayLaws.{Filled, filled_step, padded_start, padded_end}
-use borrow.Author.Rules.{rules}
+use Rattle.cells.specs.ArrayLaws.{filled_step, padded_start, padded_end}
 use Rattle.host_records.proofs.answers.put_word.Goals as goal
 
 pub loop-i-init : goal.loop-i-init

@@ -1,9 +1,7 @@
 use mathlib.Core.List.{[], ◌∷◌}
 use Prim.Native.Nat.{◌-◌}
-use native.Mathlib.Omega.{arith}
 use lib.ListN.{length, get_or}
-use Rattle.cells.specs.ArrayLaws.{Filled, filled_step, padded_start, padded_end}
-use borrow.Author.Rules.{rules}
+use Rattle.cells.specs.ArrayLaws.{Filled}
 use Rattle.host_records.proofs.answers.put_word.Given as goal
 
 abbrev pub invariant-loop-i : goal.invariant-loop-i

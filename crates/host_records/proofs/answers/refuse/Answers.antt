@@ -1,7 +1,6 @@
 -- `host_records::answers::refuse` meets its contract: zeros are written.
 -- Assumes nothing.
 use Rattle.host_records.proofs.AnswerLaws.{leaves_refusal}
-use borrow.Author.Rules.{rules}
 use Rattle.host_records.proofs.answers.refuse.Goals as goal
 
 pub returns : goal.returns

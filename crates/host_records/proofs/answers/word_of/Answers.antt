@@ -4,7 +4,6 @@ use mathlib.Core.Path.{sym}
 use lib.ListN.{get_or-eq_default}
 use Rattle.cells.proofs.Match.{rest_le}
 use Rattle.host_records.specs.Calls.{record_words}
-use borrow.Author.Rules.{rules}
 use Rattle.host_records.proofs.answers.word_of.Goals as goal
 
 pub returns-in_default : goal.returns-in_default

@@ -4,7 +4,6 @@ use mathlib.Core.Path.{ap}
 use mathlib.Core.Option.{none, some}
 use Rattle.single_tiling.specs.SingleTiling.{single_answer}
 use Rattle.host_tilings.proofs.ToldLaws.{single_told, single_refused, one_told, none_told}
-use borrow.Author.Rules.{rules}
 use Rattle.host_tilings.proofs.calls.single_tiling.Goals as goal
 
 pub returns-in-Boards : goal.returns-in-Boards

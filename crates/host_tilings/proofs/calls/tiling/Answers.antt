@@ -1,7 +1,6 @@
 -- `host_tilings::calls::tiling` meets its contract: the number of two words is handed on as a count, and what `tiling_by_number` answers is told.
 -- Assumes nothing.
 use Rattle.host_tilings.proofs.ToldLaws.{list_told, list_refused, gives_number}
-use borrow.Author.Rules.{rules}
 use Rattle.host_tilings.proofs.calls.tiling.Goals as goal
 
 pub returns-in-Length : goal.returns-in-Length

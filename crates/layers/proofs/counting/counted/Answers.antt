@@ -1,7 +1,6 @@
 -- `layers::counting::counted` meets its contract: what is refused is refused, and the rest is counted. Assumes nothing.
 use Rattle.expansion.proofs.ExpansionLaws.{judged_size, judged_refused}
 use Rattle.layers.proofs.StartLaws.{count_given_lem, count_refused}
-use borrow.Author.Rules.{rules}
 use Rattle.layers.proofs.counting.counted.Goals as goal
 
 pub count_accepted-requires : goal.count_accepted-requires

@@ -1,6 +1,5 @@
 -- `layers::counting::free_cells` meets its contract: an accepted board is not refused.
 -- Assumes nothing.
-use borrow.Author.Rules.{rules}
 use Rattle.layers.proofs.StartLaws.{free_number, free_refused}
 use Rattle.layers.proofs.counting.free_cells.Goals as goal
 

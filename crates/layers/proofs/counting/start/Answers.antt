@@ -3,7 +3,6 @@
 use lib.Dec.{lit<}
 use Rattle.path_count.specs.PathCountLaws.{word_count}
 use Rattle.layers.proofs.StartLaws.{first_entries}
-use borrow.Author.Rules.{rules}
 use Rattle.layers.proofs.counting.start.Goals as goal
 
 pub returns : goal.returns

@@ -2,7 +2,6 @@
 -- Assumes nothing.
 use native.Mathlib.Omega.{arith}
 use Rattle.layers.proofs.RunSteps.{run_last, grown_refused, grown_rest, grown_ready, grown_on}
-use borrow.Author.Rules.{rules}
 use Rattle.layers.proofs.from_layer.finish.Goals as goal
 
 pub returns-then-left-plot : goal.returns-then-left-plot

@@ -2,7 +2,6 @@
 -- Assumes nothing.
 use native.Mathlib.Omega.{arith}
 use Rattle.layers.proofs.RunSteps.{layer_from, once_no_room, once_large, once_boards}
-use borrow.Author.Rules.{rules}
 use Rattle.layers.proofs.from_layer.grow_once.Goals as goal
 
 pub grow-layer-requires : goal.grow-layer-requires

@@ -2,7 +2,6 @@
 -- Assumes nothing.
 use native.Mathlib.Omega.{arith}
 use Rattle.layers.proofs.RunSteps.{once_refused, grown_rest, grown_ready, grown_twice}
-use borrow.Author.Rules.{rules}
 use Rattle.layers.proofs.from_layer.grow_twice.Goals as goal
 
 pub grow_once-first-requires : goal.grow_once-first-requires

@@ -3,7 +3,6 @@
 use lib.Dec.{lit<}
 use Rattle.layers.proofs.LayerLaws.{last_free, last_none, last_one}
 use Rattle.path_count.specs.PathCountLaws.{word_count}
-use borrow.Author.Rules.{rules}
 use Rattle.layers.proofs.from_layer.last_count.Goals as goal
 
 pub returns-then-left-gt0 : goal.returns-then-left-gt0

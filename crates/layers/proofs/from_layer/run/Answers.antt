@@ -1,14 +1,9 @@
 -- `layers::from_layer::run` meets its contract: while two pieces can be laid, the layer grows twice and stands where it stood, so that what is right from
 -- it on is right from the first layer on; then at most one layer is left. Assumes nothing.
-use mathlib.Core.Path.{◌≡◌, refl, ◌∙◌}
-use Prim.Native.Nat.{ℕ}
+use mathlib.Core.Path.{refl, ◌∙◌}
 use native.Mathlib.Omega.{arith}
-use lib.ListN.{length}
-use Rattle.refusal.specs.Refusal.{Answer}
-use Rattle.layers.specs.Inner.{entries_in, setting_in, Right, Ready}
 use Rattle.layers.proofs.LayerLaws.{room_kept}
 use Rattle.layers.proofs.RunSteps.{run_less, grown_refused, grown_rest, grown_ready, grown_on}
-use borrow.Author.Rules.{rules}
 use Rattle.layers.proofs.from_layer.run.Goals as goal
 
 pub loop-free-init : goal.loop-free-init

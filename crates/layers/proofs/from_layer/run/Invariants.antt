@@ -1,12 +1,8 @@
-use mathlib.Core.Path.{◌≡◌, refl, ◌∙◌}
+use mathlib.Core.Path.{◌≡◌}
 use Prim.Native.Nat.{ℕ}
-use native.Mathlib.Omega.{arith}
 use lib.ListN.{length}
 use Rattle.refusal.specs.Refusal.{Answer}
 use Rattle.layers.specs.Inner.{entries_in, setting_in, Right, Ready}
-use Rattle.layers.proofs.LayerLaws.{room_kept}
-use Rattle.layers.proofs.RunSteps.{run_less, grown_refused, grown_rest, grown_ready, grown_on}
-use borrow.Author.Rules.{rules}
 use Rattle.layers.proofs.from_layer.run.Given as goal
 
 abbrev pub invariant-loop-free : goal.invariant-loop-free

@@ -1,16 +1,9 @@
 -- `layers::layer::add_all` meets its contract: the boards are added in order.
 -- Assumes nothing.
-use mathlib.Core.Path.{◌≡◌, refl, ◌∙◌}
-use mathlib.Core.List.{List}
-use Prim.Native.Nat.{ℕ, ◌-◌, ◌≤◌}
+use mathlib.Core.Path.{refl, ◌∙◌}
 use native.Mathlib.Omega.{arith}
-use lib.ListN.{length}
-use Rattle.cells.specs.Lists.{list_of, set_at}
-use Rattle.covers.specs.Counts.{Entry}
-use Rattle.layers.specs.Inner.{boards_in, HoldsLayer, add_each}
 use Rattle.layers.proofs.LayerLaws.{room_kept, each_none, each_more, each_all}
 use borrow.Author.Rules.{rules}
-use Rattle.path_count.specs.PathCounts.{count_value}
 use Rattle.layers.proofs.layer.add_all.Goals as goal
 
 pub loop-i-init : goal.loop-i-init

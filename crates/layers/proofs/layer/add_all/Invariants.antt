@@ -1,13 +1,10 @@
-use mathlib.Core.Path.{◌≡◌, refl, ◌∙◌}
+use mathlib.Core.Path.{◌≡◌}
 use mathlib.Core.List.{List}
 use Prim.Native.Nat.{ℕ, ◌-◌, ◌≤◌}
-use native.Mathlib.Omega.{arith}
 use lib.ListN.{length}
 use Rattle.cells.specs.Lists.{list_of, set_at}
 use Rattle.covers.specs.Counts.{Entry}
 use Rattle.layers.specs.Inner.{boards_in, HoldsLayer, add_each}
-use Rattle.layers.proofs.LayerLaws.{room_kept, each_none, each_more, each_all}
-use borrow.Author.Rules.{rules}
 use Rattle.path_count.specs.PathCounts.{count_value}
 use Rattle.layers.proofs.layer.add_all.Given as goal
 

@@ -2,7 +2,6 @@
 -- Assumes nothing.
 use mathlib.Core.Path.{refl}
 use Rattle.expansion.proofs.ExpansionLaws.{child_words_lem, child_part}
-use borrow.Author.Rules.{rules}
 use Rattle.layers.proofs.layer.grow.Goals as goal
 
 pub slice_bounds-children-end : goal.slice_bounds-children-end

@@ -1,13 +1,8 @@
 -- `layers::layer::grow_all` meets its contract: the boards give their paths in order.
 -- Assumes nothing.
-use mathlib.Core.Path.{◌≡◌, refl, ◌∙◌}
-use Prim.Native.Nat.{◌-◌, ◌≤◌}
+use mathlib.Core.Path.{refl, ◌∙◌}
 use native.Mathlib.Omega.{arith}
-use lib.ListN.{length}
-use Rattle.expansion.specs.Boards.{setting_of}
-use Rattle.layers.specs.Inner.{entries_in, boards_in, HoldsLayer, next_of}
 use Rattle.layers.proofs.LayerLaws.{room_kept, grown_none, grown_more, grown_all}
-use borrow.Author.Rules.{rules}
 use Rattle.layers.proofs.layer.grow_all.Goals as goal
 
 pub loop-i-init : goal.loop-i-init

@@ -1,11 +1,8 @@
-use mathlib.Core.Path.{◌≡◌, refl, ◌∙◌}
+use mathlib.Core.Path.{◌≡◌}
 use Prim.Native.Nat.{◌-◌, ◌≤◌}
-use native.Mathlib.Omega.{arith}
 use lib.ListN.{length}
 use Rattle.expansion.specs.Boards.{setting_of}
 use Rattle.layers.specs.Inner.{entries_in, boards_in, HoldsLayer, next_of}
-use Rattle.layers.proofs.LayerLaws.{room_kept, grown_none, grown_more, grown_all}
-use borrow.Author.Rules.{rules}
 use Rattle.layers.proofs.layer.grow_all.Given as goal
 
 abbrev pub invariant-loop-i : goal.invariant-loop-i

@@ -6,7 +6,6 @@ use Rattle.covers.specs.Setting.{child_boards}
 use Rattle.expansion.specs.Boards.{From, setting_of}
 use Rattle.expansion.proofs.ExpansionLaws.{expanded_children}
 use Rattle.layers.proofs.LayerLaws.{grown_by}
-use borrow.Author.Rules.{rules}
 use Rattle.layers.proofs.layer.grow_by.Goals as goal
 
 pub returns : goal.returns

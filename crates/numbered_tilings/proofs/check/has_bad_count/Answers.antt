@@ -1,14 +1,8 @@
 -- `numbered_tilings::check::has_bad_count` meets its contract: the counts of the nodes are tested one by one.
 -- Assumes nothing.
-use mathlib.Core.Path.{◌≡◌, sym, ◌∙◌}
-use mathlib.Core.Bool.{false}
-use Prim.Native.Nat.{ℕ, ◌-◌, ◌≤◌, ◌<◌}
+use mathlib.Core.Path.{sym, ◌∙◌}
 use borrow.Author.Count.{below_more}
-use Rattle.cells.specs.Lists.{list_of}
 use Rattle.cells.specs.ArrayLaws.{any_list_of, none_list_of}
-use Rattle.graph.specs.Graph.{edge_at}
-use Rattle.path_count.specs.PathCounts.{count_in}
-use Rattle.numbered_tilings.specs.Tilings.{bad_count}
 use borrow.Author.Rules.{rules}
 use native.Mathlib.Omega.{arith}
 use Rattle.numbered_tilings.proofs.check.has_bad_count.Goals as goal

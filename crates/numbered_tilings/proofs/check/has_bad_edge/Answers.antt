@@ -1,12 +1,8 @@
 -- `numbered_tilings::check::has_bad_edge` meets its contract: the edges are tested one by one.
 -- Assumes nothing.
-use mathlib.Core.Path.{◌≡◌, sym, ◌∙◌}
-use mathlib.Core.Bool.{false}
-use Prim.Native.Nat.{ℕ, ◌-◌, ◌≤◌, ◌<◌}
+use mathlib.Core.Path.{sym, ◌∙◌}
 use borrow.Author.Count.{below_more}
 use Rattle.cells.specs.ArrayLaws.{any_list_of, none_list_of}
-use Rattle.graph.specs.Graph.{edge_at}
-use Rattle.numbered_tilings.specs.Tilings.{bad_edge}
 use borrow.Author.Rules.{rules}
 use native.Mathlib.Omega.{arith}
 use Rattle.numbered_tilings.proofs.check.has_bad_edge.Goals as goal

@@ -1,12 +1,8 @@
-use mathlib.Core.Path.{◌≡◌, sym, ◌∙◌}
+use mathlib.Core.Path.{◌≡◌}
 use mathlib.Core.Bool.{false}
 use Prim.Native.Nat.{ℕ, ◌-◌, ◌≤◌, ◌<◌}
-use borrow.Author.Count.{below_more}
-use Rattle.cells.specs.ArrayLaws.{any_list_of, none_list_of}
 use Rattle.graph.specs.Graph.{edge_at}
 use Rattle.numbered_tilings.specs.Tilings.{bad_edge}
-use borrow.Author.Rules.{rules}
-use native.Mathlib.Omega.{arith}
 use Rattle.numbered_tilings.proofs.check.has_bad_edge.Given as goal
 
 abbrev pub invariant-loop-i : goal.invariant-loop-i

@@ -2,7 +2,6 @@
 -- Assumes nothing.
 use Rattle.path_count.specs.PathCounts.{count_in}
 use Rattle.numbered_tilings.proofs.CheckLaws.{first_told}
-use borrow.Author.Rules.{rules}
 use Rattle.numbered_tilings.proofs.check.is_bad_count.Goals as goal
 
 pub returns-then-v-eq0 : goal.returns-then-v-eq0

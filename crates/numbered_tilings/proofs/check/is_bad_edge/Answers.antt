@@ -1,7 +1,6 @@
 -- `numbered_tilings::check::is_bad_edge` meets its contract: the child is compared with the parent and with the nodes.
 -- Assumes nothing.
 use Rattle.numbered_tilings.proofs.CheckLaws.{falling_edge, rising_edge}
-use borrow.Author.Rules.{rules}
 use Rattle.numbered_tilings.proofs.check.is_bad_edge.Goals as goal
 
 pub returns-then-child-parent_at : goal.returns-then-child-parent_at

@@ -2,7 +2,6 @@
 -- Assumes nothing.
 use mathlib.Core.Path.{sym, ◌∙◌}
 use Rattle.numbered_tilings.proofs.CheckLaws.{edges_lent_lem, no_nodes_lem, nodes_pass_lem, edges_pass_lem, full_past_lem, edge_bad, counts_told}
-use borrow.Author.Rules.{rules}
 use Rattle.numbered_tilings.proofs.check.is_bad_graph.Goals as goal
 
 pub returns-then-n-eq0 : goal.returns-then-n-eq0

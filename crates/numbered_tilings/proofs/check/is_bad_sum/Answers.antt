@@ -1,10 +1,8 @@
 -- `numbered_tilings::check::is_bad_sum` meets its contract: what the edges add is summed one by one, and a sum that is too large is no count's.
 -- Assumes nothing.
-use mathlib.Core.Path.{◌≡◌, ◌∙◌}
-use Prim.Native.Nat.{◌-◌, ◌≤◌}
-use Rattle.path_count.specs.PathCounts.{count_value}
+use mathlib.Core.Path.{◌∙◌}
 use Rattle.path_count.specs.PathCountLaws.{count_in_small, sum_is, sum_large}
-use Rattle.numbered_tilings.proofs.CheckLaws.{sum_to, sum_none, sum_added, sum_passes, sum_told}
+use Rattle.numbered_tilings.proofs.CheckLaws.{sum_none, sum_added, sum_passes, sum_told}
 use borrow.Author.Rules.{rules}
 use native.Mathlib.Omega.{arith}
 use Rattle.numbered_tilings.proofs.check.is_bad_sum.Goals as goal

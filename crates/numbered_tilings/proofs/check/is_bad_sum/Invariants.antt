@@ -1,10 +1,7 @@
-use mathlib.Core.Path.{◌≡◌, ◌∙◌}
+use mathlib.Core.Path.{◌≡◌}
 use Prim.Native.Nat.{◌-◌, ◌≤◌}
 use Rattle.path_count.specs.PathCounts.{count_value}
-use Rattle.path_count.specs.PathCountLaws.{count_in_small, sum_is, sum_large}
-use Rattle.numbered_tilings.proofs.CheckLaws.{sum_to, sum_none, sum_added, sum_passes, sum_told}
-use borrow.Author.Rules.{rules}
-use native.Mathlib.Omega.{arith}
+use Rattle.numbered_tilings.proofs.CheckLaws.{sum_to}
 use Rattle.numbered_tilings.proofs.check.is_bad_sum.Given as goal
 
 abbrev pub invariant-loop-i : goal.invariant-loop-i

@@ -1,7 +1,6 @@
 -- `numbered_tilings::check::is_past` meets its contract: a full node is compared, and none is not past.
 -- Assumes nothing.
 use Rattle.numbered_tilings.specs.Tilings.{is_past}
-use borrow.Author.Rules.{rules}
 use Rattle.numbered_tilings.proofs.check.is_past.Goals as goal
 
 pub returns-in_default : goal.returns-in_default

@@ -3,7 +3,6 @@
 use mathlib.Core.Path.{refl, ◌∙◌}
 use Rattle.path_count.specs.PathCounts.{count_in}
 use Rattle.numbered_tilings.proofs.CheckLaws.{share_here, share_elsewhere}
-use borrow.Author.Rules.{rules}
 use Rattle.numbered_tilings.proofs.check.share_at.Goals as goal
 
 pub returns-then-child_at-v : goal.returns-then-child_at-v

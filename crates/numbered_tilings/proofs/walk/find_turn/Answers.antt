@@ -1,12 +1,7 @@
 -- `numbered_tilings::walk::find_turn` meets its contract: the turn is that among the edges from i on, with what is left of m, until an edge's share holds it.
 -- Assumes nothing.
-use mathlib.Core.Path.{◌≡◌, sym, ◌∙◌}
-use Prim.Native.Nat.{◌-◌, ◌≤◌}
-use Rattle.cells.specs.Lists.{list_of}
-use Rattle.covers.specs.Counts.{parents_of, turn}
-use Rattle.graph.specs.Graph.{edge_at}
-use Rattle.path_count.specs.PathCounts.{count_value, count_in}
-use Rattle.numbered_tilings.proofs.WalkLoops.{turn_from, turn_start, turn_none, turn_passed, turn_held}
+use mathlib.Core.Path.{sym, ◌∙◌}
+use Rattle.numbered_tilings.proofs.WalkLoops.{turn_start, turn_none, turn_passed, turn_held}
 use borrow.Author.Tests.{ltb-true, ltb-false}
 use borrow.Author.Rules.{rules}
 use Rattle.numbered_tilings.proofs.walk.find_turn.Goals as goal

@@ -1,12 +1,10 @@
-use mathlib.Core.Path.{◌≡◌, sym, ◌∙◌}
+use mathlib.Core.Path.{◌≡◌}
 use Prim.Native.Nat.{◌-◌, ◌≤◌}
 use Rattle.cells.specs.Lists.{list_of}
 use Rattle.covers.specs.Counts.{parents_of, turn}
 use Rattle.graph.specs.Graph.{edge_at}
 use Rattle.path_count.specs.PathCounts.{count_value, count_in}
-use Rattle.numbered_tilings.proofs.WalkLoops.{turn_from, turn_start, turn_none, turn_passed, turn_held}
-use borrow.Author.Tests.{ltb-true, ltb-false}
-use borrow.Author.Rules.{rules}
+use Rattle.numbered_tilings.proofs.WalkLoops.{turn_from}
 use Rattle.numbered_tilings.proofs.walk.find_turn.Given as goal
 
 abbrev pub invariant-loop-i : goal.invariant-loop-i

@@ -3,9 +3,8 @@
 use Rattle.cells.specs.Lists.{list_of}
 use Rattle.graph.specs.Graph.{edge_at}
 use Rattle.path_count.specs.PathCounts.{count_value, count_in}
-use Rattle.numbered_tilings.proofs.WalkLoops.{Back, Measured, steps_back, measured_start, measured_next, measured_end}
+use Rattle.numbered_tilings.proofs.WalkLoops.{Back, steps_back, measured_start, measured_next, measured_end}
 use native.Mathlib.Omega.{arith}
-use borrow.Author.Rules.{rules}
 use Rattle.numbered_tilings.proofs.walk.list_length.Goals as goal
 
 pub loop-v-init : goal.loop-v-init

@@ -1,9 +1,7 @@
 use Rattle.cells.specs.Lists.{list_of}
 use Rattle.graph.specs.Graph.{edge_at}
 use Rattle.path_count.specs.PathCounts.{count_value, count_in}
-use Rattle.numbered_tilings.proofs.WalkLoops.{Back, Measured, steps_back, measured_start, measured_next, measured_end}
-use native.Mathlib.Omega.{arith}
-use borrow.Author.Rules.{rules}
+use Rattle.numbered_tilings.proofs.WalkLoops.{Measured}
 use Rattle.numbered_tilings.proofs.walk.list_length.Given as goal
 
 abbrev pub invariant-loop-v : goal.invariant-loop-v

@@ -5,7 +5,7 @@ use lib.ListN.{length, length-set}
 use Rattle.cells.specs.Lists.{list_of}
 use Rattle.graph.specs.Graph.{edge_at}
 use Rattle.path_count.specs.PathCounts.{count_value, count_in}
-use Rattle.numbered_tilings.proofs.WalkLoops.{Back, Backfilled, tiling_some, steps_back, place_lent, place_later, backfilled_start, backfilled_next, backfilled_end}
+use Rattle.numbered_tilings.proofs.WalkLoops.{Back, tiling_some, steps_back, place_lent, place_later, backfilled_start, backfilled_next, backfilled_end}
 use native.Mathlib.Omega.{arith}
 use borrow.Author.Rules.{rules}
 use Rattle.numbered_tilings.proofs.walk.write_list.Goals as goal

@@ -1,11 +1,7 @@
-use Prim.Native.Nat.{◌<◌}
-use lib.ListN.{length, length-set}
 use Rattle.cells.specs.Lists.{list_of}
 use Rattle.graph.specs.Graph.{edge_at}
 use Rattle.path_count.specs.PathCounts.{count_value, count_in}
-use Rattle.numbered_tilings.proofs.WalkLoops.{Back, Backfilled, tiling_some, steps_back, place_lent, place_later, backfilled_start, backfilled_next, backfilled_end}
-use native.Mathlib.Omega.{arith}
-use borrow.Author.Rules.{rules}
+use Rattle.numbered_tilings.proofs.WalkLoops.{Backfilled}
 use Rattle.numbered_tilings.proofs.walk.write_list.Given as goal
 
 abbrev pub invariant-loop-v : goal.invariant-loop-v

@@ -1,6 +1,5 @@
 -- `plot_file::bodies::board_for` meets its contract: the function for the mark does.
 -- Assumes nothing.
-use borrow.Author.Rules.{rules}
 use Rattle.plot_file.proofs.bodies.board_for.Goals as goal
 
 pub returns-in-LB : goal.returns-in-LB

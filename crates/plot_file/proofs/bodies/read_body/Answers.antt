@@ -3,7 +3,6 @@
 use native.Mathlib.Omega.{arith}
 use Rattle.plot_file.proofs.ReadLaws.{read_body_none, read_body_long, read_body_cut, read_body_at}
 use Rattle.plot_file.proofs.StepLaws.{body_refused, body_made}
-use borrow.Author.Rules.{rules}
 use Rattle.plot_file.proofs.bodies.read_body.Goals as goal
 
 pub returns-then-file-at : goal.returns-then-file-at

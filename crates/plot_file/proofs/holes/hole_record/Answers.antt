@@ -6,7 +6,6 @@ use Rattle.plot_file.specs.Inner.{plot_of}
 use Rattle.plot_file.proofs.ReadLaws.{hole_body_misplaced, hole_body_cut}
 use Rattle.plot_file.proofs.StepLaws.{reads_refused, reads_hole}
 use Rattle.plot_file.proofs.TilesLaws.{count_is, no_paths}
-use borrow.Author.Rules.{rules}
 use Rattle.plot_file.proofs.holes.hole_record.Goals as goal
 
 pub returns-then-tiles-gt0 : goal.returns-then-tiles-gt0

@@ -9,7 +9,6 @@ use Rattle.plot_file.specs.declared.marks.Mark.{Mark}
 use Rattle.cells.specs.Lists.{ascii}
 use Rattle.plot_file.specs.PlotFile.{all_marks, letters, spells, mark_among}
 use Rattle.plot_file.proofs.ReadLaws.{mark_here, mark_later, mark_none}
-use borrow.Author.Rules.{rules}
 use Rattle.plot_file.proofs.marks.mark_of.Goals as goal
 use Rattle.plot_file.proofs.marks.mark_of.Goals.{Else-same_pair, Else-same_pair-2, Else-same_pair-3, Else-same_pair-4, Else-same_pair-5, Else-same_pair-6, Else-same_pair-7}
 

@@ -2,7 +2,6 @@
 -- Assumes nothing.
 use Rattle.refusal.specs.Refusal.{map_answer}
 use Rattle.plot_file.proofs.ReadLaws.{read_mark_cut, read_mark_at}
-use borrow.Author.Rules.{rules}
 use Rattle.plot_file.proofs.marks.read_mark.Goals as goal
 
 pub returns-then-file-at-lt2 : goal.returns-then-file-at-lt2

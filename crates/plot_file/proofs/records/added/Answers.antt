@@ -3,7 +3,6 @@
 use mathlib.Core.Path.{refl}
 use native.Mathlib.Omega.{arith}
 use Rattle.plot_file.proofs.StepLaws.{steps_many, steps_added}
-use borrow.Author.Rules.{rules}
 use Rattle.plot_file.proofs.records.added.Goals as goal
 
 pub returns-then-before-tiles : goal.returns-then-before-tiles

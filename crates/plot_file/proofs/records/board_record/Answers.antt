@@ -8,7 +8,6 @@ use Rattle.refusal.specs.Refusal.{map_answer}
 use Rattle.plot_file.specs.Inner.{is_board, start_at}
 use Rattle.plot_file.proofs.ReadLaws.{board_body_other, board_body_cut}
 use Rattle.plot_file.proofs.StepLaws.{reads_refused, reads_board}
-use borrow.Author.Rules.{rules}
 use Rattle.plot_file.proofs.records.board_record.Goals as goal
 
 pub returns-then-file-at-lt2 : goal.returns-then-file-at-lt2

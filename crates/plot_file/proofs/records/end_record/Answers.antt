@@ -3,7 +3,6 @@
 use mathlib.Core.Path.{refl}
 use Rattle.plot_file.proofs.ReadLaws.{end_body_end, end_body_more}
 use Rattle.plot_file.proofs.StepLaws.{reads_refused, reads_end}
-use borrow.Author.Rules.{rules}
 use Rattle.plot_file.proofs.records.end_record.Goals as goal
 
 pub returns-then-file-at : goal.returns-then-file-at

@@ -3,7 +3,6 @@
 use native.Mathlib.Omega.{arith}
 use Rattle.plot_file.proofs.ReadLaws.{first_record_marked, first_record_refused}
 use Rattle.plot_file.proofs.StepLaws.{marked_is, marked_refused, marked_behind, reads_refused, reads_from}
-use borrow.Author.Rules.{rules}
 use Rattle.plot_file.proofs.records.first_record.Goals as goal
 
 pub board_record-requires : goal.board_record-requires

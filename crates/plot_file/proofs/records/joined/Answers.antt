@@ -1,9 +1,7 @@
 -- `plot_file::records::joined` meets its contract: the others are put behind one by one (`joined_step`).
 -- Assumes nothing.
-use Prim.Native.Nat.{◌≤◌, ◌-◌}
 use native.Mathlib.Omega.{arith}
-use Rattle.plot_file.proofs.TilesLaws.{Joined, joined_start, joined_count, joined_end, next_clean, joined_step}
-use borrow.Author.Rules.{rules}
+use Rattle.plot_file.proofs.TilesLaws.{joined_start, joined_count, joined_end, next_clean, joined_step}
 use Rattle.plot_file.proofs.records.joined.Goals as goal
 
 pub loop-i-init : goal.loop-i-init

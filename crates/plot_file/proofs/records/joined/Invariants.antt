@@ -1,7 +1,5 @@
 use Prim.Native.Nat.{◌≤◌, ◌-◌}
-use native.Mathlib.Omega.{arith}
-use Rattle.plot_file.proofs.TilesLaws.{Joined, joined_start, joined_count, joined_end, next_clean, joined_step}
-use borrow.Author.Rules.{rules}
+use Rattle.plot_file.proofs.TilesLaws.{Joined}
 use Rattle.plot_file.proofs.records.joined.Given as goal
 
 abbrev pub invariant-loop-i : goal.invariant-loop-i

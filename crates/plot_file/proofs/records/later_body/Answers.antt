@@ -5,7 +5,6 @@ use native.Mathlib.Omega.{arith}
 use Rattle.plot_file.specs.Inner.{is_board}
 use Rattle.plot_file.proofs.ReadLaws.{later_body_board, later_body_hole, later_body_tile, later_body_orbit, later_body_end}
 use Rattle.plot_file.proofs.StepLaws.{reads_refused, reads_from}
-use borrow.Author.Rules.{rules}
 use Rattle.plot_file.proofs.records.later_body.Goals as goal
 
 pub returns-in-RB : goal.returns-in-RB

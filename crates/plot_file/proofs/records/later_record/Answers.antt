@@ -3,7 +3,6 @@
 use native.Mathlib.Omega.{arith}
 use Rattle.plot_file.proofs.ReadLaws.{later_record_marked, later_record_refused}
 use Rattle.plot_file.proofs.StepLaws.{marked_is, marked_refused, marked_behind, reads_refused, reads_from}
-use borrow.Author.Rules.{rules}
 use Rattle.plot_file.proofs.records.later_record.Goals as goal
 
 pub later_body-requires : goal.later_body-requires

@@ -1,7 +1,6 @@
 -- `plot_file::records::no_plot` meets its contract: the board of 0 by 0 has no marks.
 -- Assumes nothing.
 use Rattle.plot_file.proofs.StepLaws.{plot_none}
-use borrow.Author.Rules.{rules}
 use Rattle.plot_file.proofs.records.no_plot.Goals as goal
 
 pub returns : goal.returns

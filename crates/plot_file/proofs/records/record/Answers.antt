@@ -3,7 +3,6 @@
 use native.Mathlib.Omega.{arith}
 use Rattle.plot_file.proofs.ReadLaws.{record_at_first, record_at_later}
 use Rattle.plot_file.proofs.StepLaws.{reads_from}
-use borrow.Author.Rules.{rules}
 use Rattle.plot_file.proofs.records.record.Goals as goal
 
 pub returns-then-at-eq0 : goal.returns-then-at-eq0

@@ -2,7 +2,6 @@
 -- Assumes nothing.
 use mathlib.Core.Path.{refl}
 use Rattle.plot_file.proofs.TilesLaws.{none_clean}
-use borrow.Author.Rules.{rules}
 use Rattle.plot_file.proofs.records.refuse.Goals as goal
 
 pub returns : goal.returns

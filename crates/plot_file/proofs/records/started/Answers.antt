@@ -2,7 +2,6 @@
 -- Assumes nothing.
 use mathlib.Core.Path.{refl}
 use Rattle.plot_file.proofs.StepLaws.{steps_board, steps_no_board}
-use borrow.Author.Rules.{rules}
 use Rattle.plot_file.proofs.records.started.Goals as goal
 
 pub returns-in-Accepted : goal.returns-in-Accepted

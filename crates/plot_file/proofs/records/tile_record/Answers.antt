@@ -4,7 +4,6 @@ use Rattle.tile.specs.Path.{path_in}
 use Rattle.plot_file.proofs.ReadLaws.{tile_body_refused}
 use Rattle.plot_file.proofs.StepLaws.{body_path, body_not, reads_refused, reads_tiles}
 use Rattle.plot_file.proofs.TilesLaws.{for_clean}
-use borrow.Author.Rules.{rules}
 use Rattle.plot_file.proofs.records.tile_record.Goals as goal
 
 pub tiles_for-requires : goal.tiles_for-requires

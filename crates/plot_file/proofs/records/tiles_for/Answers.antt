@@ -1,7 +1,6 @@
 -- `plot_file::records::tiles_for` meets its contract: the orbit (`tile_orbit`), or the tile alone (`tile_alone`).
 -- Assumes nothing.
 use Rattle.plot_file.proofs.TilesLaws.{tile_orbit, tile_alone}
-use borrow.Author.Rules.{rules}
 use Rattle.plot_file.proofs.records.tiles_for.Goals as goal
 
 pub returns-then-whole : goal.returns-then-whole

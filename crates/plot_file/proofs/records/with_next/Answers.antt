@@ -1,7 +1,6 @@
 -- `plot_file::records::with_next` meets its contract: there is room (`adds_one`).
 -- Assumes nothing.
 use Rattle.plot_file.proofs.TilesLaws.{adds_one}
-use borrow.Author.Rules.{rules}
 use Rattle.plot_file.proofs.records.with_next.Goals as goal
 
 pub returns : goal.returns

@@ -1,6 +1,5 @@
 use Prim.Native.Nat.{◌≤◌}
 use lib.ListN.{length}
-use borrow.Author.Rules.{rules}
 use Rattle.replay_text.proofs.text.field.Given as goal
 
 abbrev pub invariant-loop-left : goal.invariant-loop-left

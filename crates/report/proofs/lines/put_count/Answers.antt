@@ -5,7 +5,6 @@ use Rattle.layers.specs.declared.Count.{Count}
 use Rattle.layers.specs.LayerCounts.{count_answer}
 use Rattle.report.specs.Report.{feed, count_line}
 use Rattle.report.specs.TextLaws.{puts_as, puts_inside, puts_append}
-use borrow.Author.Rules.{rules}
 use Rattle.report.proofs.lines.put_count.Goals as goal
 
 pub put_bytes-requires : goal.put_bytes-requires

@@ -1,7 +1,6 @@
 -- `report::lines::put_cuttings` meets its contract: the line of a count with these words. Assumes nothing.
 use Rattle.cells.specs.Lists.{ascii}
 use Rattle.report.specs.Report.{cuttings_line}
-use borrow.Author.Rules.{rules}
 use Rattle.report.proofs.lines.put_cuttings.Goals as goal
 
 pub returns : goal.returns

@@ -1,7 +1,6 @@
 -- `report::lines::put_layers` meets its contract: the line of a count with these words. Assumes nothing.
 use Rattle.cells.specs.Lists.{ascii}
 use Rattle.report.specs.Report.{layers_line}
-use borrow.Author.Rules.{rules}
 use Rattle.report.proofs.lines.put_layers.Goals as goal
 
 pub returns : goal.returns

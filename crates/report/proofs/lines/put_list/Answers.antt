@@ -2,7 +2,6 @@
 use Rattle.cells.specs.Lists.{ascii}
 use Rattle.report.specs.Report.{field, feed}
 use Rattle.report.specs.TextLaws.{puts_inside, puts_append}
-use borrow.Author.Rules.{rules}
 use Rattle.report.proofs.lines.put_list.Goals as goal
 
 pub put_bytes-third-requires : goal.put_bytes-third-requires

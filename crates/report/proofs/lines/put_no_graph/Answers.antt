@@ -1,7 +1,6 @@
 -- `report::lines::put_no_graph` meets its contract: the words, and the refusal's number. Assumes nothing.
 use Rattle.cells.specs.Lists.{ascii}
 use Rattle.report.specs.Report.{field}
-use borrow.Author.Rules.{rules}
 use Rattle.report.proofs.lines.put_no_graph.Goals as goal
 
 pub returns : goal.returns

@@ -1,14 +1,8 @@
-use mathlib.Core.Path.{ap}
 use mathlib.Core.List.{flat_map}
 use Prim.Native.Nat.{◌-◌, ◌≤◌}
 use lib.ListN.{length, take}
-use lib.Seq.{take_all}
-use Rattle.cells.specs.Lists.{ascii}
 use Rattle.report.specs.Report.{field}
 use Rattle.report.specs.Inner.{Puts}
-use Rattle.report.specs.TextLaws.{puts_none, puts_length, puts_inside, puts_part, puts_as}
-use borrow.Author.Rules.{rules}
-use native.Mathlib.Omega.{arith}
 use Rattle.report.proofs.lines.put_nodes.Given as goal
 
 abbrev pub invariant-loop-i : goal.invariant-loop-i

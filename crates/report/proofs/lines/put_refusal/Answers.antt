@@ -4,7 +4,6 @@ use mathlib.Core.List.{◌++◌}
 use Prim.Native.Nat.{ℕ}
 use Rattle.report.specs.Report.{decimal, feed}
 use Rattle.report.specs.TextLaws.{puts_as}
-use borrow.Author.Rules.{rules}
 use Rattle.report.proofs.lines.put_refusal.Goals as goal
 
 pub returns : goal.returns

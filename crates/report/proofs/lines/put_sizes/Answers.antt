@@ -2,7 +2,6 @@
 use Rattle.cells.specs.Lists.{ascii}
 use Rattle.report.specs.Report.{field}
 use Rattle.report.specs.TextLaws.{puts_inside, puts_append, puts_join}
-use borrow.Author.Rules.{rules}
 use Rattle.report.proofs.lines.put_sizes.Goals as goal
 
 pub put_field-third-requires : goal.put_field-third-requires

@@ -1,10 +1,6 @@
 -- `report::text::clear_from` meets its contract: the bytes are set to zero in order.
 -- Assumes nothing.
-use mathlib.Core.Bool.{cond}
-use Prim.Native.Nat.{◌-◌, ◌≤◌}
-use lib.Dec.{ltb}
-use lib.ListN.{length, get_or}
-use Rattle.cells.specs.ArrayLaws.{Filled, filled_step}
+use Rattle.cells.specs.ArrayLaws.{filled_step}
 use Rattle.cells.proofs.ListLoops.{cleared_start, cleared_zero, cleared_end}
 use borrow.Author.Rules.{rules}
 use native.Mathlib.Omega.{arith}

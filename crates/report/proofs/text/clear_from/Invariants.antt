@@ -2,10 +2,7 @@ use mathlib.Core.Bool.{cond}
 use Prim.Native.Nat.{◌-◌, ◌≤◌}
 use lib.Dec.{ltb}
 use lib.ListN.{length, get_or}
-use Rattle.cells.specs.ArrayLaws.{Filled, filled_step}
-use Rattle.cells.proofs.ListLoops.{cleared_start, cleared_zero, cleared_end}
-use borrow.Author.Rules.{rules}
-use native.Mathlib.Omega.{arith}
+use Rattle.cells.specs.ArrayLaws.{Filled}
 use Rattle.report.proofs.text.clear_from.Given as goal
 
 abbrev pub invariant-loop-i : goal.invariant-loop-i

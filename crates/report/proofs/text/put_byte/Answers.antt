@@ -1,6 +1,5 @@
 -- `report::text::put_byte` meets its contract: the byte is stored where there is room, else dropped. Assumes nothing.
 use Rattle.report.specs.TextLaws.{puts_stored, puts_dropped}
-use borrow.Author.Rules.{rules}
 use Rattle.report.proofs.text.put_byte.Goals as goal
 
 pub returns-then-at-out : goal.returns-then-at-out

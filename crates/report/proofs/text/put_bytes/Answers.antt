@@ -1,8 +1,5 @@
 -- `report::text::put_bytes` meets its contract. The loop's invariant: the bytes passed are put. Assumes nothing.
-use Prim.Native.Nat.{◌-◌, ◌≤◌}
-use lib.ListN.{length, take}
 use lib.Seq.{take_all}
-use Rattle.report.specs.Inner.{Puts}
 use Rattle.report.specs.TextLaws.{puts_none, puts_length, puts_inside, puts_byte, puts_as}
 use borrow.Author.Rules.{rules}
 use native.Mathlib.Omega.{arith}

@@ -1,6 +1,5 @@
 -- `report::text::put_field` meets its contract: the words, then the digits. Assumes nothing.
 use Rattle.report.specs.TextLaws.{puts_inside, puts_append}
-use borrow.Author.Rules.{rules}
 use Rattle.report.proofs.text.put_field.Goals as goal
 
 pub put_decimal-requires : goal.put_decimal-requires

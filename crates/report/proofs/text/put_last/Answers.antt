@@ -2,7 +2,6 @@
 use Rattle.cells.specs.Lists.{ascii}
 use Rattle.report.specs.Report.{feed}
 use Rattle.report.specs.TextLaws.{puts_inside, puts_append}
-use borrow.Author.Rules.{rules}
 use Rattle.report.proofs.text.put_last.Goals as goal
 
 pub put_byte-requires : goal.put_byte-requires

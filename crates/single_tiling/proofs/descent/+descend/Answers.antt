@@ -1,6 +1,6 @@
 -- `single_tiling::descent::descend` meets its contract, by the number of free cells: a full board ends the walk; else the pieces on its chosen cell are laid
 -- one after the other, and the walk goes on from each child until one of them reaches a full board. Assumes nothing.
-use Rattle.std.proofs.Common.{◌<◌, ◌≤◌, ◌+◌, ◌∙◌, refl, sym, arith}
+use Rattle.std.proofs.Common.{◌∙◌, refl, sym, arith}
 use Rattle.board.proofs.SoundLaws.{board_sound}
 use Rattle.single_tiling.proofs.WalkSteps.{front_board, same_next, fewer_is, room_below, front_same, walked_same, found_none, child_ready, child_none, none_more, says_full, says_nowhere, says_none, says_some}
 use Rattle.single_tiling.proofs.descent.+descend.Goals as goal

@@ -1,6 +1,5 @@
 -- `single_tiling::descent::choose_place` meets its contract: the test of the chosen cell's count is that of any free cell.
 -- Assumes nothing.
-use borrow.Author.Rules.{rules}
 use Rattle.single_tiling.proofs.PlaceLaws.{chosen_refused, place_full, place_single, place_four, place_other}
 use Rattle.single_tiling.proofs.descent.choose_place.Goals as goal
 

@@ -1,7 +1,6 @@
 -- `single_tiling::descent::fit_at` meets its contract: the part of the codes is the path of the index's tile.
 -- Assumes nothing.
 use native.Mathlib.Omega.{arith}
-use borrow.Author.Rules.{rules}
 use Rattle.single_tiling.proofs.PlaceLaws.{index_short, index_fit}
 use Rattle.single_tiling.proofs.descent.fit_at.Goals as goal
 

@@ -1,6 +1,5 @@
 -- `single_tiling::descent::is_full` meets its contract: an accepted board is not refused.
 -- Assumes nothing.
-use borrow.Author.Rules.{rules}
 use Rattle.single_tiling.proofs.PlaceLaws.{full_is, full_refused}
 use Rattle.single_tiling.proofs.descent.is_full.Goals as goal
 

@@ -2,7 +2,6 @@
 -- Assumes nothing.
 use mathlib.Core.Path.{sym, ◌∙◌}
 use mathlib.Core.Bool.{false≢true}
-use borrow.Author.Rules.{rules}
 use Rattle.single_tiling.proofs.PlaceLaws.{piece_is}
 use Rattle.single_tiling.proofs.descent.is_piece.Goals as goal
 

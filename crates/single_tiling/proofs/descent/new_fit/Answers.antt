@@ -2,7 +2,6 @@
 -- Assumes nothing.
 use mathlib.Core.Path.{refl, sym, ap, ◌∙◌}
 use mathlib.Core.Logic.{inl, inr}
-use borrow.Author.Rules.{rules}
 use Rattle.fit.specs.Parts.{fit_pieces}
 use Rattle.single_tiling.proofs.PlaceLaws.{same_piece_lem}
 use Rattle.single_tiling.proofs.descent.new_fit.Goals as goal

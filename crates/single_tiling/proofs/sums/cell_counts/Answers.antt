@@ -1,13 +1,9 @@
 -- `single_tiling::sums::cell_counts` meets its contract: the array is filled in order.
 -- Assumes nothing.
-use mathlib.Core.Path.{◌≡◌}
-use mathlib.Core.List.{[]}
-use Prim.Native.Nat.{ℕ, ◌-◌, ◌≤◌, ◌<◌}
+use Prim.Native.Nat.{◌<◌}
 use native.Mathlib.Omega.{arith}
 use borrow.Author.Rules.{rules}
-use lib.ListN.{length, get_or}
-use Rattle.tile.specs.Path.{cell_count}
-use Rattle.tiles.specs.Paths.{paths_in}
+use lib.ListN.{length}
 use Rattle.single_tiling.proofs.SumSteps.{fill_more}
 use Rattle.single_tiling.proofs.sums.cell_counts.Goals as goal
 

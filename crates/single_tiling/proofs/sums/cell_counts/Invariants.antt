@@ -1,12 +1,9 @@
 use mathlib.Core.Path.{◌≡◌}
 use mathlib.Core.List.{[]}
 use Prim.Native.Nat.{ℕ, ◌-◌, ◌≤◌, ◌<◌}
-use native.Mathlib.Omega.{arith}
-use borrow.Author.Rules.{rules}
 use lib.ListN.{length, get_or}
 use Rattle.tile.specs.Path.{cell_count}
 use Rattle.tiles.specs.Paths.{paths_in}
-use Rattle.single_tiling.proofs.SumSteps.{fill_more}
 use Rattle.single_tiling.proofs.sums.cell_counts.Given as goal
 
 abbrev pub invariant-loop-i : goal.invariant-loop-i

@@ -1,6 +1,5 @@
 -- `single_tiling::sums::cells_of` meets its contract: a tile of some accepted tiles is not refused.
 -- Assumes nothing.
-use borrow.Author.Rules.{rules}
 use Rattle.single_tiling.proofs.SumSteps.{count_is, count_refused}
 use Rattle.single_tiling.proofs.sums.cells_of.Goals as goal
 

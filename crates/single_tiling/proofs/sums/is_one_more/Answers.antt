@@ -1,12 +1,9 @@
 -- `single_tiling::sums::is_one_more` meets its contract: the sizes are tested in order.
 -- Assumes nothing.
-use mathlib.Core.Path.{◌≡◌, sym}
-use mathlib.Core.Bool.{false, ◌&&◌}
-use Prim.Native.Nat.{ℕ, ◌-◌, ◌≤◌, ◌<◌}
+use mathlib.Core.Path.{sym}
 use native.Mathlib.Omega.{arith}
 use borrow.Author.Rules.{rules}
 use borrow.Author.Count.{below_none, below_more}
-use lib.Dec.{eqb, leb}
 use lib.ListN.{get_or}
 use Rattle.cells.specs.ArrayLaws.{any_list_of, none_list_of}
 use Rattle.single_tiling.proofs.SumSteps.{one_more, not_marked, too_large_lem}

@@ -1,9 +1,8 @@
 -- `single_tiling::sums::is_sum` meets its contract: every sum is marked, from 0 up.
 -- Assumes nothing.
 use mathlib.Core.Path.{◌≡◌, refl, sym, ◌∙◌}
-use Prim.Native.Nat.{◌+◌, ◌-◌, ◌≤◌, ◌<◌}
+use Prim.Native.Nat.{◌+◌, ◌<◌}
 use native.Mathlib.Omega.{arith}
-use borrow.Author.Rules.{rules}
 use lib.ListN.{length, get_or, set, replicate}
 use Rattle.cells.specs.Lists.{list_of}
 use Rattle.single_tiling.specs.SumLaws.{Marked, marked_start}

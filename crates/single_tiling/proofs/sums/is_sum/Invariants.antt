@@ -1,12 +1,8 @@
-use mathlib.Core.Path.{◌≡◌, refl, sym, ◌∙◌}
-use mathlib.Core.Logic.{⊎_elim}
+use mathlib.Core.Path.{◌≡◌}
 use Prim.Native.Nat.{◌+◌, ◌-◌, ◌≤◌, ◌<◌}
-use native.Mathlib.Omega.{arith}
-use borrow.Author.Rules.{rules}
-use lib.ListN.{length, get_or, set, replicate}
+use lib.ListN.{length, get_or}
 use Rattle.cells.specs.Lists.{list_of}
-use Rattle.single_tiling.specs.SumLaws.{Marked, marked_start}
-use Rattle.single_tiling.proofs.SumSteps.{table_set, table_skip, listed_positive, sum_found}
+use Rattle.single_tiling.specs.SumLaws.{Marked}
 use Rattle.single_tiling.proofs.sums.is_sum.Given as goal
 
 abbrev pub invariant-loop-m : goal.invariant-loop-m

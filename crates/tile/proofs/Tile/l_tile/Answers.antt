@@ -4,7 +4,6 @@ use mathlib.Core.Path.{◌∙◌}
 use Rattle.tile.proofs.CodeLaws.{stores}
 use Rattle.tile.proofs.MadeLaws.{makes_refused, makes_given, l_tile_zero, l_tile_long, l_tile_given, length_l_path, codes_l_path}
 use native.Mathlib.Omega.{arith}
-use borrow.Author.Rules.{rules}
 use Rattle.tile.proofs.Tile.l_tile.Goals as goal
 
 pub returns-then-length-eq0 : goal.returns-then-length-eq0

@@ -3,7 +3,6 @@
 use mathlib.Core.Path.{sym, ◌∙◌}
 use Rattle.tile.specs.StoredLaws.{is_path_is, read_path_path, read_path_other}
 use Rattle.tile.proofs.MadeLaws.{makes_refused, makes_given}
-use borrow.Author.Rules.{rules}
 use Rattle.tile.proofs.Tile.new.Goals as goal
 
 pub stored-requires : goal.stored-requires

@@ -1,11 +1,10 @@
 -- `tile::Tile::rotate` meets its contract: a tile that is accepted is moved.
 -- Assumes nothing.
 use mathlib.Core.Path.{ap}
-use Rattle.refusal.specs.Refusal.{refused, map_answer}
+use Rattle.refusal.specs.Refusal.{map_answer}
 use Rattle.tile.specs.Path.{rotated}
 use Rattle.tile.specs.StoredLaws.{check_accepted, check_refused, read_tile_given}
 use Rattle.tile.proofs.MadeLaws.{makes_refused, makes_given}
-use borrow.Author.Rules.{rules}
 use Rattle.tile.proofs.Tile.rotate.Goals as goal
 
 pub returns-in_default : goal.returns-in_default

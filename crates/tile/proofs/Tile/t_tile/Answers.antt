@@ -9,7 +9,6 @@ use Rattle.tile.specs.Inner.{run}
 use Rattle.tile.proofs.CodeLaws.{stores}
 use Rattle.tile.proofs.MadeLaws.{makes_refused, makes_given, t_tile_zero, t_tile_long, t_tile_given, length_t_path, codes_t_path}
 use native.Mathlib.Omega.{arith}
-use borrow.Author.Rules.{rules}
 use Rattle.tile.proofs.Tile.t_tile.Goals as goal
 
 pub returns-then-length-eq0 : goal.returns-then-length-eq0

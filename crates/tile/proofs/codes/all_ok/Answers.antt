@@ -1,9 +1,6 @@
 -- `tile::codes::all_ok` meets its contract: the test of the path is the test of what is left of it, and ends at the first code over 7.
 -- Assumes nothing.
-use mathlib.Core.Path.{◌≡◌, refl, sym, ◌∙◌}
-use Prim.Native.Nat.{◌≤◌, ◌-◌}
-use lib.ListN.{length, drop}
-use Rattle.tile.specs.Path.{codes_ok}
+use mathlib.Core.Path.{refl, sym, ◌∙◌}
 use Rattle.tile.proofs.CodeLaws.{codes_ok_good, codes_ok_bad, codes_ok_end}
 use borrow.Author.Rules.{rules}
 use Rattle.tile.proofs.codes.all_ok.Goals as goal

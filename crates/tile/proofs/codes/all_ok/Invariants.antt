@@ -1,9 +1,7 @@
-use mathlib.Core.Path.{◌≡◌, refl, sym, ◌∙◌}
+use mathlib.Core.Path.{◌≡◌}
 use Prim.Native.Nat.{◌≤◌, ◌-◌}
 use lib.ListN.{length, drop}
 use Rattle.tile.specs.Path.{codes_ok}
-use Rattle.tile.proofs.CodeLaws.{codes_ok_good, codes_ok_bad, codes_ok_end}
-use borrow.Author.Rules.{rules}
 use Rattle.tile.proofs.codes.all_ok.Given as goal
 
 abbrev pub invariant-loop-i : goal.invariant-loop-i

@@ -3,7 +3,6 @@
 use mathlib.Core.Path.{◌∙◌}
 use Rattle.direction.specs.DirectionLaws.{rotate_past, reflect_past}
 use Rattle.tile.proofs.CodeLaws.{code_of_on_code}
-use borrow.Author.Rules.{rules}
 use Rattle.tile.proofs.codes.image_of.Goals as goal
 
 pub returns-in-Rotate : goal.returns-in-Rotate

@@ -1,11 +1,9 @@
 -- `tile::codes::moved` meets its contract: the codes are filled in order (`Filled`) with the images of the path's codes.
 -- Assumes nothing.
 use mathlib.Core.Path.{◌≡◌, refl, sym, ◌∙◌}
-use mathlib.Core.List.{map}
-use Prim.Native.Nat.{◌≤◌, ◌-◌}
-use lib.ListN.{length, get_or, take, get_or-replicate}
-use Rattle.cells.specs.ArrayLaws.{Filled, filled_start, filled_step, filled_end}
-use Rattle.tile.specs.Inner.{image}
+use Prim.Native.Nat.{◌≤◌}
+use lib.ListN.{length, get_or-replicate}
+use Rattle.cells.specs.ArrayLaws.{filled_start, filled_step, filled_end}
 use Rattle.tile.proofs.CodeLaws.{image_at, image_behind, length_image, stores}
 use native.Mathlib.Omega.{arith}
 use borrow.Author.Rules.{rules}

@@ -1,9 +1,8 @@
 -- `tile::codes::stored` meets its contract: the codes are filled in order (`Filled`) with the path's, and zeros stay behind them.
 -- Assumes nothing.
 use mathlib.Core.Path.{refl}
-use Prim.Native.Nat.{◌≤◌, ◌-◌}
-use lib.ListN.{get_or, get_or-replicate}
-use Rattle.cells.specs.ArrayLaws.{Filled, filled_start, filled_step, filled_end}
+use lib.ListN.{get_or-replicate}
+use Rattle.cells.specs.ArrayLaws.{filled_start, filled_step, filled_end}
 use Rattle.tile.proofs.CodeLaws.{path_behind, stores}
 use native.Mathlib.Omega.{arith}
 use borrow.Author.Rules.{rules}

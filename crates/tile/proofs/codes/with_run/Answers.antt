@@ -1,10 +1,7 @@
 -- `tile::codes::with_run` meets its contract: the codes are filled in order (`Filled`).
 -- Assumes nothing.
 use mathlib.Core.Path.{refl}
-use Prim.Native.Nat.{◌≤◌, ◌-◌}
-use lib.ListN.{get_or}
-use Rattle.cells.specs.ArrayLaws.{Filled, filled_start, filled_step, filled_end}
-use Rattle.tile.specs.Inner.{run}
+use Rattle.cells.specs.ArrayLaws.{filled_start, filled_step, filled_end}
 use Rattle.tile.proofs.CodeLaws.{run_inside, run_before, run_behind}
 use native.Mathlib.Omega.{arith}
 use borrow.Author.Rules.{rules}

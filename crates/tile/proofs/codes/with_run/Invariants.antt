@@ -1,11 +1,7 @@
-use mathlib.Core.Path.{refl}
 use Prim.Native.Nat.{◌≤◌, ◌-◌}
 use lib.ListN.{get_or}
-use Rattle.cells.specs.ArrayLaws.{Filled, filled_start, filled_step, filled_end}
+use Rattle.cells.specs.ArrayLaws.{Filled}
 use Rattle.tile.specs.Inner.{run}
-use Rattle.tile.proofs.CodeLaws.{run_inside, run_before, run_behind}
-use native.Mathlib.Omega.{arith}
-use borrow.Author.Rules.{rules}
 use Rattle.tile.proofs.codes.with_run.Given as goal
 
 abbrev pub invariant-loop-i : goal.invariant-loop-i

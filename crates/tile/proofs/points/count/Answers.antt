@@ -1,13 +1,9 @@
 -- `tile::points::count` meets its contract: the keys of the points, first appearances kept, are as many as the cells (`cell_count_keys`).
 -- Assumes nothing.
-use mathlib.Core.Path.{◌≡◌, refl, sym, ap, ◌∙◌}
-use mathlib.Core.List.{[], ◌∷◌}
-use Prim.Native.Nat.{◌+◌, ◌≤◌, ◌-◌}
-use lib.Dec.{eqb, lit≤}
-use lib.ListN.{length, drop}
+use mathlib.Core.Path.{refl, sym, ap, ◌∙◌}
+use lib.Dec.{lit≤}
+use lib.ListN.{length}
 use lib.Seq.{length-take-le}
-use Rattle.cells.specs.Lists.{add_firsts}
-use Rattle.tile.specs.Inner.{keys_after, keys_in, Near}
 use Rattle.tile.specs.PathLaws.{codes_ok_at}
 use Rattle.tile.proofs.KeyLaws.{near_first, near_step, cell_count_keys, add_firsts_step, add_firsts_end}
 use native.Mathlib.Omega.{arith}

@@ -1,15 +1,10 @@
-use mathlib.Core.Path.{◌≡◌, refl, sym, ap, ◌∙◌}
+use mathlib.Core.Path.{◌≡◌}
 use mathlib.Core.List.{[], ◌∷◌}
 use Prim.Native.Nat.{◌+◌, ◌≤◌, ◌-◌}
-use lib.Dec.{eqb, lit≤}
+use lib.Dec.{eqb}
 use lib.ListN.{length, drop}
-use lib.Seq.{length-take-le}
 use Rattle.cells.specs.Lists.{add_firsts}
 use Rattle.tile.specs.Inner.{keys_after, keys_in, Near}
-use Rattle.tile.specs.PathLaws.{codes_ok_at}
-use Rattle.tile.proofs.KeyLaws.{near_first, near_step, cell_count_keys, add_firsts_step, add_firsts_end}
-use native.Mathlib.Omega.{arith}
-use borrow.Author.Rules.{rules}
 use Rattle.tile.proofs.points.count.Given as goal
 
 abbrev pub invariant-loop-i : goal.invariant-loop-i

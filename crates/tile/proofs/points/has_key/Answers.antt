@@ -1,9 +1,6 @@
 -- `tile::points::has_key` meets its contract: the test of the keys is the test of what is left of them, and ends at the first that is there.
 -- Assumes nothing.
-use mathlib.Core.Path.{◌≡◌, refl, sym, ◌∙◌}
-use Prim.Native.Nat.{◌≤◌, ◌-◌}
-use lib.Dec.{eqb}
-use lib.ListN.{length, drop}
+use mathlib.Core.Path.{refl, sym, ◌∙◌}
 use Rattle.cells.specs.Lists.{holds}
 use Rattle.cells.specs.FirstsLaws.{any_miss, any_hit, any_end}
 use borrow.Author.Tests.{eq-eqb, ne_eqb}

@@ -1,13 +1,6 @@
 -- `tiler::building::add_children` meets its contract: the children are added in order.
 -- Assumes nothing.
-use mathlib.Core.Path.{◌≡◌, refl}
-use mathlib.Core.List.{List}
-use Prim.Native.Nat.{ℕ, ◌-◌, ◌≤◌}
-use lib.Dec.{eqb}
-use lib.ListN.{length}
-use Rattle.cells.specs.Lists.{list_of, set_at}
-use Rattle.covers.specs.Inner.{add_children}
-use Rattle.tiler.specs.Inner.{nodes_in, HoldsGraph}
+use mathlib.Core.Path.{refl}
 use Rattle.tiler.proofs.BuildLaws.{children_none, children_more, children_all}
 use native.Mathlib.Omega.{arith}
 use borrow.Author.Rules.{rules}

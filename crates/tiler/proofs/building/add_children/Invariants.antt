@@ -1,4 +1,4 @@
-use mathlib.Core.Path.{◌≡◌, refl}
+use mathlib.Core.Path.{◌≡◌}
 use mathlib.Core.List.{List}
 use Prim.Native.Nat.{ℕ, ◌-◌, ◌≤◌}
 use lib.Dec.{eqb}
@@ -6,9 +6,6 @@ use lib.ListN.{length}
 use Rattle.cells.specs.Lists.{list_of, set_at}
 use Rattle.covers.specs.Inner.{add_children}
 use Rattle.tiler.specs.Inner.{nodes_in, HoldsGraph}
-use Rattle.tiler.proofs.BuildLaws.{children_none, children_more, children_all}
-use native.Mathlib.Omega.{arith}
-use borrow.Author.Rules.{rules}
 use Rattle.tiler.proofs.building.add_children.Given as goal
 
 abbrev pub invariant-loop-i : goal.invariant-loop-i

@@ -4,7 +4,6 @@ use lib.ListN.{length-set}
 use native.Mathlib.Omega.{arith}
 use Rattle.tiler.proofs.BuildLaws.{edge_past, edge_put}
 use mathlib.Core.Path.{refl}
-use borrow.Author.Rules.{rules}
 use Rattle.tiler.proofs.building.add_edge.Goals as goal
 
 pub returns-then-edge_room-n : goal.returns-then-edge_room-n

@@ -1,14 +1,10 @@
-use mathlib.Core.Path.{◌≡◌, refl}
-use Prim.Native.Nat.{◌-◌, ◌^◌, ◌≤◌, ◌<◌}
+use mathlib.Core.Path.{◌≡◌}
+use Prim.Native.Nat.{◌-◌, ◌≤◌}
 use lib.ListN.{length}
-use Rattle.cells.specs.Set.{number}
-use Rattle.cells.specs.WordLaws.{number_lt}
 use Rattle.covers.specs.Setting.{nodes_of}
 use Rattle.expansion.specs.Boards.{setting_of, start_of}
 use Rattle.tiler.specs.Inner.{nodes_in, HoldsGraph}
-use Rattle.tiler.proofs.BuildLaws.{found_graph, build_start, build_node, build_more, build_below, build_end}
-use native.Mathlib.Omega.{arith}
-use borrow.Author.Rules.{rules}
+use Rattle.tiler.proofs.BuildLaws.{found_graph}
 use Rattle.tiler.proofs.building.build.Given as goal
 
 abbrev pub invariant-loop-i : goal.invariant-loop-i

@@ -4,7 +4,6 @@
 use Rattle.tiler.proofs.PassingLaws.{first_counts, first_asks, first_passes}
 use lib.Dec.{lit<}
 use Rattle.path_count.specs.PathCountLaws.{word_count}
-use borrow.Author.Rules.{rules}
 use Rattle.tiler.proofs.building.count_paths.Goals as goal
 
 pub pass_edges-requires : goal.pass_edges-requires

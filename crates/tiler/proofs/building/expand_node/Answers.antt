@@ -4,7 +4,6 @@ use mathlib.Core.Path.{sym, subst}
 use Rattle.expansion.specs.Boards.{From}
 use Rattle.expansion.proofs.ExpansionLaws.{expanded_children}
 use Rattle.tiler.proofs.BuildLaws.{children_read}
-use borrow.Author.Rules.{rules}
 use Rattle.tiler.proofs.building.expand_node.Goals as goal
 
 pub returns : goal.returns

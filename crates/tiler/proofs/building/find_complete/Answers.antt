@@ -1,11 +1,6 @@
 -- `tiler::building::find_complete` meets its contract: the nodes behind node 0 are tested one by one.
 -- Assumes nothing.
-use mathlib.Core.Path.{◌≡◌, sym, subst}
-use mathlib.Core.Bool.{false}
-use Prim.Native.Nat.{ℕ, ◌-◌, ◌≤◌, ◌<◌}
-use Rattle.cells.specs.Lists.{set_at}
-use Rattle.board.specs.Board.{board_of}
-use Rattle.rectangle.specs.Board.{board_at, is_full}
+use mathlib.Core.Path.{sym, subst}
 use Rattle.expansion.specs.Boards.{From}
 use Rattle.cells.specs.SearchLaws.{missed_more}
 use Rattle.tiler.proofs.FinishLaws.{full_at_lem, complete_found, complete_none}

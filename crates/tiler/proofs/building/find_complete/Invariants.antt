@@ -1,14 +1,9 @@
-use mathlib.Core.Path.{◌≡◌, sym, subst}
+use mathlib.Core.Path.{◌≡◌}
 use mathlib.Core.Bool.{false}
 use Prim.Native.Nat.{ℕ, ◌-◌, ◌≤◌, ◌<◌}
 use Rattle.cells.specs.Lists.{set_at}
 use Rattle.board.specs.Board.{board_of}
 use Rattle.rectangle.specs.Board.{board_at, is_full}
-use Rattle.expansion.specs.Boards.{From}
-use Rattle.cells.specs.SearchLaws.{missed_more}
-use Rattle.tiler.proofs.FinishLaws.{full_at_lem, complete_found, complete_none}
-use borrow.Author.Rules.{rules}
-use native.Mathlib.Omega.{arith}
 use Rattle.tiler.proofs.building.find_complete.Given as goal
 
 abbrev pub invariant-loop-i : goal.invariant-loop-i

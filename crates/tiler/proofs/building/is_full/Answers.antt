@@ -1,6 +1,5 @@
 -- `tiler::building::is_full` meets its contract: a board of the start is not refused.
 -- Assumes nothing.
-use borrow.Author.Rules.{rules}
 use Rattle.tiler.proofs.FinishLaws.{full_is, full_refused}
 use Rattle.tiler.proofs.building.is_full.Goals as goal
 

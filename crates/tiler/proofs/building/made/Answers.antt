@@ -1,7 +1,6 @@
 -- `tiler::building::made` meets its contract: the graph grows, its room and its counts are judged, and it is finished.
 -- Assumes nothing.
 use native.Mathlib.Nat.{le_of_eq}
-use borrow.Author.Tests.{not-true, not-false}
 use Rattle.cells.specs.Set.{Sound}
 use Rattle.graph.proofs.RoomLaws.{node_room_lem, edge_room_lem}
 use Rattle.tiler.proofs.FinishLaws.{count_asks, finish_asks, made_no_room, made_no_room_for_edges, made_large, made_finished}

@@ -1,7 +1,6 @@
 -- `tiler::building::pass_edge` meets its contract: the parent's count is read and added to the child's.
 -- Assumes nothing.
 use Rattle.tiler.proofs.PassingLaws.{edge_adds}
-use borrow.Author.Rules.{rules}
 use Rattle.tiler.proofs.building.pass_edge.Goals as goal
 
 pub returns : goal.returns

@@ -1,11 +1,7 @@
 -- `tiler::building::pass_edges` meets its contract: the edges are passed in order.
 -- Assumes nothing.
-use mathlib.Core.Path.{◌≡◌, refl}
-use Prim.Native.Nat.{◌-◌, ◌≤◌}
-use lib.ListN.{length}
-use Rattle.cells.specs.Lists.{list_of}
-use Rattle.graph.specs.Graph.{edge_at}
-use Rattle.tiler.proofs.PassingLaws.{Passing, pass_none, pass_more, pass_large, pass_done}
+use mathlib.Core.Path.{refl}
+use Rattle.tiler.proofs.PassingLaws.{pass_none, pass_more, pass_large, pass_done}
 use borrow.Author.Rules.{rules}
 use native.Mathlib.Omega.{arith}
 use Rattle.tiler.proofs.building.pass_edges.Goals as goal

@@ -1,11 +1,9 @@
-use mathlib.Core.Path.{◌≡◌, refl}
+use mathlib.Core.Path.{◌≡◌}
 use Prim.Native.Nat.{◌-◌, ◌≤◌}
 use lib.ListN.{length}
 use Rattle.cells.specs.Lists.{list_of}
 use Rattle.graph.specs.Graph.{edge_at}
-use Rattle.tiler.proofs.PassingLaws.{Passing, pass_none, pass_more, pass_large, pass_done}
-use borrow.Author.Rules.{rules}
-use native.Mathlib.Omega.{arith}
+use Rattle.tiler.proofs.PassingLaws.{Passing}
 use Rattle.tiler.proofs.building.pass_edges.Given as goal
 
 abbrev pub invariant-loop-i : goal.invariant-loop-i

@@ -1,7 +1,6 @@
 -- `tiler::building::refused` meets its contract: all the lent words are cleared.
 -- Assumes nothing.
 use Rattle.tiler.proofs.FinishLaws.{makes_refused}
-use borrow.Author.Rules.{rules}
 use Rattle.tiler.proofs.building.refused.Goals as goal
 
 pub returns : goal.returns

@@ -3,7 +3,6 @@
 use mathlib.Core.Path.{ap, sym, ◌∙◌}
 use Rattle.refusal.specs.Refusal.{refusal_of}
 use Rattle.tiles.specs.ReadLaws.{read_tiles_given, read_tiles_many, read_tiles_unsound}
-use borrow.Author.Rules.{rules}
 use Rattle.tiles.proofs.Tiles.check.Goals as goal
 
 pub returns-then-count-gt64 : goal.returns-then-count-gt64

@@ -7,7 +7,6 @@ use Rattle.refusal.specs.Refusal.{given, verdict_number, map_answer}
 use Rattle.tiles.specs.Paths.{contains_single, paths_in, read_tiles}
 use Rattle.refusal.specs.RefusalLaws.{refused_of}
 use Rattle.tiles.specs.ReadLaws.{read_tiles_accepted}
-use borrow.Author.Rules.{rules}
 use Rattle.tiles.proofs.Tiles.contains_single_tile.Goals as goal
 
 pub has_single-requires : goal.has_single-requires

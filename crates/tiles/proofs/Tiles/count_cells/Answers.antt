@@ -7,7 +7,6 @@ use Rattle.tiles.specs.Paths.{shared_count, paths_in, read_tiles}
 use Rattle.refusal.specs.RefusalLaws.{refused_of}
 use Rattle.tiles.specs.ReadLaws.{read_tiles_accepted}
 use Rattle.tiles.specs.EqualLaws.{read_equal_tiles_refused, read_equal_tiles_equal, read_equal_tiles_unequal}
-use borrow.Author.Rules.{rules}
 use Rattle.tiles.proofs.Tiles.count_cells.Goals as goal
 
 pub first_count-cells-requires : goal.first_count-cells-requires

@@ -3,7 +3,6 @@
 use mathlib.Core.Path.{refl}
 use Rattle.tiles.proofs.MadeLaws.{adds_given, adds_refused}
 use native.Mathlib.Omega.{arith}
-use borrow.Author.Rules.{rules}
 use Rattle.tiles.proofs.Tiles.with_tile.Goals as goal
 
 pub returns-then-count-lt64 : goal.returns-then-count-lt64

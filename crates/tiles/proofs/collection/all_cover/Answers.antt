@@ -1,10 +1,7 @@
 -- `tiles::collection::all_cover` meets its contract: the tiles are counted in order.
 -- Assumes nothing.
-use mathlib.Core.Path.{◌≡◌, sym, ◌∙◌}
-use Prim.Native.Nat.{ℕ, ◌≤◌, ◌<◌, ◌-◌}
+use mathlib.Core.Path.{sym, ◌∙◌}
 use borrow.Author.Count.{below_none, below_more}
-use Rattle.tile.specs.Path.{cell_count}
-use Rattle.tiles.specs.Paths.{path_at}
 use Rattle.tiles.proofs.CountLaws.{equal_counts_fails, equal_counts_all}
 use native.Mathlib.Omega.{arith}
 use borrow.Author.Rules.{rules}

@@ -1,11 +1,7 @@
-use mathlib.Core.Path.{◌≡◌, sym, ◌∙◌}
+use mathlib.Core.Path.{◌≡◌}
 use Prim.Native.Nat.{ℕ, ◌≤◌, ◌<◌, ◌-◌}
-use borrow.Author.Count.{below_none, below_more}
 use Rattle.tile.specs.Path.{cell_count}
 use Rattle.tiles.specs.Paths.{path_at}
-use Rattle.tiles.proofs.CountLaws.{equal_counts_fails, equal_counts_all}
-use native.Mathlib.Omega.{arith}
-use borrow.Author.Rules.{rules}
 use Rattle.tiles.proofs.collection.all_cover.Given as goal
 
 abbrev pub invariant-loop-i : goal.invariant-loop-i

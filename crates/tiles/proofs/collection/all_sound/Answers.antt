@@ -1,9 +1,6 @@
 -- `tiles::collection::all_sound` meets its contract: the tiles are tested in order.
 -- Assumes nothing.
 use mathlib.Core.Path.{◌≡◌, sym, ap, ◌∙◌}
-use mathlib.Core.Bool.{true}
-use Prim.Native.Nat.{◌≤◌, ◌-◌}
-use borrow.Author.Tests.{not-true, not-false}
 use lib.ListN.{length}
 use Rattle.cells.specs.Lists.{all_below}
 use Rattle.cells.specs.ArrayLaws.{all_below_none, all_below_more, all_below_fails}

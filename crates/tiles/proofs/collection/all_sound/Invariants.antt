@@ -1,13 +1,8 @@
-use mathlib.Core.Path.{◌≡◌, sym, ap, ◌∙◌}
+use mathlib.Core.Path.{◌≡◌}
 use mathlib.Core.Bool.{true}
 use Prim.Native.Nat.{◌≤◌, ◌-◌}
-use borrow.Author.Tests.{not-true, not-false}
-use lib.ListN.{length}
 use Rattle.cells.specs.Lists.{all_below}
-use Rattle.cells.specs.ArrayLaws.{all_below_none, all_below_more, all_below_fails}
 use Rattle.tiles.specs.Paths.{sound_at}
-use native.Mathlib.Omega.{arith}
-use borrow.Author.Rules.{rules}
 use Rattle.tiles.proofs.collection.all_sound.Given as goal
 
 abbrev pub invariant-loop-i : goal.invariant-loop-i

@@ -1,13 +1,7 @@
-use mathlib.Core.Path.{◌≡◌, sym, ◌∙◌}
+use mathlib.Core.Path.{◌≡◌}
 use mathlib.Core.Bool.{false}
 use Prim.Native.Nat.{ℕ, ◌≤◌, ◌<◌, ◌-◌}
-use borrow.Author.Count.{below_none, below_more}
-use lib.ListN.{length}
-use Rattle.cells.specs.Lists.{holds}
-use Rattle.cells.specs.ArrayLaws.{any_list_of, none_list_of}
 use Rattle.tiles.specs.Paths.{same_path, path_at}
-use native.Mathlib.Omega.{arith}
-use borrow.Author.Rules.{rules}
 use Rattle.tiles.proofs.collection.has_path.Given as goal
 
 abbrev pub invariant-loop-i : goal.invariant-loop-i

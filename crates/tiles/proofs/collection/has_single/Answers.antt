@@ -1,9 +1,8 @@
 -- `tiles::collection::has_single` meets its contract: a tile is single where its length is 0.
 -- Assumes nothing.
 use mathlib.Core.Path.{◌≡◌, sym}
-use Prim.Native.Nat.{ℕ, ◌≤◌, ◌<◌, ◌-◌}
 use borrow.Author.Count.{below_none, below_more}
-use lib.ListN.{length, get_or}
+use lib.ListN.{length}
 use Rattle.tiles.specs.StoredLaws.{contains_single_true, contains_single_false}
 use native.Mathlib.Omega.{arith}
 use borrow.Author.Rules.{rules}

@@ -1,10 +1,6 @@
-use mathlib.Core.Path.{◌≡◌, sym}
+use mathlib.Core.Path.{◌≡◌}
 use Prim.Native.Nat.{ℕ, ◌≤◌, ◌<◌, ◌-◌}
-use borrow.Author.Count.{below_none, below_more}
-use lib.ListN.{length, get_or}
-use Rattle.tiles.specs.StoredLaws.{contains_single_true, contains_single_false}
-use native.Mathlib.Omega.{arith}
-use borrow.Author.Rules.{rules}
+use lib.ListN.{get_or}
 use Rattle.tiles.proofs.collection.has_single.Given as goal
 
 abbrev pub invariant-loop-i : goal.invariant-loop-i

@@ -1,9 +1,6 @@
-use mathlib.Core.Path.{refl}
 use Prim.Native.Nat.{◌+◌, ◌≤◌, ◌-◌}
-use lib.ListN.{get_or, get_or-replicate}
-use Rattle.cells.specs.ArrayLaws.{Filled, filled_start, filled_step, filled_end}
-use native.Mathlib.Omega.{arith}
-use borrow.Author.Rules.{rules}
+use lib.ListN.{get_or}
+use Rattle.cells.specs.ArrayLaws.{Filled}
 use Rattle.tiles.proofs.collection.part.Given as goal
 
 abbrev pub invariant-loop-j : goal.invariant-loop-j

@@ -1,9 +1,6 @@
 -- `tiles::collection::same` meets its contract: the test of the paths is the test of what is left of them, and ends at the first codes that differ.
 -- Assumes nothing.
-use mathlib.Core.Path.{◌≡◌, refl, sym, ◌∙◌}
-use Prim.Native.Nat.{◌≤◌, ◌-◌}
-use lib.ListN.{length, drop}
-use Rattle.tiles.specs.Paths.{same_path}
+use mathlib.Core.Path.{refl, sym, ◌∙◌}
 use Rattle.tiles.proofs.CodeLaws.{same_path_unequal, same_path_good, same_path_bad, same_path_end}
 use borrow.Author.Rules.{rules}
 use Rattle.tiles.proofs.collection.same.Goals as goal

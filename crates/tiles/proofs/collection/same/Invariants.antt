@@ -1,9 +1,7 @@
-use mathlib.Core.Path.{◌≡◌, refl, sym, ◌∙◌}
+use mathlib.Core.Path.{◌≡◌}
 use Prim.Native.Nat.{◌≤◌, ◌-◌}
 use lib.ListN.{length, drop}
 use Rattle.tiles.specs.Paths.{same_path}
-use Rattle.tiles.proofs.CodeLaws.{same_path_unequal, same_path_good, same_path_bad, same_path_end}
-use borrow.Author.Rules.{rules}
 use Rattle.tiles.proofs.collection.same.Given as goal
 
 abbrev pub invariant-loop-i : goal.invariant-loop-i

@@ -5,7 +5,6 @@ use Prim.Native.Nat.{ℕ}
 use lib.ListN.{take, drop}
 use Rattle.tiles.specs.Paths.{same_path}
 use Rattle.tiles.proofs.CodeLaws.{add_sub}
-use borrow.Author.Rules.{rules}
 use Rattle.tiles.proofs.collection.same_at.Goals as goal
 
 pub returns : goal.returns

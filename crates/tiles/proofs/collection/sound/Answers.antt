@@ -6,7 +6,6 @@ use borrow.Author.Tests.{lt-leb, le-leb}
 use lib.ListN.{take, drop}
 use Rattle.tile.specs.Path.{is_path}
 use Rattle.tiles.proofs.CodeLaws.{add_sub}
-use borrow.Author.Rules.{rules}
 use Rattle.tiles.proofs.collection.sound.Goals as goal
 
 pub returns-then-len-gt32 : goal.returns-then-len-gt32

@@ -1,10 +1,7 @@
 -- `tiles::collection::with_codes` meets its contract: the codes are filled in order (`Filled`).
 -- Assumes nothing.
 use mathlib.Core.Path.{refl}
-use Prim.Native.Nat.{◌+◌, ◌≤◌, ◌-◌}
-use lib.ListN.{get_or}
-use Rattle.cells.specs.ArrayLaws.{Filled, filled_start, filled_step_from, filled_end}
-use Rattle.tiles.specs.Paths.{overlay}
+use Rattle.cells.specs.ArrayLaws.{filled_start, filled_step_from, filled_end}
 use Rattle.tiles.proofs.CodeLaws.{overlay_inside, overlay_before, overlay_behind}
 use native.Mathlib.Omega.{arith}
 use borrow.Author.Rules.{rules}

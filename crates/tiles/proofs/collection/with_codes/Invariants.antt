@@ -1,11 +1,7 @@
-use mathlib.Core.Path.{refl}
 use Prim.Native.Nat.{◌+◌, ◌≤◌, ◌-◌}
 use lib.ListN.{get_or}
-use Rattle.cells.specs.ArrayLaws.{Filled, filled_start, filled_step_from, filled_end}
+use Rattle.cells.specs.ArrayLaws.{Filled}
 use Rattle.tiles.specs.Paths.{overlay}
-use Rattle.tiles.proofs.CodeLaws.{overlay_inside, overlay_before, overlay_behind}
-use native.Mathlib.Omega.{arith}
-use borrow.Author.Rules.{rules}
 use Rattle.tiles.proofs.collection.with_codes.Given as goal
 
 abbrev pub invariant-loop-j : goal.invariant-loop-j

@@ -1,9 +1,6 @@
 -- `tiles::collection::with_turns` meets its contract: the turns are collected in order (`Collected`).
 -- Assumes nothing.
-use Prim.Native.Nat.{◌≤◌, ◌-◌}
-use Rattle.tile.specs.Path.{path_in}
-use Rattle.tiles.specs.Paths.{paths_in}
-use Rattle.tiles.proofs.MadeLaws.{Collected, collected_start, collected_step, collected_end}
+use Rattle.tiles.proofs.MadeLaws.{collected_start, collected_step, collected_end}
 use native.Mathlib.Omega.{arith}
 use borrow.Author.Rules.{rules}
 use Rattle.tiles.proofs.collection.with_turns.Goals as goal

@@ -1,9 +1,7 @@
 use Prim.Native.Nat.{◌≤◌, ◌-◌}
 use Rattle.tile.specs.Path.{path_in}
 use Rattle.tiles.specs.Paths.{paths_in}
-use Rattle.tiles.proofs.MadeLaws.{Collected, collected_start, collected_step, collected_end}
-use native.Mathlib.Omega.{arith}
-use borrow.Author.Rules.{rules}
+use Rattle.tiles.proofs.MadeLaws.{Collected}
 use Rattle.tiles.proofs.collection.with_turns.Given as goal
 
 abbrev pub invariant-loop-i : goal.invariant-loop-i
