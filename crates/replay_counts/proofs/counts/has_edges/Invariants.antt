@@ -1,5 +1,4 @@
 use Prim.Native.Nat.{◌≤◌, ◌-◌}
-use borrow.Author.Rules.{rules}
 use Rattle.replay_counts.proofs.counts.has_edges.Given as goal
 
 abbrev pub invariant-loop-node : goal.invariant-loop-node

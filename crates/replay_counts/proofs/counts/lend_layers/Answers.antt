@@ -3,7 +3,6 @@
 use mathlib.Core.Path.{sym}
 use lib.Seq.{length-take-le}
 use native.Mathlib.Omega.{arith}
-use borrow.Author.Rules.{rules}
 use Rattle.replay_counts.proofs.counts.lend_layers.Goals as goal
 
 pub slice_bounds-count-end : goal.slice_bounds-count-end

@@ -1,6 +1,5 @@
 use mathlib.Core.Path.{◌≡◌}
 use lib.ListN.{length}
-use borrow.Author.Rules.{rules}
 use Rattle.replay_counts.proofs.tilings.show_sorted.Given as goal
 
 abbrev pub invariant-loop-left : goal.invariant-loop-left

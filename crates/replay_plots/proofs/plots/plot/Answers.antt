@@ -3,7 +3,6 @@
 use mathlib.Core.Path.{sym}
 use lib.Seq.{length-take-le}
 use native.Mathlib.Omega.{arith}
-use borrow.Author.Rules.{rules}
 use Rattle.replay_plots.proofs.plots.plot.Goals as goal
 
 pub slice_bounds-show-end : goal.slice_bounds-show-end
