@@ -1,9 +1,8 @@
 -- Laws of broken records: the reading of a file stops at the earliest broken record, with its place, and else reads to the end (`reading`); which calls are refused by
 -- that, what they answer of a sound file, and where it has no record at a place. Rests on `PlaceLaws`, `StepLaws` and `OutcomeLaws`. Assumes nothing.
-use Rattle.std.specs.Prelude.{◌≡◌, refl, ◌↔◌, ◌⊎◌, Bool, true, false, List, [], ◌∷◌, ℕ, zero, suc, ◌+◌, ◌*◌, ◌-◌, ◌≤◌, ◌<◌, leb, ltb, length, drop}
+use Rattle.std.specs.Prelude.{◌≡◌, refl, ◌↔◌, ◌⊎◌, Bool, true, false, List, [], ◌∷◌, ℕ, zero, suc, ◌+◌, ◌*◌, ◌-◌, ◌≤◌, ◌<◌, leb, ltb, length, drop, None, Some, Option}
 use Rattle.std.proofs.Common.{sym, ap, ◌∙◌, subst, inl, inr, ⊎_elim, arith, leb-true, leb-false, ltb-false, ltb-true, length-drop, drop-drop}
-use Rattle.std.proofs.Math.Option.{none, some, Option}
-use Rattle.std.proofs.Math.ListN.{get_elem?}
+use Rattle.std.specs.List.{slice_get}
 use Rattle.cells.specs.Lists.{ascii}
 use Rattle.archive.specs.declared.Record.{Record}
 use Rattle.archive.specs.Archive.{Outcome, answered, refused_at, refused_by, map_outcome, or_absent, record_in, is_whole, records_of, count_records, record_at, current_among, current_record, bind_outcome}
@@ -49,7 +48,7 @@ not_broken_whole file place e b = let f = (broken_whole file place).1 b in let z
 record Sound (file : List ℕ) (from : ℕ) : Type 0 where
   rs : List Record
   reads : read_from from (drop (24 * from) file) ≡ answered rs
-  none : (p : ℕ) → from ≤ p → Begins file p → IsBroken file p → ⊥
+  unbroken : (p : ℕ) → from ≤ p → Begins file p → IsBroken file p → ⊥
 
 -- or is refused with the place of the earliest one
 record Stops (file : List ℕ) (from : ℕ) : Type 0 where
@@ -81,7 +80,7 @@ module _ (file : List ℕ) (from : ℕ) (whole : is_whole (drop (24 * from) file
   sound_next : Sound file (suc from) → Sound file from
   unfolding map_outcome
   sound_next s =
-      record { rs = record_in (drop (24 * from) file) ∷ s.rs; reads = next ∙ rw s.reads; none = past {P = Begins file} s.none }
+      record { rs = record_in (drop (24 * from) file) ∷ s.rs; reads = next ∙ rw s.reads; unbroken = past {P = Begins file} s.unbroken }
 
   stops_next : Stops file (suc from) → Stops file from
   unfolding map_outcome
@@ -101,7 +100,7 @@ sound_end file from h =
     record {
       rs = [];
       reads = read_none from (drop (24 * from) file) (let d = length-drop (24 * from) file in omega arith);
-      none = λ p g i b. omega arith;
+      unbroken = λ p g i b. omega arith;
     }
 
 -- a broken record in front
@@ -147,7 +146,7 @@ pub broken_iff : (file : List ℕ) (place : ℕ)
 unfolding records_of
 broken_iff file place = (
   λ e. ⊎_elim (λ s. absurd (answered_refused_at s.rs 13 place (sym s.reads ∙ e))) (λ s. there s (sym s.reads ∙ e)) (reading file),
-  λ h. ⊎_elim (λ s. absurd (s.none place (omega arith) h.0 h.1)) (λ s. s.reads ∙ ap (refused_at 13) (back s h.1 h.2)) (reading file),
+  λ h. ⊎_elim (λ s. absurd (s.unbroken place (omega arith) h.0 h.1)) (λ s. s.reads ∙ ap (refused_at 13) (back s h.1 h.2)) (reading file),
 )
   where
     there : (s : Stops file 0) → ◌≡◌ {A = Outcome (List Record)} (refused_at 13 s.place) (refused_at 13 place)
@@ -185,8 +184,8 @@ picked_kind file pick = go (records_kind file)
     picked a = bind_outcome a (λ rs. or_absent (pick rs))
 
     one : (r : Option Record) → picked (records_of file) ≡ or_absent r → Kind file (picked (records_of file))
-    one none e = absent e
-    one (some r) e = value r e
+    one None e = absent e
+    one (Some r) e = value r e
 
     go : Kind file (records_of file) → Kind file (picked (records_of file))
     go (value rs e) = one (pick rs) (ap picked e)
@@ -204,13 +203,13 @@ count_refused file place = map_refused_at length (records_of file) 13 place
 pub record_refused : (file : List ℕ) (at place : ℕ) → (record_at file at ≡ refused_at 13 place) ↔ (records_of file ≡ refused_at 13 place)
 unfolding record_at
 record_refused file at place =
-    bind_refused_at (λ rs. or_absent (get_elem? rs at)) (records_of file) 13 place (λ rs. or_absent_refused_at (get_elem? rs at) 13 place)
+    bind_refused_at (λ rs. or_absent (slice_get rs at)) (records_of file) 13 place (λ rs. or_absent_refused_at (slice_get rs at) 13 place)
 
 -- and which one is current
 pub current_refused : (file : List ℕ) (id place : ℕ) → (current_record file id ≡ refused_at 13 place) ↔ (records_of file ≡ refused_at 13 place)
 unfolding current_record
 current_refused file id place =
-    bind_refused_at (λ rs. or_absent (current_among id none rs)) (records_of file) 13 place (λ rs. or_absent_refused_at (current_among id none rs) 13 place)
+    bind_refused_at (λ rs. or_absent (current_among id None rs)) (records_of file) 13 place (λ rs. or_absent_refused_at (current_among id None rs) 13 place)
 
 -- ---- each answers a value, 13 or 14
 
@@ -223,13 +222,13 @@ kinds_told file o (absent e) = inr (inr e)
 pub record_told : (file : List ℕ) (place : ℕ)
     → ((r : Record) × (record_at file place ≡ answered r)) ⊎ (((p : ℕ) × (record_at file place ≡ refused_at 13 p)) ⊎ (record_at file place ≡ refused_by 14))
 unfolding record_at
-record_told file place = kinds_told file (record_at file place) (picked_kind file (λ rs. get_elem? rs place))
+record_told file place = kinds_told file (record_at file place) (picked_kind file (λ rs. slice_get rs place))
 
 -- and the current one
 pub current_told : (file : List ℕ) (id : ℕ)
     → ((r : Record) × (current_record file id ≡ answered r)) ⊎ (((p : ℕ) × (current_record file id ≡ refused_at 13 p)) ⊎ (current_record file id ≡ refused_by 14))
 unfolding current_record
-current_told file id = kinds_told file (current_record file id) (picked_kind file (current_among id none))
+current_told file id = kinds_told file (current_record file id) (picked_kind file (current_among id None))
 
 -- ---- what they answer of a sound file
 
@@ -240,12 +239,12 @@ count_answers file n = map_answered length (records_of file) n
 
 -- and the record at a place is theirs
 pub record_answers : (file : List ℕ) (place : ℕ) (r : Record)
-    → (record_at file place ≡ answered r) ↔ ((rs : List Record) × (records_of file ≡ answered rs) × (get_elem? rs place ≡ some r))
+    → (record_at file place ≡ answered r) ↔ ((rs : List Record) × (records_of file ≡ answered rs) × (slice_get rs place ≡ Some r))
 unfolding record_at
 record_answers file place r =
-    let b = bind_answered (records_of file) (λ rs. or_absent (get_elem? rs place)) r in (
-      λ e. let s = b.0 e in (s.0, s.1, (or_absent_answered (get_elem? s.0 place) r).0 s.2),
-      λ s. b.1 (s.0, s.1, (or_absent_answered (get_elem? s.0 place) r).1 s.2),
+    let b = bind_answered (records_of file) (λ rs. or_absent (slice_get rs place)) r in (
+      λ e. let s = b.0 e in (s.0, s.1, (or_absent_answered (slice_get s.0 place) r).0 s.2),
+      λ s. b.1 (s.0, s.1, (or_absent_answered (slice_get s.0 place) r).1 s.2),
     )
 
 -- ---- 14
@@ -254,7 +253,7 @@ record_answers file place r =
 pub record_absent : (file : List ℕ) (place : ℕ) → (record_at file place ≡ refused_by 14) ↔ ((rs : List Record) × (records_of file ≡ answered rs) × (length rs ≤ place))
 unfolding record_at
 record_absent file place =
-    let r = bind_refused_by (records_of file) (λ rs. or_absent (get_elem? rs place)) 14 (never_absent file 14) in (
-      λ e. let s = r.0 e in (s.0, s.1, (absent_iff s.0 place).0 ((or_absent_refused_by (get_elem? s.0 place)).0 s.2)),
-      λ s. r.1 (s.0, s.1, (or_absent_refused_by (get_elem? s.0 place)).1 ((absent_iff s.0 place).1 s.2)),
+    let r = bind_refused_by (records_of file) (λ rs. or_absent (slice_get rs place)) 14 (never_absent file 14) in (
+      λ e. let s = r.0 e in (s.0, s.1, (absent_iff s.0 place).0 ((or_absent_refused_by (slice_get s.0 place)).0 s.2)),
+      λ s. r.1 (s.0, s.1, (or_absent_refused_by (slice_get s.0 place)).1 ((absent_iff s.0 place).1 s.2)),
     )

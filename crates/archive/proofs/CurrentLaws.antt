@@ -1,11 +1,10 @@
 -- Laws of the current record: what `current_among` tells is the current record in words (`among_told`), of which there is one (`current_once`), and so is what
 -- `current_record` answers; what one record more changes. Rests on `PlaceLaws`, `OutcomeLaws` and `BrokenLaws`. Assumes nothing.
-use Rattle.std.specs.Prelude.{◌≡◌, refl, ◌↔◌, Bool, true, false, cond, ◌&&◌, ◌||◌, ℕ, ◌≤◌, eqb, leb, ltb, length}
+use Rattle.std.specs.Prelude.{◌≡◌, refl, ◌↔◌, Bool, true, false, cond, ◌&&◌, ◌||◌, ℕ, ◌≤◌, eqb, leb, ltb, length, Option, None, Some}
 use Rattle.std.proofs.Common.{sym, ap, ◌∙◌, subst, inl, inr, ⊎_elim, arith, eq-eqb, eqb-true, leb-true, leb-false, le-leb, lt-ltb, ltb-true, ltb-false, ne_eqb}
 use mathlib.Core.List.{List, [], ◌∷◌, ◌++◌, append-nil, Memᴰ as Mem}
-use Rattle.std.proofs.Math.Option.{Option, none, some}
 use Rattle.std.proofs.lemmas.Bool.{eqb-false}
-use Rattle.std.proofs.Math.ListN.{get_elem?}
+use Rattle.std.specs.List.{slice_get}
 use Rattle.std.proofs.Math.Seq.{append_snoc}
 use Rattle.archive.specs.declared.Record.{Record}
 use Rattle.archive.specs.Archive.{answered, refused_by, or_absent, records_of, replaces, current_of, current_among, current_record}
@@ -19,8 +18,8 @@ use Rattle.archive.proofs.BrokenLaws.{never_absent}
 -- a record of another id changes nothing
 pub other_kept : (id : ℕ) (o : Option Record) (y : Record) → (y.id ≡ id → ⊥) → current_of id o y ≡ o
 unfolding current_of
-other_kept id none y ne = rw (ne_eqb y.id id ne)
-other_kept id (some c) y ne = rw (ne_eqb y.id id ne)
+other_kept id None y ne = rw (ne_eqb y.id id ne)
+other_kept id (Some c) y ne = rw (ne_eqb y.id id ne)
 
 -- ---- the order of two records
 
@@ -46,12 +45,12 @@ replaces_iff r s = (λ e. into (ltb s.year r.year) refl (eqb s.year r.year) refl
 
 -- no record of a list is of the id
 abbrev pub NoneOf : ℕ → List Record → Type 0
-NoneOf id rs = (p : ℕ) (s : Record) → get_elem? rs p ≡ some s → s.id ≡ id → ⊥
+NoneOf id rs = (p : ℕ) (s : Record) → slice_get rs p ≡ Some s → s.id ≡ id → ⊥
 
 module _ (id : ℕ) (rs : List Record) (y : Record) where
   -- what holds of all records of the id and of one more
-  also : {P : ℕ → Record → Type 0} → ((p : ℕ) (s : Record) → get_elem? rs p ≡ some s → s.id ≡ id → P p s) → (y.id ≡ id → P (length rs) y)
-      → (p : ℕ) (s : Record) → get_elem? (rs ++ y ∷ []) p ≡ some s → s.id ≡ id → P p s
+  also : {P : ℕ → Record → Type 0} → ((p : ℕ) (s : Record) → slice_get rs p ≡ Some s → s.id ≡ id → P p s) → (y.id ≡ id → P (length rs) y)
+      → (p : ℕ) (s : Record) → slice_get (rs ++ y ∷ []) p ≡ Some s → s.id ≡ id → P p s
   also {P} old new p s e i = ⊎_elim (λ q. old p s q i) (λ q. at q.0 q.1) (at_cases rs y p s e)
     where
       at : p ≡ length rs → y ≡ s → P p s
@@ -115,19 +114,19 @@ module _ (id : ℕ) (rs : List Record) (y : Record) where
 
 -- no record is of the id, or this one is the current one
 abbrev Told : ℕ → List Record → Option Record → Type 0
-Told id rs none = NoneOf id rs
-Told id rs (some r) = (place : ℕ) × IsCurrent id rs place r
+Told id rs None = NoneOf id rs
+Told id rs (Some r) = (place : ℕ) × IsCurrent id rs place r
 
 told_next : (id : ℕ) (rs : List Record) (o : Option Record) (y : Record) → Told id rs o → Told id (rs ++ y ∷ []) (current_of id o y)
 unfolding current_of
-told_next id rs none y h = go (eqb y.id id) refl
+told_next id rs None y h = go (eqb y.id id) refl
   where
-    go : (t : Bool) → eqb y.id id ≡ t → Told id (rs ++ y ∷ []) (cond t (some y) none)
+    go : (t : Bool) → eqb y.id id ≡ t → Told id (rs ++ y ∷ []) (cond t (Some y) None)
     go true e = (length rs, current_first id rs y h (eqb-true y.id id e))
     go false e = none_goes_on id rs y h (eqb-false y.id id e)
-told_next id rs (some c) y h = go (eqb y.id id) refl (replaces y c) refl
+told_next id rs (Some c) y h = go (eqb y.id id) refl (replaces y c) refl
   where
-    go : (t : Bool) → eqb y.id id ≡ t → (u : Bool) → replaces y c ≡ u → Told id (rs ++ y ∷ []) (cond (t && u) (some y) (some c))
+    go : (t : Bool) → eqb y.id id ≡ t → (u : Bool) → replaces y c ≡ u → Told id (rs ++ y ∷ []) (cond (t && u) (Some y) (Some c))
     go true e true f = (length rs, current_taken id rs y h.0 c h.1 (eqb-true y.id id e) ((replaces_iff y c).0 f))
     go true e false f =
         (h.0, current_stays id rs y h.0 c h.1 (λ i b. let g = (replaces_iff y c).1 b in let z : ◌≡◌ {A = ℕ} 0 1 = cc in omega arith))
@@ -139,8 +138,8 @@ told_all id rs o [] h = rw (append-nil rs) h
 told_all id rs o (y ∷ behind) h =
     rw (append_snoc rs y behind) at (told_all id (rs ++ y ∷ []) (current_of id o y) behind (told_next id rs o y h))
 
-among_told : (id : ℕ) (rs : List Record) → Told id rs (current_among id none rs)
-among_told id rs = told_all id [] none rs (λ p s e i. let z : ◌≡◌ {A = ℕ} 0 1 = cc in omega arith)
+among_told : (id : ℕ) (rs : List Record) → Told id rs (current_among id None rs)
+among_told id rs = told_all id [] None rs (λ p s e i. let z : ◌≡◌ {A = ℕ} 0 1 = cc in omega arith)
 
 -- ---- the current record
 
@@ -150,24 +149,24 @@ current_once id rs p q r s c d =
     let y : r.year ≡ s.year = omega (arith, c.year q s d.there d.of_id, d.year p r c.there c.of_id) in
     let v : r.revision ≡ s.revision = omega (arith, c.revision q s d.there d.of_id (sym y), d.revision p r c.there c.of_id y) in
     let place : p ≡ q = omega (arith, c.last q s d.there d.of_id (sym y) (sym v), d.last p r c.there c.of_id y v) in
-    let same : some r ≡ some s = sym c.there ∙ ap (get_elem? rs) place ∙ d.there in
+    let same : Some r ≡ Some s = sym c.there ∙ ap (slice_get rs) place ∙ d.there in
     (place, cc)
 
 -- the record that is told is the current one,
-pub among_some : (id : ℕ) (rs : List Record) (r : Record) → (current_among id none rs ≡ some r) ↔ ((place : ℕ) × IsCurrent id rs place r)
-among_some id rs r = (λ e. subst (Told id rs) e (among_told id rs), λ c. go (current_among id none rs) (among_told id rs) c.0 c.1)
+pub among_some : (id : ℕ) (rs : List Record) (r : Record) → (current_among id None rs ≡ Some r) ↔ ((place : ℕ) × IsCurrent id rs place r)
+among_some id rs r = (λ e. subst (Told id rs) e (among_told id rs), λ c. go (current_among id None rs) (among_told id rs) c.0 c.1)
   where
-    go : (o : Option Record) → Told id rs o → (place : ℕ) → IsCurrent id rs place r → o ≡ some r
-    go none h place c = absurd (h place r c.there c.of_id)
-    go (some s) h place c = ap some (current_once id rs h.0 place s r h.1 c).1
+    go : (o : Option Record) → Told id rs o → (place : ℕ) → IsCurrent id rs place r → o ≡ Some r
+    go None h place c = absurd (h place r c.there c.of_id)
+    go (Some s) h place c = ap Some (current_once id rs h.0 place s r h.1 c).1
 
 -- and none is told where none is of the id
-pub among_none : (id : ℕ) (rs : List Record) → (current_among id none rs ≡ none) ↔ NoneOf id rs
-among_none id rs = (λ e. subst (Told id rs) e (among_told id rs), λ h. go (current_among id none rs) (among_told id rs) h)
+pub among_none : (id : ℕ) (rs : List Record) → (current_among id None rs ≡ None) ↔ NoneOf id rs
+among_none id rs = (λ e. subst (Told id rs) e (among_told id rs), λ h. go (current_among id None rs) (among_told id rs) h)
   where
-    go : (o : Option Record) → Told id rs o → NoneOf id rs → o ≡ none
-    go none c h = refl
-    go (some s) c h = absurd (h c.0 s c.1.there c.1.of_id)
+    go : (o : Option Record) → Told id rs o → NoneOf id rs → o ≡ None
+    go None c h = refl
+    go (Some s) c h = absurd (h c.0 s c.1.there c.1.of_id)
 
 -- ---- the call
 
@@ -176,12 +175,12 @@ pub current_iff : (file : List ℕ) (id : ℕ) (r : Record)
     → (current_record file id ≡ answered r) ↔ ((rs : List Record) × (place : ℕ) × (records_of file ≡ answered rs) × IsCurrent id rs place r)
 unfolding current_record
 current_iff file id r =
-    let b = bind_answered (records_of file) (λ rs. or_absent (current_among id none rs)) r in (
+    let b = bind_answered (records_of file) (λ rs. or_absent (current_among id None rs)) r in (
       λ e.
           let s = b.0 e in
-          let c = (among_some id s.0 r).0 ((or_absent_answered (current_among id none s.0) r).0 s.2) in
+          let c = (among_some id s.0 r).0 ((or_absent_answered (current_among id None s.0) r).0 s.2) in
           (s.0, c.0, s.1, c.1),
-      λ s. b.1 (s.0, s.2, (or_absent_answered (current_among id none s.0) r).1 ((among_some id s.0 r).1 (s.1, s.3))),
+      λ s. b.1 (s.0, s.2, (or_absent_answered (current_among id None s.0) r).1 ((among_some id s.0 r).1 (s.1, s.3))),
     )
 
 -- and it answers 14 where a sound file has none of the id
@@ -189,10 +188,10 @@ pub current_absent : (file : List ℕ) (id : ℕ)
     → (current_record file id ≡ refused_by 14) ↔ ((rs : List Record) × (records_of file ≡ answered rs) × ((r : Record) → Mem r rs → r.id ≡ id → ⊥))
 unfolding current_record
 current_absent file id =
-    let b = bind_refused_by (records_of file) (λ rs. or_absent (current_among id none rs)) 14 (never_absent file 14) in (
+    let b = bind_refused_by (records_of file) (λ rs. or_absent (current_among id None rs)) 14 (never_absent file 14) in (
       λ e.
           let s = b.0 e in
-          let h = (among_none id s.0).0 ((or_absent_refused_by (current_among id none s.0)).0 s.2) in
+          let h = (among_none id s.0).0 ((or_absent_refused_by (current_among id None s.0)).0 s.2) in
           (s.0, s.1, λ r m i. let p = mem_at s.0 r m in h p.0 r p.1 i),
-      λ s. b.1 (s.0, s.1, (or_absent_refused_by (current_among id none s.0)).1 ((among_none id s.0).1 (λ p r e i. s.2 r (at_mem s.0 p r e) i))),
+      λ s. b.1 (s.0, s.1, (or_absent_refused_by (current_among id None s.0)).1 ((among_none id s.0).1 (λ p r e i. s.2 r (at_mem s.0 p r e) i))),
     )

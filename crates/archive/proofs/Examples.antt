@@ -1,11 +1,9 @@
 -- The definitions by computation: numbers in bytes, a record's bytes, files that are sound and broken, which record counts, and the calls. Assumes nothing.
-use Rattle.std.specs.Prelude.{◌≡◌, refl, List, [], ◌∷◌, ◌++◌, map, ℕ, ◌+◌, ◌-◌, ◌*◌, ◌^◌, take, drop}
-use Rattle.std.proofs.Math.Option.{none, some}
+use Rattle.std.specs.Prelude.{◌≡◌, refl, List, [], ◌∷◌, ◌++◌, map, ℕ, ◌+◌, ◌-◌, ◌*◌, ◌^◌, take, drop, None, Some, Ok, Err}
 use Rattle.std.proofs.Common.{arith}
 use Rattle.cells.specs.Lists.{ascii}
 use Rattle.archive.specs.declared.Record.{Record}
-use Rattle.archive.specs.declared.RecordCount.TheVariants as RecordCounts
-use Rattle.archive.specs.declared.FoundRecord.TheVariants as Found
+use Rattle.archive.specs.declared.RecordError.TheVariants.{Broken, Absent}
 use Rattle.archive.specs.Archive.{big_endian, number_at, count_held, record_bytes, record_in, Outcome, answered, refused_at, refused_by, map_outcome, bind_outcome, outcome_number, handed_back, records_of, current_among, count_records, record_at, current_record, write_record, record_count_answer, record_answer}
 use Rattle.archive.specs.Records.{archive_of, InRange}
 
@@ -86,20 +84,20 @@ abbrev entry : ℕ → ℕ → ℕ → Record
 entry year revision count = record { id = 1; year = year; revision = revision; low = count; high = 0 }
 
 -- the highest year, whatever its revision; then the highest revision; then the last
-current_by_year : (current_among 1 none (entry 2026 1 7 ∷ entry 2025 9 8 ∷ []) ≡ some (entry 2026 1 7)) × (current_among 1 none (entry 2025 9 8 ∷ entry 2026 1 7 ∷ []) ≡ some (entry 2026 1 7))
+current_by_year : (current_among 1 None (entry 2026 1 7 ∷ entry 2025 9 8 ∷ []) ≡ Some (entry 2026 1 7)) × (current_among 1 None (entry 2025 9 8 ∷ entry 2026 1 7 ∷ []) ≡ Some (entry 2026 1 7))
 unfolding current_among
 current_by_year = (refl, refl)
 
-current_by_revision : (current_among 1 none (entry 2026 2 7 ∷ entry 2026 1 8 ∷ []) ≡ some (entry 2026 2 7)) × (current_among 1 none (entry 2026 1 8 ∷ entry 2026 2 7 ∷ []) ≡ some (entry 2026 2 7))
+current_by_revision : (current_among 1 None (entry 2026 2 7 ∷ entry 2026 1 8 ∷ []) ≡ Some (entry 2026 2 7)) × (current_among 1 None (entry 2026 1 8 ∷ entry 2026 2 7 ∷ []) ≡ Some (entry 2026 2 7))
 unfolding current_among
 current_by_revision = (refl, refl)
 
-current_last : current_among 1 none (entry 2026 1 7 ∷ entry 2026 1 8 ∷ first ∷ []) ≡ some (entry 2026 1 8)
+current_last : current_among 1 None (entry 2026 1 7 ∷ entry 2026 1 8 ∷ first ∷ []) ≡ Some (entry 2026 1 8)
 unfolding current_among
 current_last = refl
 
 -- of the id alone
-current_of_id : (current_among 258 none (entry 2027 1 7 ∷ first ∷ entry 2028 1 8 ∷ []) ≡ some first) × (current_among 2 none (entry 2027 1 7 ∷ first ∷ []) ≡ none)
+current_of_id : (current_among 258 None (entry 2027 1 7 ∷ first ∷ entry 2028 1 8 ∷ []) ≡ Some first) × (current_among 2 None (entry 2027 1 7 ∷ first ∷ []) ≡ None)
 unfolding current_among
 current_of_id = (refl, refl)
 
@@ -149,8 +147,8 @@ unfolding handed_back
 handed_back_lem = refl
 
 -- the answers of the code
-code_counts : map record_count_answer (RecordCounts.Number 3 ∷ RecordCounts.Broken 4 ∷ []) ≡ answered 3 ∷ refused_at 13 4 ∷ []
+code_counts : map record_count_answer (Ok 3 ∷ Err (record { place = 4 }) ∷ []) ≡ answered 3 ∷ refused_at 13 4 ∷ []
 code_counts = refl
 
-code_records : map record_answer (Found.Is first ∷ Found.Broken 4 ∷ Found.Absent ∷ []) ≡ answered first ∷ refused_at 13 4 ∷ refused_by 14 ∷ []
+code_records : map record_answer (Ok first ∷ Err (Broken 4) ∷ Err Absent ∷ []) ≡ answered first ∷ refused_at 13 4 ∷ refused_by 14 ∷ []
 code_records = refl

@@ -1,74 +1,87 @@
--- What is read of a file's bytes: whether a record is whole, by its tests one after the other; numbers of two bytes and of eight; a record by its fields. Rests on
--- `Archive`. Assumes nothing.
-use mathlib.Core.Path.{◌≡◌, refl, sym, ap, ◌∙◌}
-use mathlib.Core.Bool.{false}
-use mathlib.Core.List.{List}
-use Prim.Native.Nat.{ℕ, ◌+◌, ◌-◌, ◌*◌, ◌^◌, ◌≤◌, ◌<◌}
-use native.Mathlib.Omega.{arith}
-use native.Mathlib.Numerals.{add-one}
-use native.Mathlib.Nat.{add-zero, zero-add, lt_of_lt_of_le}
-use lib.Dec.{eqb}
-use lib.ListN.{length, get_or, drop, length-drop}
-use lib.Pow.{pow-add, pow_mono}
-use lib.Seq.{get_or-drop}
-use borrow.Author.Tests.{eq-eqb, ne_eqb, lt-leb, le-leb}
+-- What is read of a file's bytes, 24 at a time: whether these begin with a whole record, and which; numbers of two bytes and of eight. Rests on `Archive` and `ByteLaws`.
+-- Assumes nothing.
+use Rattle.std.specs.Prelude.{◌≡◌, refl, Option, None, Some, true, List, ◌++◌, ℕ, ◌+◌, ◌-◌, ◌≤◌, ◌<◌, min, leb, length, get_or, take, drop}
+use Rattle.std.proofs.Common.{Bor, sym, ap, ◌∙◌, arith, zero-add, length-append, length-drop, length-take, drop-drop, get_or-drop, get_or-take, le-leb}
+use Rattle.std.proofs.lemmas.Bool.{lt-leb}
+use Rattle.std.proofs.Math.ListN.{get_or-append}
+use Rattle.std.proofs.Math.Seq.{drop-append_seam}
+use Rattle.std.proofs.Math.Decide.{dec_le}
+use Rattle.std.proofs.lemmas.List.{take_rest}
+use Rattle.std.specs.declared.slice.Chunks.{Chunks}
+use Rattle.std.specs.Slice.Iter.{chunks_rest, chunks_size, chunks_steps}
+use Rattle.std.specs.Option.{MatchOption}
+use Rattle.std.specs.Array.{IsFirstChunk}
+use Rattle.std.specs.Int.{w16, w64, from_be_bytes}
 use Rattle.cells.specs.Lists.{ascii}
 use Rattle.archive.specs.declared.Record.{Record}
 use Rattle.archive.specs.Archive.{number_at, record_in, is_whole}
-use Rattle.archive.proofs.ByteLaws.{number_at_drop}
+use Rattle.archive.proofs.ByteLaws.{number_at_ext, number_at_front}
+use Rattle.archive.proofs.StepLaws.{whole_long}
 
--- ---- whether a record is whole
+-- ---- 24 bytes of those that are left, or all where they are fewer
 
-module _ (file : List ℕ) (at : ℕ) where
-  first : get_or (drop at file) 0 0 ≡ get_or file at 0
-  first = get_or-drop at file 0 0 ∙ ap (λ (k : ℕ). get_or file k 0) (omega arith)
+pub record Front (bytes x behind : List ℕ) : Type 0 where
+  pub joined : bytes ≡ x ++ behind
+  pub long : length x ≡ min 24 (length bytes)
+  pub some : 0 < length bytes
 
-  pub whole_short : length file - at < 24 → false ≡ is_whole (drop at file)
-  unfolding is_whole
-  whole_short h = rw (lt-leb 24 (length (drop at file)) (omega (arith, length-drop at file)))
+-- a step of `chunks`
+pub front_step : (s t : Chunks ℕ) (x : Bor (List ℕ)) → chunks_steps s (Some x) t → chunks_size s ≡ 24 → Front (chunks_rest s) x.now (chunks_rest t)
+front_step s t x h e = record { joined = h.1.0; long = h.1.1 ∙ ap (λ (n : ℕ). min n (length (chunks_rest s))) e; some = h.1.2 }
 
-  pub whole_first : 24 ≤ length file - at → (get_or file at 0 ≡ 84 → ⊥) → false ≡ is_whole (drop at file)
+module _ (bytes x behind : List ℕ) (front : Front bytes x behind) where
+  front_byte : (i : ℕ) → i < length x → get_or bytes i 0 ≡ get_or x i 0
+  front_byte i h = ap (λ (l : List ℕ). get_or l i 0) front.joined ∙ get_or-append x behind 0 i h
+
+  -- they begin with a whole record exactly if all that are left do,
+  pub front_whole : is_whole x ≡ is_whole bytes
   unfolding is_whole ascii
-  whole_first h n = rw (le-leb 24 (length (drop at file)) (omega (arith, length-drop at file)), first, ne_eqb (get_or file at 0) 84 n)
+  front_whole = go (dec_le 24 (length x))
+    where
+      go : Dec (24 ≤ length x) → is_whole x ≡ is_whole bytes
+      go (yes h) = rw (le-leb 24 (length x) h, le-leb 24 (length bytes) (omega (arith, front.long)), front_byte 0 (omega arith), front_byte 1 (omega arith))
+      go (no h) = rw (lt-leb 24 (length x) (omega arith), lt-leb 24 (length bytes) (omega (arith, front.long)))
 
-  pub whole_second : 24 ≤ length file - at → get_or file at 0 ≡ 84 → eqb (get_or file (at + 1) 0) 89 ≡ is_whole (drop at file)
-  unfolding is_whole ascii
-  whole_second h e = rw (le-leb 24 (length (drop at file)) (omega (arith, length-drop at file)), first, eq-eqb (get_or file at 0) 84 e, get_or-drop at file 1 0)
+  module _ (whole : is_whole x ≡ true) where
+    pub front_long : 24 ≤ length x
+    front_long = whole_long x whole
+
+    -- and then with the same one,
+    pub front_record : record_in x ≡ record_in bytes
+    unfolding record_in
+    front_record =
+        let h = front_long in
+        let same : (at k : ℕ) → at + k ≤ length x → number_at bytes at k ≡ number_at x at k = λ at k l. ap (λ (l : List ℕ). number_at l at k) front.joined ∙ number_at_front x behind at k l in
+        rw (same 2 2 (omega arith), same 4 2 (omega arith), same 6 2 (omega arith), same 16 8 (omega arith), same 8 8 (omega arith))
+
+    -- behind which the rest stands
+    pub front_behind : drop 24 bytes ≡ behind
+    front_behind =
+        let h = front_long in
+        let n : 24 ≡ length x = omega (arith, front.long) in
+        ap (λ (k : ℕ). drop k bytes) n ∙ ap (drop (length x)) front.joined ∙ drop-append_seam x behind
 
 -- ---- numbers
 
--- no byte yet
-pub none_read : (file : List ℕ) (at : ℕ) → (0 ≡ number_at file at 0) × (0 < 2 ^ (8 * 0)) × (0 ≤ 8)
+pub pair_value : (bytes : List ℕ) → from_be_bytes w16 bytes ≡ number_at bytes 0 2
 unfolding number_at
-none_read file at = (refl, omega arith, omega arith)
+pair_value bytes = omega arith
 
--- one byte more
-pub number_more : (file : List ℕ) (at i word : ℕ) → word ≡ number_at file at i → word * 256 + get_or file (at + i) 0 ≡ number_at file at (i + 1)
+pub word_value : (bytes : List ℕ) → from_be_bytes w64 bytes ≡ number_at bytes 0 8
 unfolding number_at
-number_more file at i word e = rw (e, add-one i)
+word_value bytes = omega arith
 
--- two bytes
-pub pair_read : (file : List ℕ) (at : ℕ) → get_or file at 0 * 256 + get_or file (at + 1) 0 ≡ number_at file at 2
-unfolding number_at
-pair_read file at = number_more file at 1 (get_or file at 0) (ap (λ (k : ℕ). get_or file k 0) (sym (add-zero at)) ∙ sym (zero-add (get_or file (at + 0) 0)))
+-- a number reads its own bytes only
+pub number_cut : (bytes : List ℕ) (at k : ℕ) → number_at (take k (drop at bytes)) 0 k ≡ number_at bytes at k
+number_cut bytes at k =
+    number_at_ext (take k (drop at bytes)) bytes 0 at k (λ m h. ap (λ (i : ℕ). get_or (take k (drop at bytes)) i 0) (zero-add m) ∙ get_or-take k (drop at bytes) m 0 h ∙ get_or-drop at bytes m 0)
 
--- so many bytes below 256 make a number below a power, and eight a word
-module _ (i word byte : ℕ) (low : word < 2 ^ (8 * i)) (small : byte < 256) where
-  pub number_room : word * 256 + byte < 2 ^ (8 * (i + 1))
-  number_room =
-      let e : 2 ^ (8 * (i + 1)) ≡ 2 ^ (8 * i) * 256 = ap (λ (k : ℕ). 2 ^ k) (omega arith) ∙ pow-add 2 (8 * i) 8 in
-      omega (arith, e)
-
-  pub word_room : i < 8 → word * 256 + byte < 2 ^ 64
-  word_room h =
-      let e = number_room in
-      let m : 2 ^ (8 * (i + 1)) ≤ 2 ^ 64 = pow_mono {i = 8 * (i + 1)} {j = 64} (omega arith) in
-      lt_of_lt_of_le e m
-
--- ---- a record by its fields
-pub record_read : (file : List ℕ) (at : ℕ) {a b c d e : ℕ}
-    → a ≡ number_at file (at + 2) 2 → b ≡ number_at file (at + 4) 2 → c ≡ number_at file (at + 6) 2 → d ≡ number_at file (at + 16) 8 → e ≡ number_at file (at + 8) 8
-    → ◌≡◌ {A = Record} record { id = a; year = b; revision = c; low = d; high = e } (record_in (drop at file))
-unfolding record_in
-record_read file at p q r s t =
-    rw (p ∙ sym (number_at_drop at file 2 2), q ∙ sym (number_at_drop at file 4 2), r ∙ sym (number_at_drop at file 6 2), s ∙ sym (number_at_drop at file 16 8), t ∙ sym (number_at_drop at file 8 8))
+-- so that it is that of the first bytes from its place on
+pub number_first : (bytes : List ℕ) (at k : ℕ) (o : Option (Bor (List ℕ))) (x : Bor (List ℕ)) → o ≡ Some x
+    → MatchOption o (length (take (length bytes - at) (drop at bytes)) < k) (λ y. IsFirstChunk (take (length bytes - at) (drop at bytes)) y.now k) → number_at x.now 0 k ≡ number_at bytes at k
+number_first bytes at k (Some y) x e h =
+    let same : y ≡ x = cc in
+    ap (λ (z : Bor (List ℕ)). number_at z.now 0 k) (sym same)
+    ∙ ap (λ (l : List ℕ). number_at l 0 k) (h.same ∙ ap (take k) (take_rest bytes at))
+    ∙ number_cut bytes at k
+number_first bytes at k None x e h = absurd (let z : ◌≡◌ {A = ℕ} 0 1 = cc in omega arith)

@@ -1,10 +1,9 @@
 -- The theorems about archive files: what was written reads back, a file of records has one reading, which place 13 tells, which record counts, and what one record
 -- more changes. Each is said here in words and proved in `FileLaws`, `BrokenLaws`, `CurrentLaws` or `AppendLaws`. The reader is `records_of` of `Archive`; files of records,
 -- broken records and the current record in words are those of `Records`. Assumes nothing.
-use Rattle.std.specs.Prelude.{◌≡◌, ◌↔◌, ◌⊎◌, ℕ, ◌-◌, ◌≤◌, ◌<◌, length, take, replicate}
+use Rattle.std.specs.Prelude.{◌≡◌, ◌↔◌, ◌⊎◌, ℕ, ◌-◌, ◌≤◌, ◌<◌, length, take, replicate, Some}
 use mathlib.Core.List.{List, [], ◌∷◌, ◌++◌, Memᴰ as Mem}
-use Rattle.std.proofs.Math.Option.{some}
-use Rattle.std.proofs.Math.ListN.{get_elem?}
+use Rattle.std.specs.List.{slice_get}
 use Rattle.archive.specs.declared.Record.{Record}
 use Rattle.archive.specs.Archive.{answered, refused_at, refused_by, LeavesOutcome, number_at, count_held, record_bytes, record_size, record_in, records_of, count_records, record_at, current_record, write_record}
 use Rattle.archive.specs.Records.{archive_of, AreBytes, InRange, AllInRange, Begins, IsBroken, IsCurrent, NotBelow}
@@ -93,7 +92,7 @@ pub count_answers : (file : List ℕ) (n : ℕ) → (count_records file ≡ answ
 count_answers = Broken.count_answers
 
 pub record_answers : (file : List ℕ) (place : ℕ) (r : Record)
-    → (record_at file place ≡ answered r) ↔ ((rs : List Record) × (records_of file ≡ answered rs) × (get_elem? rs place ≡ some r))
+    → (record_at file place ≡ answered r) ↔ ((rs : List Record) × (records_of file ≡ answered rs) × (slice_get rs place ≡ Some r))
 record_answers = Broken.record_answers
 
 -- "14 when a sound file has no record of the id or at the place, after 13"

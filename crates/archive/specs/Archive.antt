@@ -1,15 +1,13 @@
 -- Definitions: the archive file, which is a run of records, each with a count; how it is read, and which record of a plot counts; what the calls answer. What
 -- stands in quotation marks is 02's, of request 1. Refusals are tried in the order written: 13 of the whole file, then 14. Assumes nothing.
-use Rattle.std.specs.Prelude.{◌≡◌, Bool, cond, ◌&&◌, ◌||◌, List, [], ◌∷◌, ◌++◌, ℕ, zero, suc, ◌+◌, ◌*◌, ◌/◌, ◌%◌, eqb, leb, ltb, length, get_or, drop}
-use Rattle.std.proofs.Math.Option.{Option, none, some}
-use Rattle.std.proofs.Math.ListN.{get_elem?}
+use Rattle.std.specs.Prelude.{◌≡◌, Bool, cond, ◌&&◌, ◌||◌, List, [], ◌∷◌, ◌++◌, ℕ, zero, suc, ◌+◌, ◌*◌, ◌/◌, ◌%◌, eqb, leb, ltb, length, get_or, drop, Option, None, Some, Result, Ok, Err}
+use Rattle.std.specs.List.{slice_get}
 use Rattle.cells.specs.Set.{value}
 use Rattle.cells.specs.Lists.{padded, ascii}
 use Rattle.archive.specs.declared.Record.{Record}
-use Rattle.archive.specs.declared.RecordCount.{RecordCount}
-use Rattle.archive.specs.declared.RecordCount.TheVariants as Counts
-use Rattle.archive.specs.declared.FoundRecord.{FoundRecord}
-use Rattle.archive.specs.declared.FoundRecord.TheVariants as Found
+use Rattle.archive.specs.declared.BrokenRecord.{BrokenRecord}
+use Rattle.archive.specs.declared.RecordError.{RecordError}
+use Rattle.archive.specs.declared.RecordError.TheVariants.{Broken, Absent}
 
 -- ---- numbers in bytes: "each number in the file highest byte first"
 
@@ -89,8 +87,8 @@ pub record LeavesOutcome (a : Outcome (List ℕ)) (old new : List ℕ) (r : ℕ)
 
 -- "14 when a sound file has no record of the id or at the place"
 unfoldable pub or_absent : Option Record → Outcome Record
-or_absent none = refused_by 14
-or_absent (some r) = answered r
+or_absent None = refused_by 14
+or_absent (Some r) = answered r
 
 -- ---- the reading of a file
 
@@ -117,8 +115,8 @@ replaces r before = ltb before.year r.year || (eqb before.year r.year && leb bef
 -- which one of an id counts, of the one that did and a record behind it
 unfoldable pub current_of : ℕ → Option Record → Record → Option Record
 unfolding replaces
-current_of id none r = cond (eqb r.id id) (some r) none
-current_of id (some before) r = cond (eqb r.id id && replaces r before) (some r) (some before)
+current_of id None r = cond (eqb r.id id) (Some r) None
+current_of id (Some before) r = cond (eqb r.id id && replaces r before) (Some r) (Some before)
 
 -- the same with all records of a list behind it
 unfoldable pub current_among : ℕ → Option Record → List Record → Option Record
@@ -136,12 +134,12 @@ count_records file = map_outcome length (records_of file)
 -- `record_at`: "the record at a given place, counted from 0"
 unfoldable pub record_at : List ℕ → ℕ → Outcome Record
 unfolding records_of bind_outcome or_absent
-record_at file place = bind_outcome (records_of file) (λ rs. or_absent (get_elem? rs place))
+record_at file place = bind_outcome (records_of file) (λ rs. or_absent (slice_get rs place))
 
 -- `current_record`: "the current record of an id"
 unfoldable pub current_record : List ℕ → ℕ → Outcome Record
 unfolding records_of bind_outcome or_absent current_among
-current_record file id = bind_outcome (records_of file) (λ rs. or_absent (current_among id none rs))
+current_record file id = bind_outcome (records_of file) (λ rs. or_absent (current_among id None rs))
 
 -- `write_record` with so many bytes lent: "An output too short for the record is 8 and is left zero"
 unfoldable pub write_record : Record → ℕ → Outcome (List ℕ)
@@ -151,12 +149,12 @@ write_record r room = cond (leb record_size room) (answered (record_bytes r)) (r
 -- ---- the answers of the code
 
 -- a number of records, or 13 with the place
-abbrev pub record_count_answer : RecordCount → Outcome ℕ
-record_count_answer (Counts.Number n) = answered n
-record_count_answer (Counts.Broken place) = refused_at 13 place
+abbrev pub record_count_answer : Result ℕ BrokenRecord → Outcome ℕ
+record_count_answer (Ok n) = answered n
+record_count_answer (Err broken) = refused_at 13 broken.place
 
 -- a record, 13 with the place, or 14
-abbrev pub record_answer : FoundRecord → Outcome Record
-record_answer (Found.Is r) = answered r
-record_answer (Found.Broken place) = refused_at 13 place
-record_answer Found.Absent = refused_by 14
+abbrev pub record_answer : Result Record RecordError → Outcome Record
+record_answer (Ok r) = answered r
+record_answer (Err (Broken place)) = refused_at 13 place
+record_answer (Err Absent) = refused_by 14

@@ -1,9 +1,8 @@
 -- Laws of outcomes: an outcome has one value, or one number and place, and is of one kind; what `map_outcome` and `bind_outcome` answer, and when they are refused; what
 -- `or_absent` answers. Rests on `Archive`. Assumes nothing.
-use Rattle.std.specs.Prelude.{◌≡◌, ◌↔◌, ℕ}
+use Rattle.std.specs.Prelude.{◌≡◌, ◌↔◌, ℕ, Option, None, Some}
 use Rattle.std.proofs.Math.Path.{refl, ap}
 use Rattle.std.proofs.Common.{sym, ◌∙◌, arith}
-use Rattle.std.proofs.Math.Option.{Option, none, some}
 use Rattle.archive.specs.declared.Record.{Record}
 use Rattle.archive.specs.Archive.{Outcome, answered, refused_at, refused_by, map_outcome, bind_outcome, or_absent}
 
@@ -83,19 +82,19 @@ map_map f g (refused_by n) = refl
 -- ---- a record, or 14
 
 -- it is the record that is there,
-pub or_absent_answered : (o : Option Record) (r : Record) → (or_absent o ≡ answered r) ↔ (o ≡ some r)
+pub or_absent_answered : (o : Option Record) (r : Record) → (or_absent o ≡ answered r) ↔ (o ≡ Some r)
 unfolding or_absent
-or_absent_answered none r = (λ e. absurd (answered_refused_by r 14 (sym e)), λ e. cc)
-or_absent_answered (some s) r = (λ e. cc, λ e. cc)
+or_absent_answered None r = (λ e. absurd (answered_refused_by r 14 (sym e)), λ e. cc)
+or_absent_answered (Some s) r = (λ e. cc, λ e. cc)
 
 -- or 14, where none is,
-pub or_absent_refused_by : (o : Option Record) → (or_absent o ≡ refused_by 14) ↔ (o ≡ none)
+pub or_absent_refused_by : (o : Option Record) → (or_absent o ≡ refused_by 14) ↔ (o ≡ None)
 unfolding or_absent
-or_absent_refused_by none = (λ e. refl, λ e. refl)
-or_absent_refused_by (some s) = (λ e. absurd (answered_refused_by s 14 e), λ e. cc)
+or_absent_refused_by None = (λ e. refl, λ e. refl)
+or_absent_refused_by (Some s) = (λ e. absurd (answered_refused_by s 14 e), λ e. cc)
 
 -- and has no place
 pub or_absent_refused_at : (o : Option Record) (n place : ℕ) → or_absent o ≡ refused_at n place → ⊥
 unfolding or_absent
-or_absent_refused_at none n place e = refused_at_refused_by n place 14 (sym e)
-or_absent_refused_at (some s) n place e = answered_refused_at s n place e
+or_absent_refused_at None n place e = refused_at_refused_by n place 14 (sym e)
+or_absent_refused_at (Some s) n place e = answered_refused_at s n place e

@@ -1,9 +1,8 @@
 -- Definitions for the theorems: the file of a list of records; a broken record, and the current record of an id, in words; and which numbers bytes and fields have.
 -- What stands in quotation marks is 02's, of request 1. Assumes nothing.
-use Rattle.std.specs.Prelude.{◌≡◌, ◌⊎◌, ℕ, ◌+◌, ◌*◌, ◌^◌, ◌≤◌, ◌<◌, length, get_or, take, drop}
+use Rattle.std.specs.Prelude.{◌≡◌, ◌⊎◌, ℕ, ◌+◌, ◌*◌, ◌^◌, ◌≤◌, ◌<◌, length, get_or, take, drop, Some}
 use mathlib.Core.List.{List, flat_map, Memᴰ as Mem}
-use Rattle.std.proofs.Math.Option.{some}
-use Rattle.std.proofs.Math.ListN.{get_elem?}
+use Rattle.std.specs.List.{slice_get}
 use Rattle.cells.specs.Lists.{ascii}
 use Rattle.archive.specs.declared.Record.{Record}
 use Rattle.archive.specs.Archive.{record_bytes, record_size}
@@ -46,11 +45,11 @@ IsBroken file place = (length file < record_size * place + record_size) ⊎ (tak
 -- the record at a place of the list is of the id; no record of the id has a higher year, or the same year and a higher revision; and none behind it has the
 -- same year and revision
 pub record IsCurrent (id : ℕ) (rs : List Record) (place : ℕ) (r : Record) : Type 0 where
-  pub there : get_elem? rs place ≡ some r
+  pub there : slice_get rs place ≡ Some r
   pub of_id : r.id ≡ id
-  pub year : (p : ℕ) (s : Record) → get_elem? rs p ≡ some s → s.id ≡ id → s.year ≤ r.year
-  pub revision : (p : ℕ) (s : Record) → get_elem? rs p ≡ some s → s.id ≡ id → s.year ≡ r.year → s.revision ≤ r.revision
-  pub last : (p : ℕ) (s : Record) → get_elem? rs p ≡ some s → s.id ≡ id → s.year ≡ r.year → s.revision ≡ r.revision → p ≤ place
+  pub year : (p : ℕ) (s : Record) → slice_get rs p ≡ Some s → s.id ≡ id → s.year ≤ r.year
+  pub revision : (p : ℕ) (s : Record) → slice_get rs p ≡ Some s → s.id ≡ id → s.year ≡ r.year → s.revision ≤ r.revision
+  pub last : (p : ℕ) (s : Record) → slice_get rs p ≡ Some s → s.id ≡ id → s.year ≡ r.year → s.revision ≡ r.revision → p ≤ place
 
 -- year and revision of a record are not below those of another
 abbrev pub NotBelow : Record → Record → Type 0

@@ -1,62 +1,43 @@
-// Records in the bytes of a file. Private helpers; they ask that a place is in the file.
-ghost use Rattle.std.specs.Prelude.{◌≡◌, ◌+◌, ◌*◌, ◌≤◌, length, drop};
+// A record in the bytes of a file. Private helpers; they ask that the bytes are there.
+ghost use Rattle.std.specs.Prelude.{◌≡◌, ◌+◌, ◌≤◌, length};
 ghost use Rattle.archive.specs.Archive.{number_at, record_in, is_whole};
 
 use crate::Record;
 
-// Whether a whole record with its mark begins at a place.
-pub fn is_whole(file: &[u8], at: usize) -> bool
-    requires { at ≤ length file.now }
-    ensures { result ≡ is_whole (drop at file.now) }
+// Whether bytes begin with a whole record with its mark.
+#[tactic(auto, unfolding(crate::specs::Archive::is_whole, cells::specs::Lists::ascii))]
+pub fn is_whole(bytes: &[u8]) -> bool
+    ensures { result ≡ is_whole bytes.now }
 {
-    if file.len() - at < 24 {
-        return false;
-    }
-    if file[at] != b'T' {
-        return false;
-    }
-    file[at + 1] == b'Y'
+    24 <= bytes.len() && bytes[0] == b'T' && bytes[1] == b'Y'
 }
 
-// The number of two bytes, the higher one first.
-fn pair_of(high: u8, low: u8) -> u16
-    ensures { result ≡ high * 256 + low }
+// The number in two bytes, highest byte first.
+fn pair_at(bytes: &[u8], at: usize) -> u16
+    requires { at + 2 ≤ length bytes.now }
+    ensures { result ≡ number_at bytes.now at 2 }
 {
-    (high as u16) * 256 + (low as u16)
-}
-
-// The number in two bytes.
-fn pair_from(file: &[u8], at: usize) -> u16
-    requires { at + 2 ≤ length file.now }
-    ensures { result ≡ number_at file.now at 2 }
-{
-    pair_of(file[at], file[at + 1])
+    u16::from_be_bytes(*bytes[at..].first_chunk().unwrap())
 }
 
 // The number in eight bytes, highest byte first.
-fn word_from(file: &[u8], at: usize) -> u64
-    requires { at + 8 ≤ length file.now }
-    ensures { result ≡ number_at file.now at 8 }
+fn word_at(bytes: &[u8], at: usize) -> u64
+    requires { at + 8 ≤ length bytes.now }
+    ensures { result ≡ number_at bytes.now at 8 }
 {
-    let mut word = 0u64;
-    let mut i = 0;
-    while i < 8 {
-        word = word * 256 + (file[at + i] as u64);
-        i += 1;
-    }
-    word
+    u64::from_be_bytes(*bytes[at..].first_chunk().unwrap())
 }
 
-// The record that begins at a place.
-pub fn record_from(file: &[u8], at: usize) -> Record
-    requires { at + 24 ≤ length file.now }
-    ensures { result ≡ record_in (drop at file.now) }
+// The record that bytes begin with.
+pub fn record_from(bytes: &[u8]) -> Record
+    requires { 24 ≤ length bytes.now }
+    ensures { result ≡ record_in bytes.now }
 {
     Record {
-        id: pair_from(file, at + 2),
-        year: pair_from(file, at + 4),
-        revision: pair_from(file, at + 6),
-        low: word_from(file, at + 16),
-        high: word_from(file, at + 8),
+        id: pair_at(bytes, 2),
+        year: pair_at(bytes, 4),
+        revision: pair_at(bytes, 6),
+        low: word_at(bytes, 16),
+        high: word_at(bytes, 8),
     }
 }

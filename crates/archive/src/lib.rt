@@ -9,15 +9,15 @@
 
 ghost use Rattle.std.specs.Prelude.{◌≡◌, length};
 ghost use Rattle.refusal.specs.Refusal.{verdict_number};
+ghost use Rattle.archive.specs.declared.RecordError.TheVariants.{Broken};
 ghost use Rattle.archive.specs.Archive.{count_records, record_at, current_record, write_record, record_count_answer, record_answer, LeavesOutcome};
 
-use refusal::{Refusal, Verdict};
+use cells::padding::put_padded;
+use refusal::Refusal;
 
 mod bytes;
 mod candidate;
 mod output;
-
-use candidate::Candidate;
 
 // A record of an archive file; its count is two words, low and high.
 #[derive(Clone, Copy, Drop)]
@@ -29,84 +29,80 @@ pub struct Record {
     pub high: u64,
 }
 
-// How many records a file holds, or the place of its earliest broken record (13).
-#[derive(Clone, Copy, Drop)]
-pub enum RecordCount {
-    Number(usize),
-    Broken(usize),
+// A file has a broken record (13); this is the place of the earliest one.
+#[derive(Clone, Copy, PartialEq, Eq, Drop)]
+pub struct BrokenRecord {
+    pub place: usize,
 }
 
-// A record of a file, or the place of its earliest broken record (13), or that there is no such
-// record (14).
-#[derive(Clone, Copy, Drop)]
-pub enum FoundRecord {
-    Is(Record),
+// Why a file gives no record: it has a broken one, the earliest at this place (13), or no such record
+// (14).
+#[derive(Clone, Copy, PartialEq, Eq, Drop)]
+pub enum RecordError {
     Broken(usize),
     Absent,
 }
 
+impl From<BrokenRecord> for RecordError {
+    ghost from_gives = { λ broken error. error ≡ Broken broken.place };
+
+    fn from(broken: BrokenRecord) -> RecordError {
+        RecordError::Broken(broken.place)
+    }
+}
+
 // Writes the 24 bytes of a record, and zeros behind. 8 for an output of fewer bytes, which is left
 // zero.
-pub fn write_record(record: Record, out: &mut [u8]) -> Verdict
+pub fn write_record(record: Record, out: &mut [u8]) -> Result<(), Refusal>
     ensures { LeavesOutcome (write_record «record» (length out.old)) out.old out.new (verdict_number result) }
 {
     if out.len() < 24 {
-        output::clear(out);
-        return Verdict::Refused(Refusal::NoRoom);
+        out.fill(0);
+        return Err(Refusal::NoRoom);
     }
-    output::put_record(out, record);
-    Verdict::Accepted
+    put_padded(out, &output::bytes_of(record), 0);
+    Ok(())
 }
 
 // How many records a file holds. 13, with its place, for the earliest record whose mark is not TY or
 // which is cut short.
-pub fn count_records(file: &[u8]) -> RecordCount
+pub fn count_records(file: &[u8]) -> Result<usize, BrokenRecord>
     ensures { record_count_answer result ≡ count_records file.now }
 {
-    let mut place = 0;
-    let mut at = 0;
-    while at < file.len() {
-        if !bytes::is_whole(file, at) {
-            return RecordCount::Broken(place);
+    let mut count = 0;
+    for bytes in file.chunks(24) {
+        if !bytes::is_whole(bytes) {
+            return Err(BrokenRecord { place: count });
         }
-        at += 24;
-        place += 1;
+        count += 1;
     }
-    RecordCount::Number(place)
+    Ok(count)
 }
 
 // The record at a place, counted from 0. 13 for the file, as above; then 14 where there is no such
 // place.
-pub fn record_at(file: &[u8], place: usize) -> FoundRecord
+pub fn record_at(file: &[u8], place: usize) -> Result<Record, RecordError>
     ensures { record_answer result ≡ record_at file.now place }
 {
-    let count = count_records(file);
-    match count {
-        RecordCount::Number(n) => {
-            if place < n {
-                return FoundRecord::Is(bytes::record_from(file, 24 * place));
-            }
-            FoundRecord::Absent
-        }
-        RecordCount::Broken(broken) => FoundRecord::Broken(broken),
+    let count = count_records(file)?;
+    if place < count {
+        Ok(bytes::record_from(&file[24 * place..]))
+    } else {
+        Err(RecordError::Absent)
     }
 }
 
 // The record of a plot id that counts: the highest year, then the highest revision, then the last in
 // the file. 13 for the file, as above; then 14 where no record has the id.
-pub fn current_record(file: &[u8], id: u16) -> FoundRecord
+pub fn current_record(file: &[u8], id: u16) -> Result<Record, RecordError>
     ensures { record_answer result ≡ current_record file.now id }
 {
-    let mut current = Candidate::Nothing;
-    let mut place = 0;
-    let mut at = 0;
-    while at < file.len() {
-        if !bytes::is_whole(file, at) {
-            return FoundRecord::Broken(place);
+    let mut current = None;
+    for (place, bytes) in file.chunks(24).enumerate() {
+        if !bytes::is_whole(bytes) {
+            return Err(RecordError::Broken(place));
         }
-        current = candidate::current_of(current, bytes::record_from(file, at), id);
-        at += 24;
-        place += 1;
+        current = candidate::current_of(current, bytes::record_from(bytes), id);
     }
-    candidate::told(current)
+    current.ok_or(RecordError::Absent)
 }

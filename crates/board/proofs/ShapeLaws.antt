@@ -1,13 +1,12 @@
 -- What the tests and loops of `shape` come to: the marks of a shape, the test of a board and the count of its free cells.
 -- Rests on the laws of boards. Assumes nothing.
 use mathlib.Core.Path.{◌≡◌, refl, sym, ap, ◌∙◌}
-use mathlib.Core.Bool.{Bool, true, false, cond, or-true, or-false}
+use mathlib.Core.Bool.{Bool, true, false, not, cond, ◌&&◌, ◌||◌}
 use Prim.Native.Nat.{ℕ, ◌+◌, ◌*◌, ◌/◌, ◌%◌, ◌^◌, ◌≤◌, ◌<◌}
 use native.Mathlib.Nat.{zero-mul, add-zero}
 use native.Mathlib.Numerals.{add-one}
 use native.Mathlib.Omega.{arith}
 use borrow.Author.Tests.{lt-ltb, le-ltb}
-use lib.Dec.{leb}
 use Rattle.cells.specs.Set.{has_cell, from_bits, set_of, with_cell, size_below, size}
 use Rattle.cells.specs.Lists.{all_below}
 use Rattle.cells.specs.BitLaws.{bit_high, bit_from_bits, from_bits_lt}
@@ -15,26 +14,6 @@ use Rattle.cells.specs.SetLaws.{digit}
 use Rattle.rectangle.specs.Board.{Board, position_of, inside, is_marked, free_at, is_free, free_set, free_count, size_ok, mark_ok, valid}
 use Rattle.rectangle.proofs.BoardLaws.{cell_of_position_of}
 use Rattle.board.specs.Board.{shape_mark}
-
--- ---- the marks of a shape
-
-module _ (w h rows low high cell : ℕ) where
-  pub shape_outside : inside w h (position_of cell) ≡ false → false ≡ shape_mark w h rows low high cell
-  unfolding shape_mark
-  shape_outside e = rw e
-
-  module _ (e : inside w h (position_of cell) ≡ true) where
-    pub shape_under : rows ≤ cell / 16 → false ≡ shape_mark w h rows low high cell
-    unfolding shape_mark
-    shape_under l = rw (e, le-ltb (cell / 16) rows l)
-
-    pub shape_low : cell / 16 < rows → cell % 16 < low → true ≡ shape_mark w h rows low high cell
-    unfolding shape_mark
-    shape_low l k = rw (e, lt-ltb (cell / 16) rows l, lt-ltb (cell % 16) low k)
-
-    pub shape_high : cell / 16 < rows → low ≤ cell % 16 → leb high (cell % 16) ≡ shape_mark w h rows low high cell
-    unfolding shape_mark
-    shape_high l k = rw (e, lt-ltb (cell / 16) rows l, le-ltb (cell % 16) low k)
 
 -- ---- a set that is filled in the order of its cells
 
@@ -51,32 +30,13 @@ module _ (test : ℕ → Bool) where
   more i h true = rw (lt-ltb i 256 h, bit_high i (from_bits i bits) i (from_bits_lt bits (λ c. digit (test c)) i) (omega arith))
   more i h false = sym (ap (λ (k : ℕ). from_bits i bits + k) (zero-mul (2 ^ i)) ∙ add-zero (from_bits i bits))
 
-  pub filled_more : (n m i : ℕ) (t : Bool) → i < 256 → n ≡ from_bits i bits → t ≡ test i → m ≡ cond t (with_cell n i) n → m ≡ from_bits (i + 1) bits
+  pub filled_more : (n m i : ℕ) → i < 256 → n ≡ from_bits i bits → m ≡ cond (test i) (with_cell n i) n → m ≡ from_bits (i + 1) bits
   unfolding from_bits bits
-  filled_more n m i t h e f g = g ∙ rw (e, f, add-one) (more i h (test i))
+  filled_more n m i h e g = g ∙ rw (e, add-one) (more i h (test i))
 
   pub filled_all : (n i : ℕ) → n ≡ from_bits i bits → i ≤ 256 → 256 ≤ i → n ≡ set_of test
   unfolding set_of bits
   filled_all n i e l k = let q : i ≡ 256 = omega arith in e ∙ ap (λ (j : ℕ). from_bits j bits) q
-
--- ---- the test of a cell's marks
-
-module _ (b : Board) (cell : ℕ) where
-  pub mark_both : has_cell b.fixed cell ≡ true → has_cell b.laid cell ≡ true → false ≡ mark_ok b cell
-  unfolding mark_ok
-  mark_both e f = rw (e, f)
-
-  pub mark_fixed : has_cell b.fixed cell ≡ true → has_cell b.laid cell ≡ false → inside b.width b.height (position_of cell) ≡ mark_ok b cell
-  unfolding mark_ok is_marked
-  mark_fixed e f = rw (e, f) (sym (or-false (inside b.width b.height (position_of cell))))
-
-  pub mark_laid : has_cell b.fixed cell ≡ false → has_cell b.laid cell ≡ true → inside b.width b.height (position_of cell) ≡ mark_ok b cell
-  unfolding mark_ok is_marked
-  mark_laid e f = rw (e, f) (sym (or-false (inside b.width b.height (position_of cell))))
-
-  pub mark_none : has_cell b.fixed cell ≡ false → has_cell b.laid cell ≡ false → true ≡ mark_ok b cell
-  unfolding mark_ok is_marked
-  mark_none e f = rw (e, f) (sym (or-true (inside b.width b.height (position_of cell))))
 
 -- ---- the whole test
 
@@ -94,33 +54,24 @@ all_below_end p i e l k = let q : i ≡ 256 = omega arith in sym e ∙ ap (all_b
 
 -- ---- the count of the free cells
 
-module _ (b : Board) (cell : ℕ) where
-  pub free_outside : inside b.width b.height (position_of cell) ≡ false → ◌≡◌ {A = ℕ} 0 (cond (is_free b cell) 1 0)
-  unfolding is_free free_at
-  free_outside e = rw e
-
-  module _ (e : inside b.width b.height (position_of cell) ≡ true) where
-    pub free_fixed : has_cell b.fixed cell ≡ true → ◌≡◌ {A = ℕ} 0 (cond (is_free b cell) 1 0)
-    unfolding is_free free_at is_marked
-    free_fixed f = rw (e, cell_of_position_of cell, f)
-
-    pub free_laid : has_cell b.fixed cell ≡ false → has_cell b.laid cell ≡ true → ◌≡◌ {A = ℕ} 0 (cond (is_free b cell) 1 0)
-    unfolding is_free free_at is_marked
-    free_laid f g = rw (e, cell_of_position_of cell, f, g)
-
-    pub free_none : has_cell b.fixed cell ≡ false → has_cell b.laid cell ≡ false → ◌≡◌ {A = ℕ} 1 (cond (is_free b cell) 1 0)
-    unfolding is_free free_at is_marked
-    free_none f g = rw (e, cell_of_position_of cell, f, g)
+pub free_is : (b : Board) (cell : ℕ) → ((inside b.width b.height (position_of cell) && not (has_cell b.fixed cell)) && not (has_cell b.laid cell)) ≡ is_free b cell
+unfolding is_free free_at is_marked
+free_is b cell = rw cell_of_position_of (go (inside b.width b.height (position_of cell)) (has_cell b.fixed cell) (has_cell b.laid cell))
+  where
+    go : (i f l : Bool) → ((i && not f) && not l) ≡ (i && not (f || l))
+    go true true l = refl
+    go true false l = refl
+    go false f l = refl
 
 module _ (b : Board) where
   pub counted_none : 0 ≡ size_below 0 (free_set b)
   unfolding size_below
   counted_none = refl
 
-  pub counted_more : (n m i : ℕ) → i < 256 → n ≡ size_below i (free_set b) → m ≡ cond (is_free b i) 1 0 → n + m ≡ size_below (i + 1) (free_set b)
+  pub counted_more : (n m i : ℕ) → i < 256 → n ≡ size_below i (free_set b) → m ≡ n + cond (is_free b i) 1 0 → m ≡ size_below (i + 1) (free_set b)
   unfolding size_below free_set set_of
   counted_more n m i h e f =
-      rw (add-one, e, f) (ap (λ (k : ℕ). size_below i (free_set b) + k) (sym (bit_from_bits (λ cell. cond (is_free b cell) 1 0) (λ c. digit (is_free b c)) 256 i h)))
+      f ∙ rw (add-one, e) (ap (λ (k : ℕ). size_below i (free_set b) + k) (sym (bit_from_bits (λ cell. cond (is_free b cell) 1 0) (λ c. digit (is_free b c)) 256 i h)))
 
   pub counted_all : (n i : ℕ) → n ≡ size_below i (free_set b) → i ≤ 256 → 256 ≤ i → n ≡ free_count b
   unfolding free_count size

@@ -1,17 +1,13 @@
 -- Definitions: what the struct of the code stands for, which of them are accepted, and the boards that are made. What stands in quotation marks is
 -- 01's, from its section Boards, or 02's, from its request 2. Assumes nothing.
-use Rattle.std.specs.Prelude.{◌≡◌, Bool, cond, ◌&&◌, ◌||◌, ℕ, ◌+◌, ◌*◌, ◌/◌, ◌%◌, pos, ltb, leb}
+use Rattle.std.specs.Prelude.{◌≡◌, Result, Bool, cond, ◌&&◌, ◌||◌, ℕ, ◌+◌, ◌*◌, ◌/◌, ◌%◌, pos, ltb, leb}
 use Rattle.cells.specs.declared.Cells.{Cells}
 use Rattle.cells.specs.Set.{set_of, with_cell, number}
-use Rattle.refusal.specs.Refusal.{Answer, refused, given, bind_answer, refusal_of, value_or, verdict_number, refusal_number}
+use Rattle.refusal.specs.declared.Refusal.{Refusal}
+use Rattle.refusal.specs.Refusal.{Answer, refused, given, bind_answer, map_answer, answer_of}
 use Rattle.direction.specs.Direction.{Position, at}
 use Rattle.rectangle.specs.Board.{Board, inside, no_board, cell_of, position_of, free_at, size_ok, accept_board}
 use Rattle.board.specs.declared.RectangularBoard.{RectangularBoard}
-use Rattle.board.specs.declared.MadeBoard.{MadeBoard}
-use Rattle.board.specs.declared.FreeCells.{FreeCells}
-use Rattle.board.specs.declared.FreeCells.TheVariants as F
-use Rattle.board.specs.declared.AllMarked.{AllMarked}
-use Rattle.board.specs.declared.AllMarked.TheVariants as M
 
 -- the board that the struct stands for
 abbrev pub board_of : RectangularBoard → Board
@@ -70,17 +66,6 @@ with_hole b row column =
 
 -- ---- the answers of the code
 
--- a made board: the refusal's number, 0 for none, and the board; a refusal hands back the 0 by 0 board
-pub record MakesBoard (a : Answer Board) (r : MadeBoard) : Type 0 where
-  pub verdict : verdict_number r.verdict ≡ refusal_of a
-  pub board : board_of r.board ≡ value_or no_board a
-
--- what `free_cells` answers
-abbrev pub free_cells_answer : FreeCells → Answer ℕ
-free_cells_answer (F.Number n) = given n
-free_cells_answer (F.Refused r) = refused (refusal_number r)
-
--- what `is_all_marked` answers
-abbrev pub all_marked_answer : AllMarked → Answer Bool
-all_marked_answer (M.Is b) = given b
-all_marked_answer (M.Refused r) = refused (refusal_number r)
+-- a made board, or the refusal
+abbrev pub MakesBoard : Answer Board → Result RectangularBoard Refusal → Type 0
+MakesBoard a r = map_answer board_of (answer_of r) ≡ a

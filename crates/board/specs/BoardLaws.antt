@@ -1,5 +1,6 @@
 -- Laws of the struct: the struct of a board, which boards are accepted, what the test of a board tells, that every board that is made is accepted, and
 -- the board of some marks. Rests on `Board` and on the laws of boards by their numbers. Assumes nothing.
+use Rattle.std.specs.Prelude.{Err, Ok, Result, ⊤}
 use Rattle.std.proofs.Math.Path.{◌≡◌, refl, ap}
 use Rattle.std.proofs.Common.{sym, ap₂, ◌∙◌, arith}
 use Rattle.std.specs.Prelude.{Bool, ◌&&◌, ◌||◌, ℕ, ◌/◌, ◌%◌, ◌^◌, ◌<◌, ltb}
@@ -13,8 +14,6 @@ use Rattle.cells.specs.ArrayLaws.{all_below_all}
 use Rattle.refusal.specs.Refusal.{refusal_number, refused, given, refusal_of, verdict_number}
 use Rattle.refusal.specs.RefusalLaws.{refused_of}
 use Rattle.refusal.specs.declared.Refusal.{Refusal}
-use Rattle.refusal.specs.declared.Verdict.{Verdict}
-use Rattle.refusal.specs.declared.Verdict.TheVariants as Verdicts
 use Rattle.rectangle.specs.Board.{board_at, Board, position_of, inside, is_marked, size_ok, mark_ok, valid}
 use Rattle.rectangle.proofs.BoardLaws.{accept_board_given, accept_board_refused, accept_board_accepted, accept_board_is, accept_board_positive}
 use Rattle.board.specs.declared.RectangularBoard.{RectangularBoard}
@@ -56,11 +55,11 @@ module _ (b : RectangularBoard) where
   read_board_positive n e = accept_board_positive (board_of b) n e
 
   -- what the test of a board tells: its verdict v has the refusal's number, which whoever asks hands on
-  module _ (v : Verdict) (e : verdict_number v ≡ refusal_of (read_board b)) where
-    pub check_accepted : v ≡ Verdicts.Accepted → valid (board_of b) ≡ true
+  module _ (v : Result ⊤ Refusal) (e : verdict_number v ≡ refusal_of (read_board b)) where
+    pub check_accepted : v ≡ Ok tt → valid (board_of b) ≡ true
     check_accepted q = read_board_accepted (sym (ap verdict_number q) ∙ e)
 
-    pub check_refused : (r : Refusal) → v ≡ Verdicts.Refused r → read_board b ≡ refused (refusal_number r)
+    pub check_refused : (r : Refusal) → v ≡ Err r → read_board b ≡ refused (refusal_number r)
     check_refused r q = refused_of (read_board b) r (sym (ap verdict_number q) ∙ e)
 
 -- ---- a board that is made is accepted: its fixed marks are inside the rectangle, and it has no laid ones

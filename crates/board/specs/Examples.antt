@@ -1,15 +1,12 @@
 -- The definitions compute: the sizes that 01's section Boards names, line by line, the holes of 02's request 2, and which structs are accepted. Assumes nothing.
-use Rattle.std.specs.Prelude.{◌≡◌, refl, true, List, [], ◌∷◌, ◌++◌, map, ℕ, ◌+◌, ◌-◌, ◌*◌, ◌/◌, ◌^◌, pos, replicate}
+use Rattle.std.specs.Prelude.{◌≡◌, refl, Ok, Err, Bool, true, List, [], ◌∷◌, ◌++◌, map, ℕ, ◌+◌, ◌-◌, ◌*◌, ◌/◌, ◌^◌, pos, replicate}
 use Rattle.cells.specs.declared.Cells.{Cells}
 use Rattle.cells.specs.Set.{number}
-use Rattle.refusal.specs.Refusal.{Answer, refused, given, map_answer, bind_answer, refusal_of, value_or}
+use Rattle.refusal.specs.Refusal.{Answer, refused, given, map_answer, bind_answer, answer_of}
 use Rattle.direction.specs.Direction.{at}
 use Rattle.refusal.specs.declared.Refusal.TheVariants as R
-use Rattle.refusal.specs.declared.Verdict.TheVariants as Verdicts
-use Rattle.board.specs.declared.FreeCells.TheVariants as F
-use Rattle.board.specs.declared.AllMarked.TheVariants as M
 use Rattle.rectangle.specs.Board.{Board, no_board}
-use Rattle.board.specs.Board.{board_of, of_marks, new_board, l_board, t_board, fix_at, with_hole, read_board, MakesBoard, free_cells_answer, all_marked_answer}
+use Rattle.board.specs.Board.{board_of, of_marks, new_board, l_board, t_board, fix_at, with_hole, read_board, MakesBoard}
 
 -- ---- sizes: width, height and fixed marks
 
@@ -100,15 +97,15 @@ accepted = (refl, refl)
 -- ---- the answers of the code
 
 -- a board that is made
-made : MakesBoard (new_board 3 2) (record { verdict = Verdicts.Accepted; board = of_marks 3 2 (word 0) (word 0) })
-unfolding new_board refusal_of value_or number
-made = record { verdict = refl; board = refl }
+made : MakesBoard (new_board 3 2) (Ok (of_marks 3 2 (word 0) (word 0)))
+unfolding new_board map_answer number
+made = refl
 
--- a refusal hands back "a 0 by 0 board"
-made_refused : MakesBoard (new_board 17 2) (record { verdict = Verdicts.Refused R.BadBoard; board = of_marks 0 0 (word 0) (word 0) })
-unfolding new_board refusal_of value_or number
-made_refused = record { verdict = refl; board = refl }
+-- a refusal
+made_refused : MakesBoard (new_board 17 2) (Err R.BadBoard)
+unfolding new_board map_answer
+made_refused = refl
 
 -- a number or a test, or the refusal's number
-answers : (free_cells_answer (F.Number 3) ≡ given 3) × (free_cells_answer (F.Refused R.BadBoard) ≡ refused 4) × (all_marked_answer (M.Is true) ≡ given true) × (all_marked_answer (M.Refused R.BadBoard) ≡ refused 4)
-answers = (refl, refl, refl, refl)
+answers : (map (answer_of {A = ℕ}) (Ok 3 ∷ Err R.BadBoard ∷ []) ≡ given 3 ∷ refused 4 ∷ []) × (map (answer_of {A = Bool}) (Ok true ∷ Err R.BadBoard ∷ []) ≡ given true ∷ refused 4 ∷ [])
+answers = (refl, refl)

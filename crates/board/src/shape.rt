@@ -12,6 +12,7 @@ use cells::Cells;
 
 // Whether a cell of the rectangle is in the first rows, and in a column below one or from another
 // on.
+#[tactic(auto, unfolding(crate::specs::Board::shape_mark))]
 fn is_shape_mark(
     width: usize,
     height: usize,
@@ -22,26 +23,9 @@ fn is_shape_mark(
 ) -> bool
     ensures { result ≡ shape_mark width height rows low high cell }
 {
-    if !rectangle::is_inside(width, height, cell) {
-        return false;
-    }
-    if rows <= cell / 16 {
-        return false;
-    }
-    if cell % 16 < low {
-        return true;
-    }
-    high <= cell % 16
-}
-
-// The set, with the cell if the test holds.
-fn with_cell_if(set: Cells, cell: usize, test: bool) -> Cells
-    ensures { number result ≡ cond test (with_cell (number set) cell) (number set) }
-{
-    if test {
-        return set.with_cell(cell);
-    }
-    set
+    rectangle::is_inside(width, height, cell)
+        && cell / 16 < rows
+        && (cell % 16 < low || high <= cell % 16)
 }
 
 // The marks of a shape.
@@ -49,47 +33,32 @@ pub fn shape_marks(width: usize, height: usize, rows: usize, low: usize, high: u
     ensures { number result ≡ set_of (shape_mark width height rows low high) }
 {
     let mut set = Cells::of_words(0, 0, 0, 0);
-    let mut cell: usize = 0;
-    while cell < 256 {
-        set = with_cell_if(
-            set,
-            cell,
-            is_shape_mark(width, height, rows, low, high, cell),
-        );
-        cell += 1;
+    for cell in 0..256 {
+        if is_shape_mark(width, height, rows, low, high, cell) {
+            set = set.with_cell(cell);
+        }
     }
     set
 }
 
 // Whether a cell has at most one kind of mark, and none outside the rectangle.
+#[tactic(auto, unfolding(rectangle::specs::Board::mark_ok, rectangle::specs::Board::is_marked))]
 fn mark_ok(board: RectangularBoard, cell: usize) -> bool
     ensures { result ≡ mark_ok (board_of board) cell }
 {
-    let fixed = board.fixed;
-    let laid = board.laid;
-    let inside = rectangle::is_inside(board.width, board.height, cell);
-    if fixed.has_cell(cell) {
-        if laid.has_cell(cell) {
-            return false;
-        }
-        return inside;
-    }
-    if laid.has_cell(cell) {
-        return inside;
-    }
-    true
+    let fixed = board.fixed.has_cell(cell);
+    let laid = board.laid.has_cell(cell);
+    !(fixed && laid) && (rectangle::is_inside(board.width, board.height, cell) || !(fixed || laid))
 }
 
 // Whether that holds of every cell.
 fn marks_ok(board: RectangularBoard) -> bool
     ensures { result ≡ all_below (mark_ok (board_of board)) 256 }
 {
-    let mut cell: usize = 0;
-    while cell < 256 {
+    for cell in 0..256 {
         if !mark_ok(board, cell) {
             return false;
         }
-        cell += 1;
     }
     true
 }
@@ -98,39 +67,27 @@ fn marks_ok(board: RectangularBoard) -> bool
 pub fn is_ok(board: RectangularBoard) -> bool
     ensures { result ≡ valid (board_of board) }
 {
-    if !rectangle::size_ok(board.width, board.height) {
-        return false;
-    }
-    marks_ok(board)
+    rectangle::size_ok(board.width, board.height) && marks_ok(board)
 }
 
-// 1 for a free cell, else 0.
-fn free_mark(board: RectangularBoard, cell: usize) -> usize
-    ensures { (result ≡ cond (is_free (board_of board) cell) 1 0) × (result ≤ 1) }
+// Whether a cell is free.
+fn is_free(board: RectangularBoard, cell: usize) -> bool
+    ensures { result ≡ is_free (board_of board) cell }
 {
-    let fixed = board.fixed;
-    let laid = board.laid;
-    if !rectangle::is_inside(board.width, board.height, cell) {
-        return 0;
-    }
-    if fixed.has_cell(cell) {
-        return 0;
-    }
-    if laid.has_cell(cell) {
-        return 0;
-    }
-    1
+    rectangle::is_inside(board.width, board.height, cell)
+        && !board.fixed.has_cell(cell)
+        && !board.laid.has_cell(cell)
 }
 
 // The number of free cells.
 pub fn free_count(board: RectangularBoard) -> usize
     ensures { result ≡ free_count (board_of board) }
 {
-    let mut n: usize = 0;
-    let mut cell: usize = 0;
-    while cell < 256 {
-        n += free_mark(board, cell);
-        cell += 1;
+    let mut n = 0;
+    for cell in 0..256 {
+        if is_free(board, cell) {
+            n += 1;
+        }
     }
     n
 }

@@ -3,17 +3,21 @@
 use mathlib.Core.Path.{◌≡◌, refl, sym, ap, ◌∙◌}
 use mathlib.Core.Bool.{Bool, cond}
 use mathlib.Core.List.{List}
-use Prim.Native.Nat.{ℕ, suc, ◌+◌, ◌*◌, ◌/◌, ◌≤◌, ◌<◌}
+use Prim.Native.Nat.{ℕ, suc, ◌+◌, ◌-◌, ◌*◌, ◌/◌, ◌≤◌, ◌<◌}
 use native.Mathlib.Omega.{arith}
+use borrow.Author.Rules.{rules}
+use borrow.Rule.Slice.PartMut.{put_mid}
+use Rattle.std.proofs.lemmas.List.{places}
+use Rattle.std.proofs.Math.Decide.{dec_lt}
 use borrow.Author.Tests.{lt-ltb, le-ltb}
 use lib.Dec.{eqb, ltb}
-use lib.ListN.{length, get_or, set}
+use lib.ListN.{length, get_or, set, take, replicate}
 use Rattle.cells.specs.declared.Cells.{Cells}
 use Rattle.cells.specs.Set.{number, Sound}
 use Rattle.cells.specs.Lists.{set_at}
 use Rattle.cells.specs.Parts.{with_set, cleared_from}
 use Rattle.cells.specs.WordLaws.{words_of_number}
-use Rattle.cells.specs.ArrayLaws.{Filled, filled_start, filled_end}
+use Rattle.cells.specs.ArrayLaws.{list_of_eta}
 use Rattle.cells.specs.ListLaws.{with_set_lent}
 
 -- ---- the search for a set
@@ -34,12 +38,25 @@ with_set_words ws i s h l =
 
 -- ---- zeros from a word on
 
-pub cleared_end : (ws xs : List ℕ) (from i : ℕ) → Filled 0 (λ k. cond (ltb k from) (get_or ws k 0) 0) (λ k. get_or ws k 0) (length ws) i xs → length ws ≤ i → xs ≡ cleared_from from ws
+pub cleared_none : (ws : List ℕ) (from : ℕ) → length ws ≤ from → ws ≡ cleared_from from ws
 unfolding cleared_from
-cleared_end ws xs from i h e = filled_end 0 (λ k. cond (ltb k from) (get_or ws k 0) 0) (λ k. get_or ws k 0) (length ws) i xs h (λ k a b. absurd (omega arith))
+cleared_none ws from h = list_of_eta 0 ws (λ k. cond (ltb k from) (get_or ws k 0) 0) (length ws) refl (λ k l. rw (lt-ltb k from (omega arith)))
 
-pub cleared_start : (ws : List ℕ) (from : ℕ) → Filled 0 (λ k. cond (ltb k from) (get_or ws k 0) 0) (λ k. get_or ws k 0) (length ws) from ws
-cleared_start ws from = filled_start 0 (λ k. cond (ltb k from) (get_or ws k 0) 0) (λ k. get_or ws k 0) (length ws) from ws refl (λ k h. refl) (λ k h. rw (lt-ltb k from h))
+-- zeros written behind a place
+pub cleared_filled : (ws ys : List ℕ) (from : ℕ) → from < length ws → ys ≡ replicate (length ws - from) 0
+    → put_mid from (length ws - from) ws ys ≡ cleared_from from ws
+unfolding cleared_from
+cleared_filled ws ys from h e =
+    list_of_eta 0 (put_mid from (length ws - from) ws ys) (λ k. cond (ltb k from) (get_or ws k 0) 0) (length ws)
+    (search (rules, places, e, h))
+    (λ k l. go k l (dec_lt k from))
+  where
+    long : length (take from ws) ≡ from
+    long = search (rules, places, h)
 
-pub cleared_zero : (from i : ℕ) (x : ℕ) → from ≤ i → 0 ≡ cond (ltb i from) x 0
-cleared_zero from i x h = rw (le-ltb i from h)
+    zero_at : (k : ℕ) → from ≤ k → k < length ws → get_or (put_mid from (length ws - from) ws ys) k 0 ≡ 0
+    zero_at k a b = rw e (search (rules, places, a, b, h))
+
+    go : (k : ℕ) → k < length ws → Dec (k < from) → get_or (put_mid from (length ws - from) ws ys) k 0 ≡ cond (ltb k from) (get_or ws k 0) 0
+    go k l (yes a) = rw (lt-ltb k from a) (search (rules, places, a, h))
+    go k l (no a) = let b : from ≤ k = omega arith in rw (le-ltb k from b) (zero_at k b l)

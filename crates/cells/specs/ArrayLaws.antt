@@ -1,5 +1,5 @@
 -- Laws of lists given by their elements, and of the two loops that make and test them: an array that is filled in order (`Filled`), and a test
--- of every number below n. Rests on `Lists` and `lib.Seq`. Assumes nothing.
+-- of every number below n. Rests on `Lists`. Assumes nothing.
 use Rattle.std.specs.Prelude.{◌≡◌, Bool, true, false, ◌&&◌, ◌||◌, length, get_or, set, replicate}
 use Rattle.std.proofs.Math.Path.{refl, ap, ap₂}
 use Rattle.std.proofs.Common.{sym, ◌∙◌, subst, add-zero, zero-add, mul-zero, mul-suc, add-one, length-append, length-set, ext_get_or, get_or-set_same, get_or-set_other}

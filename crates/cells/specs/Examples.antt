@@ -1,6 +1,6 @@
 -- Examples of the definitions, by computation.
 use Rattle.std.specs.Prelude.{◌≡◌, refl, true, false, [], ◌∷◌, ◌+◌, ◌*◌, ◌^◌, eqb, leb, ltb}
-use Rattle.std.proofs.Math.Option.{none, some}
+use Rattle.std.specs.Prelude.{None, Some}
 use Rattle.cells.specs.Set.{has_cell, set_of, with_cell, union_of, size, value, words_of, number}
 use Rattle.cells.specs.Parts.{shares_cell, find_set, with_set, cleared_from}
 use Rattle.cells.specs.Lists.{all_below, any, holds, firsts, set_at, words_for}
@@ -94,9 +94,9 @@ unfolding words_for
 lists_stored = refl
 
 -- the sets 3, 5, 3: the first equal one; from 1 on; up to 2; and as many as are lent
-found : (find_set (3 ∷ 0 ∷ 0 ∷ 0 ∷ 5 ∷ 0 ∷ 0 ∷ 0 ∷ 3 ∷ 0 ∷ 0 ∷ 0 ∷ []) 0 3 3 ≡ some 0)
-    × (find_set (3 ∷ 0 ∷ 0 ∷ 0 ∷ 5 ∷ 0 ∷ 0 ∷ 0 ∷ 3 ∷ 0 ∷ 0 ∷ 0 ∷ []) 1 9 3 ≡ some 2)
-    × (find_set (3 ∷ 0 ∷ 0 ∷ 0 ∷ 5 ∷ 0 ∷ 0 ∷ 0 ∷ 3 ∷ 0 ∷ 0 ∷ 0 ∷ []) 1 2 3 ≡ none)
-    × (find_set (3 ∷ 0 ∷ 0 ∷ 0 ∷ 5 ∷ 0 ∷ 0 ∷ 0 ∷ 3 ∷ 0 ∷ 0 ∷ 0 ∷ []) 0 9 0 ≡ none)
+found : (find_set (3 ∷ 0 ∷ 0 ∷ 0 ∷ 5 ∷ 0 ∷ 0 ∷ 0 ∷ 3 ∷ 0 ∷ 0 ∷ 0 ∷ []) 0 3 3 ≡ Some 0)
+    × (find_set (3 ∷ 0 ∷ 0 ∷ 0 ∷ 5 ∷ 0 ∷ 0 ∷ 0 ∷ 3 ∷ 0 ∷ 0 ∷ 0 ∷ []) 1 9 3 ≡ Some 2)
+    × (find_set (3 ∷ 0 ∷ 0 ∷ 0 ∷ 5 ∷ 0 ∷ 0 ∷ 0 ∷ 3 ∷ 0 ∷ 0 ∷ 0 ∷ []) 1 2 3 ≡ None)
+    × (find_set (3 ∷ 0 ∷ 0 ∷ 0 ∷ 5 ∷ 0 ∷ 0 ∷ 0 ∷ 3 ∷ 0 ∷ 0 ∷ 0 ∷ []) 0 9 0 ≡ None)
 unfolding find_set
 found = (refl, refl, refl, refl)

@@ -9,6 +9,7 @@ pub mod WordLaws
 pub mod FirstsLaws
 pub mod ArrayLaws
 pub mod ListLaws
+pub mod OptionLaws
 pub mod SearchLaws
 pub mod MemberLaws
 pub mod Examples

@@ -2,26 +2,19 @@
 -- of a call outside this crate cites them. Assumes nothing.
 use Rattle.std.specs.Prelude.{Bool, not, cond, ℕ, zero, suc, ◌-◌, ◌*◌, ◌/◌, min, eqb, ltb, List, get_or, length}
 use Rattle.cells.specs.Set.{bit, from_bits, words_of}
-use Rattle.std.proofs.Math.Option.{Option, none, some}
+use Rattle.std.specs.Prelude.{Option, None, Some}
 use Rattle.std.proofs.lemmas.List.Edits.{sets}
-use Rattle.cells.specs.declared.list.Found.{Found}
 use Rattle.cells.specs.Lists.{list_of, set_at}
-use Rattle.cells.specs.declared.list.Found.TheVariants as F
 
 -- the first of count places from i on of which a test holds
 unfoldable pub first_from : (ℕ → Bool) → ℕ → ℕ → Option ℕ
-first_from test i zero = none
-first_from test i (suc count) = cond (test i) (some i) (first_from test (suc i) count)
+first_from test i zero = None
+first_from test i (suc count) = cond (test i) (Some i) (first_from test (suc i) count)
 
 -- the first set equal to n among the sets from..to, or among as many of them as are lent (01: "lent slices searched for an equal board")
 unfoldable pub find_set : List ℕ → ℕ → ℕ → ℕ → Option ℕ
 unfolding first_from set_at
 find_set ws from to n = first_from (λ i. eqb (set_at ws i) n) from (min to (length ws / 4) - from)
-
--- what `list::find` answers
-abbrev pub found_answer : Found → Option ℕ
-found_answer (F.At i) = some i
-found_answer F.Nothing = none
 
 -- the words with n for set i; as they were where its four words are not all lent
 unfoldable pub with_set : List ℕ → ℕ → ℕ → List ℕ

@@ -3,7 +3,7 @@
 use Rattle.std.specs.Prelude.{◌≡◌, true, false, List, [], ◌∷◌, length}
 use Rattle.std.proofs.Math.Path.{refl, sym, ap, subst}
 use Rattle.std.proofs.Common.{ap₂, ◌∙◌, one-mul, lit<, pow_pos, pow-add, shl_exact, get_or-set_same, get_or-set_other}
-use Rattle.std.proofs.Math.Bool.{not}
+use Rattle.std.proofs.Math.Bool.{not, ◌&&◌}
 use Prim.Native.Nat.{ℕ, zero, suc, ◌+◌, ◌-◌, ◌*◌, ◌/◌, ◌%◌, ◌^◌, ◌≤◌, ◌<◌, min, max}
 use Rattle.std.proofs.Math.Decide.{ℕ_discrete, dec_lt}
 use native.Mathlib.Omega.{arith}
@@ -189,6 +189,17 @@ module _ (s t : Cells) (hs : Sound s) (ht : Sound t) where
       go : Dec (s.w3 ≡ t.w3) → eqb s.w3 t.w3 ≡ eqb (number s) (number t)
       go (yes e) = eq-eqb s.w3 t.w3 e ∙ sym (eq-eqb (number s) (number t) (ap value (λ i. p i ∷ q i ∷ r i ∷ e i ∷ [])))
       go (no n) = ne_eqb s.w3 t.w3 n ∙ eqb_word 3 n
+
+  -- so they are equal where all their words are
+  pub eqb_words : (eqb s.w0 t.w0 && (eqb s.w1 t.w1 && (eqb s.w2 t.w2 && eqb s.w3 t.w3))) ≡ eqb (number s) (number t)
+  eqb_words = go (ℕ_discrete s.w0 t.w0) (ℕ_discrete s.w1 t.w1) (ℕ_discrete s.w2 t.w2)
+    where
+      go : Dec (s.w0 ≡ t.w0) → Dec (s.w1 ≡ t.w1) → Dec (s.w2 ≡ t.w2)
+          → (eqb s.w0 t.w0 && (eqb s.w1 t.w1 && (eqb s.w2 t.w2 && eqb s.w3 t.w3))) ≡ eqb (number s) (number t)
+      go (no n) f g = rw (ne_eqb s.w0 t.w0 n, eqb_word 0 n)
+      go (yes e) (no n) g = rw (eq-eqb s.w0 t.w0 e, ne_eqb s.w1 t.w1 n, eqb_word 1 n)
+      go (yes e) (yes f) (no n) = rw (eq-eqb s.w0 t.w0 e, eq-eqb s.w1 t.w1 f, ne_eqb s.w2 t.w2 n, eqb_word 2 n)
+      go (yes e) (yes f) (yes g) = rw (eq-eqb s.w0 t.w0 e, eq-eqb s.w1 t.w1 f, eq-eqb s.w2 t.w2 g, eqb_last e f g)
 
 -- the set with a number, by its four words
 abbrev pub cells_of : ℕ → Cells

@@ -10,9 +10,10 @@ ghost use Rattle.cells.specs.Set.{has_cell, with_cell, union_of, value, number};
 ghost use Rattle.cells.specs.Parts.{shares_cell};
 
 pub mod list;
+pub mod padding;
 
 // The four words, the lowest first.
-#[derive(Clone, Copy, Drop)]
+#[derive(Clone, Copy, PartialEq, Eq, Drop)]
 pub struct Cells {
     pub w0: u64,
     pub w1: u64,
@@ -48,10 +49,10 @@ impl Cells {
     {
         let one = 1 << (cell % 64);
         match cell / 64 {
-            0 => self.w0 = self.w0 | one,
-            1 => self.w1 = self.w1 | one,
-            2 => self.w2 = self.w2 | one,
-            3 => self.w3 = self.w3 | one,
+            0 => self.w0 |= one,
+            1 => self.w1 |= one,
+            2 => self.w2 |= one,
+            3 => self.w3 |= one,
             _ => {}
         }
         self
@@ -90,15 +91,6 @@ impl Cells {
     pub fn equal(self, other: Cells) -> bool
         ensures { result ≡ eqb (number self) (number other) }
     {
-        if self.w0 != other.w0 {
-            return false;
-        }
-        if self.w1 != other.w1 {
-            return false;
-        }
-        if self.w2 != other.w2 {
-            return false;
-        }
-        self.w3 == other.w3
+        self == other
     }
 }

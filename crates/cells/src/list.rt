@@ -4,16 +4,9 @@
 ghost use Rattle.std.specs.Prelude.{◌≡◌};
 ghost use Rattle.cells.specs.Set.{number};
 ghost use Rattle.cells.specs.Lists.{set_at};
-ghost use Rattle.cells.specs.Parts.{find_set, found_answer, with_set, cleared_from};
+ghost use Rattle.cells.specs.Parts.{find_set, with_set, cleared_from};
 
 use crate::Cells;
-
-// The place of a set.
-#[derive(Clone, Copy, Drop)]
-pub enum Found {
-    At(usize),
-    Nothing,
-}
 
 // Set i of the words.
 pub fn get(words: &[u64], i: usize) -> Cells
@@ -32,20 +25,16 @@ pub fn get(words: &[u64], i: usize) -> Cells
 }
 
 // The first set equal to a set, among the sets from..to that are lent.
-pub fn find(words: &[u64], from: usize, to: usize, set: Cells) -> Found
-    ensures { found_answer result ≡ find_set words.now from to (number set) }
+pub fn find(words: &[u64], from: usize, to: usize, set: Cells) -> Option<usize>
+    ensures { result ≡ find_set words.now from to (number set) }
 {
-    let mut i = from;
-    while i < to {
-        if words.len() / 4 <= i {
-            return Found::Nothing;
-        }
+    let end = to.min(words.len() / 4);
+    for i in from..end {
         if get(words, i).equal(set) {
-            return Found::At(i);
+            return Some(i);
         }
-        i += 1;
     }
-    Found::Nothing
+    None
 }
 
 // The words with another set i.
@@ -65,9 +54,7 @@ pub fn put(words: &mut [u64], i: usize, set: Cells)
 pub fn clear_from(words: &mut [u64], from: usize)
     ensures { words.new ≡ cleared_from from words.old }
 {
-    let mut i = from;
-    while i < words.len() {
-        words[i] = 0;
-        i += 1;
+    if from < words.len() {
+        words[from..].fill(0);
     }
 }

@@ -1,117 +1,109 @@
 -- What `place_tile` answers: the refusals of board and tiles, then that of the room. Rests on `Children`, `Inner`, `PlacingLaws` and `cells`. Assumes nothing.
+use Rattle.std.specs.Prelude.{Err, None, Ok, Option, Result, Some}
+use Rattle.std.specs.Option.{ok_or}
 use mathlib.Core.Path.{◌≡◌, refl, sym, ap, ◌∙◌}
 use mathlib.Core.Bool.{true, false}
 use mathlib.Core.List.{List, []}
 use Prim.Native.Nat.{ℕ, ◌*◌, ◌/◌, ◌^◌, ◌≤◌, ◌<◌}
 use native.Mathlib.Omega.{arith}
-use borrow.Author.Tests.{le-leb, lt-leb, ne_eqb}
+use borrow.Author.Tests.{le-leb, lt-leb}
 use lib.Dec.{leb}
 use lib.ListN.{length, get_or}
 use Rattle.cells.specs.Parts.{cleared_from}
-use Rattle.cells.specs.Lists.{words_for}
+use Rattle.cells.specs.Lists.{words_for, list_of, set_at}
+use Rattle.cells.specs.ArrayLaws.{length_list_of}
 use Rattle.cells.specs.ListLaws.{cleared_sets, cleared_all}
 use Rattle.refusal.specs.declared.Refusal.{Refusal}
 use Rattle.refusal.specs.declared.Refusal.TheVariants as R
-use Rattle.refusal.specs.declared.Verdict.{Verdict}
-use Rattle.refusal.specs.declared.Verdict.TheVariants as Verdicts
-use Rattle.refusal.specs.Refusal.{Answer, refused, given, map_answer, bind_answer, refusal_of, refusal_number, verdict_number, value_or}
-use Rattle.refusal.specs.RefusalLaws.{refusal_number_pos, refused_of}
+use Rattle.refusal.specs.Refusal.{refused, given, map_answer, bind_answer, refusal_of, refusal_number, value_or, answer_of}
+use Rattle.refusal.specs.RefusalLaws.{refused_of, refused_value}
 use Rattle.tiles.specs.declared.Tiles.{Tiles}
-use Rattle.tile.specs.Path.{Path}
 use Rattle.tiles.specs.Paths.{paths_in, read_tiles}
-use Rattle.tiles.specs.ReadLaws.{read_tiles_accepted}
-use Rattle.rectangle.specs.Board.{Board, valid, accept_board}
-use Rattle.rectangle.proofs.BoardLaws.{accept_board_given, accept_board_is, accept_board_positive}
+use Rattle.rectangle.specs.Board.{Board, valid}
+use Rattle.rectangle.proofs.BoardLaws.{accept_board_given}
 use Rattle.board.specs.declared.RectangularBoard.{RectangularBoard}
 use Rattle.board.specs.Board.{board_of, read_board}
-use Rattle.children.specs.declared.Children.TheVariants as C
-use Rattle.children.specs.declared.placing.Stored.{Stored}
-use Rattle.children.specs.declared.placing.Stored.TheVariants as S
 use Rattle.children.specs.Children.{children, children_of, place_tile, PlacesTiles}
-use Rattle.children.specs.Inner.{earlier_of, Keeps}
+use Rattle.children.specs.Inner.{Keeps, Stores}
 use Rattle.children.proofs.PlacingLaws.{stored_number, stored_full}
 
--- the first refusal of two verdicts
-module _ (v w : Verdict) where
-  pub earlier_accepted : v ≡ Verdicts.Accepted → verdict_number w ≡ earlier_of (verdict_number v) (verdict_number w)
-  unfolding earlier_of
-  earlier_accepted e = rw e
+-- ---- what is stored
 
-  pub earlier_refused : (r : Refusal) → v ≡ Verdicts.Refused r → refusal_number r ≡ earlier_of (verdict_number v) (verdict_number w)
-  unfolding earlier_of
-  earlier_refused r e = rw (e, ne_eqb (refusal_number r) 0 (λ q. omega (arith, refusal_number_pos r)))
-
-module _ (b : RectangularBoard) (ts : Tiles) where
-  map_refusal : (f : List Path → List ℕ) (a : Answer (List Path)) → refusal_of a ≡ refusal_of (map_answer f a)
-  unfolding refusal_of map_answer
-  map_refusal f (refused n) = refl
-  map_refusal f (given x) = refl
-
-  -- the board's refusal comes first
-  pub children_earlier : earlier_of (refusal_of (read_board b)) (refusal_of (read_tiles ts)) ≡ refusal_of (children_of (board_of b) ts)
-  unfolding children_of bind_answer read_board refusal_of earlier_of
-  children_earlier = go (accept_board (board_of b)) refl
+module _ (b : RectangularBoard) (ts : Tiles) (ws : List ℕ) where
+  -- board or tiles are refused
+  stores_refused : (r : Refusal) → children_of (board_of b) ts ≡ refused (refusal_number r) → Stores (board_of b) ts ws (Err r)
+  unfolding place_tile bind_answer map_answer
+  stores_refused r e = record { answer = rw e; sets = λ n q. absurd (err_ok r n q) }
     where
-      go : (a : Answer Board) → accept_board (board_of b) ≡ a → earlier_of (refusal_of a) (refusal_of (read_tiles ts)) ≡ refusal_of (bind_answer a (λ board. map_answer (children board) (read_tiles ts)))
-      go (given board) q = map_refusal (children board) (read_tiles ts)
-      go (refused n) q = rw (ne_eqb n 0 (λ z. omega (arith, accept_board_positive (board_of b) n q)))
+      err_ok : (r : Refusal) (n : ℕ) → ◌≡◌ {A = Result ℕ Refusal} (Err r) (Ok n) → ⊥
+      err_ok r n q = cc
 
-  -- neither is refused
-  pub children_accepted : 0 ≡ refusal_of (children_of (board_of b) ts) → (valid (board_of b) ≡ true) × (read_tiles ts ≡ given (paths_in ts)) × (ts.count ≤ 64)
-  unfolding children_of bind_answer refusal_of
-  children_accepted e = go (accept_board (board_of b)) refl e
-    where
-      go : (a : Answer Board) → accept_board (board_of b) ≡ a → 0 ≡ refusal_of (bind_answer a (λ board. map_answer (children board) (read_tiles ts))) → (valid (board_of b) ≡ true) × (read_tiles ts ≡ given (paths_in ts)) × (ts.count ≤ 64)
-      go (given board) f q =
-          let a = read_tiles_accepted ts (q ∙ sym (map_refusal (children board) (read_tiles ts))) in
-          ((accept_board_is (board_of b) board f).1, a.1, a.0)
-      go (refused n) f q = absurd (omega (arith, accept_board_positive (board_of b) n f))
+  pub stores_no_board : (r : Refusal) → read_board b ≡ refused (refusal_number r) → Stores (board_of b) ts ws (Err r)
+  unfolding children_of bind_answer read_board
+  stores_no_board r e = stores_refused r (rw e)
 
-  pub children_given : valid (board_of b) ≡ true → read_tiles ts ≡ given (paths_in ts) → children_of (board_of b) ts ≡ given (children (board_of b) (paths_in ts))
-  unfolding children_of bind_answer map_answer
-  children_given e f = rw (accept_board_given (board_of b) e, f)
+  module _ (ok : valid (board_of b) ≡ true) where
+    pub stores_no_tiles : (r : Refusal) → refusal_number r ≡ refusal_of (read_tiles ts) → Stores (board_of b) ts ws (Err r)
+    unfolding children_of bind_answer map_answer
+    stores_no_tiles r e = stores_refused r (rw (accept_board_given (board_of b) ok, refused_of (read_tiles ts) r e))
+
+    module _ (sound : read_tiles ts ≡ given (paths_in ts)) (st : Option ℕ) (k : Keeps (children (board_of b) (paths_in ts)) ws st) where
+      abbrev ns : List ℕ
+      ns = children (board_of b) (paths_in ts)
+
+      found : children_of (board_of b) ts ≡ given ns
+      unfolding children_of bind_answer map_answer
+      found = rw (accept_board_given (board_of b) ok, sound)
+
+      -- more children than there is room for
+      stores_none : st ≡ None → Stores (board_of b) ts ws (Err R.NoRoom)
+      unfolding place_tile bind_answer map_answer
+      stores_none q =
+          let over : leb (length ns) (length ws / 4) ≡ false = lt-leb (length ns) (length ws / 4) (stored_full (length ws / 4) (length ns) (sym q ∙ k.state)) in
+          record { answer = rw (found, over); sets = λ n e. let z : ◌≡◌ {A = ℕ} 0 1 = cc in absurd (omega arith) }
+
+      stores_some : (n : ℕ) → st ≡ Some n → Stores (board_of b) ts ws (Ok n)
+      unfolding place_tile bind_answer map_answer value_or
+      stores_some n q =
+          let f = stored_number (length ws / 4) (length ns) n (sym q ∙ k.state) in
+          let room : leb (length ns) (length ws / 4) ≡ true = le-leb (length ns) (length ws / 4) f.0 in
+          record {
+            answer = rw (found, room) (ap given f.1);
+            sets = λ m e. let s : n ≡ m = cc in (omega (arith, f.0, f.1), rw (found, room) (ap (list_of (set_at ws)) (sym s ∙ f.1) ∙ k.sets f.0));
+          }
+
+-- the state as an answer
+pub stores_ok_or : (b : RectangularBoard) (ts : Tiles) (ws : List ℕ) → valid (board_of b) ≡ true → read_tiles ts ≡ given (paths_in ts) → (st : Option ℕ) → Keeps (children (board_of b) (paths_in ts)) ws st → (r : Result ℕ Refusal) → r ≡ ok_or st R.NoRoom → Stores (board_of b) ts ws r
+stores_ok_or b ts ws ok sound None k r e = rw e (stores_none b ts ws ok sound None k refl)
+stores_ok_or b ts ws ok sound (Some n) k r e = rw e (stores_some b ts ws ok sound (Some n) k n refl)
 
 -- ---- `place_tile`
 
--- as many as are stored have room
-pub few : (ns ws : List ℕ) (st : Stored) → Keeps ns ws st → (n : ℕ) → st ≡ S.Number n → n ≤ length ws / 4
-few ns ws st k n q = let f = stored_number (length ws / 4) (length ns) n (sym q ∙ k.state) in omega (arith, f.0, f.1)
+module _ (b : RectangularBoard) (ts : Tiles) (old mid new : List ℕ) (same : length mid ≡ length old) (r : Result ℕ Refusal) (k : Stores (board_of b) ts mid r) where
+  -- all words are cleared after a refusal
+  pub places_refused : (f : Refusal) → r ≡ Err f → new ≡ cleared_from 0 mid → PlacesTiles b ts old new (Err f)
+  places_refused f q g =
+      let e = ap answer_of (sym q) ∙ k.answer in
+      record {
+        answer = e ∙ ap (λ (m : ℕ). map_answer length (place_tile (board_of b) ts m)) same;
+        words =
+            g
+            ∙ cleared_all mid
+            ∙ ap (λ (l : List ℕ). words_for l (length mid)) (sym (refused_value length (place_tile (board_of b) ts (length mid)) (refusal_number f) [] e))
+            ∙ ap (λ (m : ℕ). words_for (value_or [] (place_tile (board_of b) ts m)) m) same;
+      }
 
-module _ (b : RectangularBoard) (ts : Tiles) (old new : List ℕ) where
-  -- board or tiles are refused
-  pub places_refused : (r : Refusal) → refusal_number r ≡ refusal_of (children_of (board_of b) ts) → new ≡ cleared_from 0 old → PlacesTiles b ts old new (C.Refused r)
-  unfolding place_tile bind_answer map_answer value_or
-  places_refused r e f =
-      let q : children_of (board_of b) ts ≡ refused (refusal_number r) = refused_of (children_of (board_of b) ts) r e in
-      record { answer = rw q; words = rw q (f ∙ cleared_all old) }
-
-  module _ (e : 0 ≡ refusal_of (children_of (board_of b) ts)) (mid : List ℕ) (same : length mid ≡ length old) (st : Stored)
-      (k : Keeps (children (board_of b) (paths_in ts)) mid st) where
-    abbrev ns : List ℕ
-    ns = children (board_of b) (paths_in ts)
-
-    found : children_of (board_of b) ts ≡ given ns
-    found = let a = children_accepted b ts e in children_given b ts a.0 a.1
-
-    -- more children than there is room for
-    pub places_full : st ≡ S.Full → new ≡ cleared_from 0 mid → PlacesTiles b ts old new (C.Refused R.NoRoom)
-    unfolding place_tile bind_answer map_answer value_or
-    places_full q f =
-        let past = stored_full (length mid / 4) (length ns) (sym q ∙ k.state) in
-        let over : leb (length ns) (length old / 4) ≡ false = lt-leb (length ns) (length old / 4) (omega arith) in
-        record { answer = rw (found, over); words = rw (found, over) (f ∙ cleared_all mid ∙ ap (words_for []) same) }
-
-    module _ (n : ℕ) (q : st ≡ S.Number n) where
-      fits : (length ns ≤ length mid / 4) × (n ≡ length ns)
-      fits = stored_number (length mid / 4) (length ns) n (sym q ∙ k.state)
-
-      -- the words behind the last are cleared
-      pub places_number : ((i : ℕ) → get_or mid i 0 < 2 ^ 64) → new ≡ cleared_from (4 * n) mid → PlacesTiles b ts old new (C.Number n)
-      unfolding place_tile bind_answer map_answer value_or
-      places_number small f =
-          let room : leb (length ns) (length old / 4) ≡ true = le-leb (length ns) (length old / 4) (omega (arith, fits.0)) in
-          record {
-            answer = rw (found, room) (ap given fits.1);
-            words = rw (found, room)
-                (f ∙ ap (λ (j : ℕ). cleared_from (4 * j) mid) fits.1 ∙ cleared_sets mid ns small (omega (arith, fits.0)) (k.sets fits.0) ∙ ap (words_for ns) same);
-          }
+  -- the words behind the last child are cleared
+  pub places_number : (n : ℕ) → r ≡ Ok n → ((i : ℕ) → get_or mid i 0 < 2 ^ 64) → new ≡ cleared_from (4 * n) mid → PlacesTiles b ts old new (Ok n)
+  places_number n q small g =
+      let ns : List ℕ = value_or [] (place_tile (board_of b) ts (length mid)) in
+      let s = k.sets n q in
+      let e : n ≡ length ns = sym (length_list_of (set_at mid) n) ∙ ap length s.1 in
+      record {
+        answer = ap answer_of (sym q) ∙ k.answer ∙ ap (λ (m : ℕ). map_answer length (place_tile (board_of b) ts m)) same;
+        words =
+            g
+            ∙ ap (λ (j : ℕ). cleared_from (4 * j) mid) e
+            ∙ cleared_sets mid ns small (omega (arith, s.0, e)) (ap (list_of (set_at mid)) (sym e) ∙ s.1)
+            ∙ ap (λ (m : ℕ). words_for (value_or [] (place_tile (board_of b) ts m)) m) same;
+      }

@@ -1,7 +1,11 @@
 -- Children in lent words: what one child more does to the words and to the state, how the fits of a tile's points and of the tiles come one behind the
 -- other, and what the chosen cell tells. Rests on `Inner`, `cells` and the laws of children. Assumes nothing.
+use Rattle.std.specs.Prelude.{None, Ok, Option, Result}
+use Rattle.std.specs.Option.{is_some}
+use Rattle.cells.specs.Parts.{find_set}
+use Rattle.cells.specs.SearchLaws.{found_holds, missed_holds}
 use lib.ListN.{length-take, length, get_or, take, drop, length-append}
-use mathlib.Core.Option.{some}
+use Rattle.std.specs.Prelude.{Some}
 use mathlib.Core.Path.{◌≡◌, refl, sym, ap, ap₂, ◌∙◌, subst}
 use mathlib.Core.Bool.{Bool, true, false, So, not, cond, ◌&&◌}
 use mathlib.Core.List.{List, [], ◌∷◌, ◌++◌, map, map-append, flat_map}
@@ -16,80 +20,76 @@ use Rattle.cells.specs.FirstsLaws.{add_firsts_append, add_new_old, add_new_new}
 use Rattle.cells.specs.ArrayLaws.{list_of_ext, list_of_snoc}
 use Rattle.cells.specs.MemberLaws.{flat_map_snoc}
 use Rattle.refusal.specs.declared.Refusal.{Refusal}
-use Rattle.refusal.specs.Refusal.{refused, given, map_answer, refusal_number}
+use Rattle.refusal.specs.Refusal.{given, map_answer, answer_of}
+use Rattle.refusal.specs.RefusalLaws.{given_inj}
 use Rattle.tile.specs.Path.{is_path, Path}
 use Rattle.tile.specs.StoredLaws.{is_path_good}
-use Rattle.tiles.specs.Paths.{contains_single, path_at, paths_in, read_tiles, contains_answer}
+use Rattle.tiles.specs.Paths.{contains_single, path_at, paths_in, read_tiles}
 use Rattle.tiles.specs.declared.Tiles.{Tiles}
-use Rattle.tiles.specs.declared.Contains.{Contains}
-use Rattle.tiles.specs.declared.Contains.TheVariants as Contained
 use Rattle.tiles.specs.ReadLaws.{sound_tile}
 use Rattle.rectangle.specs.Board.{valid, marks, Board}
 use Rattle.rectangle.proofs.BoardLaws.{valid_width, valid_size}
 use Rattle.fit.specs.Parts.{fit_in}
 use Rattle.fit.specs.Fit.{fit_at, fits_of}
 use Rattle.fit.proofs.FitForLaws.{fit_in_is_fit_for, fit_for_fit}
-use Rattle.choice.specs.Choice.{chosen_answer, chosen_count, chosen, count_of}
+use Rattle.choice.specs.Choice.{chosen_count, chosen, count_of}
 use Rattle.choice.specs.Parts.{chosen_for}
-use Rattle.choice.specs.declared.ChosenCell.{ChosenCell}
 use Rattle.choice.specs.ChosenLaws.{chosen_for_is}
 use Rattle.children.specs.Children.{pruned, children}
-use Rattle.children.specs.declared.placing.Stored.{Stored}
-use Rattle.children.specs.declared.placing.Stored.TheVariants as S
 use Rattle.children.specs.Inner.{child_of, fits_of_all, stored_of, Keeps}
 use Rattle.children.specs.PruneLaws.{pruned_chosen}
 use Rattle.children.specs.ChildLaws.{children_chosen, firsts_children}
 
 -- ---- the state
 
-pub stored_number : (room k n : ℕ) → S.Number n ≡ stored_of room k → (k ≤ room) × (n ≡ k)
+pub stored_number : (room k n : ℕ) → Some n ≡ stored_of room k → (k ≤ room) × (n ≡ k)
 unfolding stored_of
 stored_number room k n e = go (leb k room) (leb-true k room) e
   where
-    go : (t : Bool) → (t ≡ true → k ≤ room) → S.Number n ≡ cond t (S.Number k) S.Full → (k ≤ room) × (n ≡ k)
+    go : (t : Bool) → (t ≡ true → k ≤ room) → Some n ≡ cond t (Some k) None → (k ≤ room) × (n ≡ k)
     go true f q = (f refl, cc)
     go false f q = let z : ◌≡◌ {A = ℕ} 0 1 = cc in absurd (omega arith)
 
-pub stored_full : (room k : ℕ) → S.Full ≡ stored_of room k → room < k
+pub stored_full : (room k : ℕ) → None ≡ stored_of room k → room < k
 unfolding stored_of
 stored_full room k e = go (leb k room) (leb-false k room) e
   where
-    go : (t : Bool) → (t ≡ false → room < k) → S.Full ≡ cond t (S.Number k) S.Full → room < k
+    go : (t : Bool) → (t ≡ false → room < k) → None ≡ cond t (Some k) None → room < k
     go true f q = let z : ◌≡◌ {A = ℕ} 0 1 = cc in absurd (omega arith)
     go false f q = f refl
 
-stored_within : (room k : ℕ) → k ≤ room → S.Number k ≡ stored_of room k
+stored_within : (room k : ℕ) → k ≤ room → Some k ≡ stored_of room k
 unfolding stored_of
 stored_within room k h = rw (le-leb k room h)
 
-stored_past : (room k : ℕ) → room < k → S.Full ≡ stored_of room k
+stored_past : (room k : ℕ) → room < k → None ≡ stored_of room k
 unfolding stored_of
 stored_past room k h = rw (lt-leb k room h)
 
 -- nothing is stored yet
-pub keeps_none : (ws : List ℕ) → Keeps [] ws (S.Number 0)
+pub keeps_none : (ws : List ℕ) → Keeps [] ws (Some 0)
 unfolding list_of list_from
 keeps_none ws = record { state = stored_within (length ws / 4) 0 (omega arith); sets = λ h. refl }
 
 -- ---- one child more
 
-module _ (ns ws : List ℕ) (st : Stored) (k : Keeps ns ws st) (x : ℕ) where
+module _ (ns ws : List ℕ) (st : Option ℕ) (k : Keeps ns ws st) (x : ℕ) where
   longer : length (ns ++ x ∷ []) ≡ length ns + 1
   longer = length-append ns (x ∷ [])
 
   -- more children than there is room for, whatever the words
-  past : length ws / 4 < length (ns ++ x ∷ []) → Keeps (ns ++ x ∷ []) ws S.Full
+  past : length ws / 4 < length (ns ++ x ∷ []) → Keeps (ns ++ x ∷ []) ws None
   past h = record { state = stored_past (length ws / 4) (length (ns ++ x ∷ [])) h; sets = λ l. absurd (omega arith) }
 
   -- room was gone before
-  pub add_full : st ≡ S.Full → Keeps (add_new eqb ns x) ws S.Full
+  pub add_full : st ≡ None → Keeps (add_new eqb ns x) ws None
   add_full e = go (holds eqb ns x) refl
     where
-      go : (t : Bool) → holds eqb ns x ≡ t → Keeps (add_new eqb ns x) ws S.Full
+      go : (t : Bool) → holds eqb ns x ≡ t → Keeps (add_new eqb ns x) ws None
       go true q = rw (add_new_old eqb ns x q) record { state = sym e ∙ k.state; sets = k.sets }
       go false q = rw (add_new_new eqb ns x q) (past (omega (arith, longer, stored_full (length ws / 4) (length ns) (sym e ∙ k.state))))
 
-  module _ (n : ℕ) (e : st ≡ S.Number n) where
+  module _ (n : ℕ) (e : st ≡ Some n) where
     fits : (length ns ≤ length ws / 4) × (n ≡ length ns)
     fits = stored_number (length ws / 4) (length ns) n (sym e ∙ k.state)
 
@@ -103,19 +103,19 @@ module _ (ns ws : List ℕ) (st : Stored) (k : Keeps ns ws st) (x : ℕ) where
       held : (b : Bool) → t ≡ b → holds eqb ns x ≡ b
       held b q = ap (λ (l : List ℕ). holds eqb l x) (sym read_back) ∙ sym f ∙ q
 
-      pub add_old : t ≡ true → Keeps (add_new eqb ns x) ws (S.Number n)
+      pub add_old : t ≡ true → Keeps (add_new eqb ns x) ws (Some n)
       add_old q = rw (add_new_old eqb ns x (held true q)) record { state = sym e ∙ k.state; sets = k.sets }
 
       -- there is no room for it
-      pub add_over : t ≡ false → length ws / 4 ≤ n → Keeps (add_new eqb ns x) ws S.Full
+      pub add_over : t ≡ false → length ws / 4 ≤ n → Keeps (add_new eqb ns x) ws None
       add_over q h = rw (add_new_new eqb ns x (held false q)) (past (omega (arith, longer, fits.1)))
 
       -- it is stored behind the others
-      pub add_put : x < 2 ^ 256 → t ≡ false → n < length ws / 4 → (vs : List ℕ) → vs ≡ with_set ws n x → Keeps (add_new eqb ns x) vs (S.Number (n + 1))
+      pub add_put : x < 2 ^ 256 → t ≡ false → n < length ws / 4 → (vs : List ℕ) → vs ≡ with_set ws n x → Keeps (add_new eqb ns x) vs (Some (n + 1))
       add_put hx q h vs g =
           rw (add_new_new eqb ns x (held false q))
           record {
-            state = ap S.Number more ∙ stored_within (length vs / 4) (length (ns ++ x ∷ [])) (omega (arith, more, same));
+            state = ap Some more ∙ stored_within (length vs / 4) (length (ns ++ x ∷ [])) (omega (arith, more, same));
             sets = λ l. stored;
           }
         where
@@ -137,16 +137,21 @@ module _ (ns ws : List ℕ) (st : Stored) (k : Keeps ns ws st) (x : ℕ) where
               ∙ list_of_snoc (set_at vs) (length ns)
               ∙ ap₂ (λ (l : List ℕ) (y : ℕ). l ++ y ∷ []) (list_of_ext (set_at vs) (set_at ws) (length ns) before ∙ k.sets fits.0) last
 
+-- a set that is found in the words is one of the children
+pub found_held : (ws : List ℕ) (n x : ℕ) (o : Option ℕ) → o ≡ find_set ws 0 n x → is_some o ≡ holds eqb (sets_in ws n) x
+found_held ws n x None e = missed_holds ws n x e
+found_held ws n x (Some i) e = found_holds ws n x i e
+
 -- ---- a fit's child
 
 module _ (b : Board) (ns ws : List ℕ) where
   -- no piece, no child
-  pub fit_none : (st : Stored) (ps : List ℕ) → [] ≡ ps → Keeps ns ws st → Keeps (add_firsts eqb ns (map (child_of b) ps)) ws st
+  pub fit_none : (st : Option ℕ) (ps : List ℕ) → [] ≡ ps → Keeps ns ws st → Keeps (add_firsts eqb ns (map (child_of b) ps)) ws st
   unfolding add_firsts
   fit_none st ps e k = rw (← e) k
 
   -- one piece, one child
-  pub fit_one : (st : Stored) (ps : List ℕ) (n x : ℕ) → n ∷ [] ≡ ps → x ≡ child_of b n → Keeps (add_new eqb ns x) ws st → Keeps (add_firsts eqb ns (map (child_of b) ps)) ws st
+  pub fit_one : (st : Option ℕ) (ps : List ℕ) (n x : ℕ) → n ∷ [] ≡ ps → x ≡ child_of b n → Keeps (add_new eqb ns x) ws st → Keeps (add_firsts eqb ns (map (child_of b) ps)) ws st
   unfolding add_firsts
   fit_one st ps n x e f k = rw (← e, ← f) k
 
@@ -179,7 +184,7 @@ unfoldable pub tile_children : Board → ℕ → List ℕ → List ℕ → ℕ �
 unfolding children_of_first fits_of
 tile_children b cell lens codes n = children_of_first b (fits_of b cell) (path_at lens codes) n
 
-module _ (b : Board) (cell : ℕ) (path : Path) (ns ws : List ℕ) (st : Stored) where
+module _ (b : Board) (cell : ℕ) (path : Path) (ns ws : List ℕ) (st : Option ℕ) where
   pub points_none : Keeps ns ws st → Keeps (add_firsts eqb ns (point_children b cell path 0)) ws st
   unfolding point_children
   points_none k = subst (λ (l : List ℕ). Keeps l ws st) (sym (children_of_first_none b (λ j. fit_at b path j cell) (λ j. j) ns)) k
@@ -194,7 +199,7 @@ module _ (b : Board) (cell : ℕ) (path : Path) (ns ws : List ℕ) (st : Stored)
       let e : n ≡ length path + 1 = omega arith in
       subst (λ (m : ℕ). Keeps (add_firsts eqb ns (map (child_of b) (flat_map (λ j. fit_at b path j cell) (list_of (λ j. j) m)))) ws st) e k
 
-module _ (b : Board) (cell : ℕ) (lens codes ws : List ℕ) (st : Stored) where
+module _ (b : Board) (cell : ℕ) (lens codes ws : List ℕ) (st : Option ℕ) where
   pub tiles_none : Keeps [] ws st → Keeps (add_firsts eqb [] (tile_children b cell lens codes 0)) ws st
   unfolding tile_children
   tiles_none k = subst (λ (l : List ℕ). Keeps l ws st) (sym (children_of_first_none b (fits_of b cell) (path_at lens codes) [])) k
@@ -228,22 +233,15 @@ part_sound ts e i h =
 pub pruned_less : (count : ℕ) (paths : List Path) → (count ≡ 4 → ⊥) → false ≡ (eqb count 4 && not (contains_single paths))
 pruned_less count paths n = rw (ne_eqb count 4 n)
 
-module _ (ts : Tiles) (answer : Contains) (ok : read_tiles ts ≡ given (paths_in ts)) (e : contains_answer answer ≡ map_answer contains_single (read_tiles ts)) where
-  told : contains_answer answer ≡ given (contains_single (paths_in ts))
+module _ (ts : Tiles) (answer : Result Bool Refusal) (ok : read_tiles ts ≡ given (paths_in ts)) (e : answer_of answer ≡ map_answer contains_single (read_tiles ts)) where
+  pub single_told : answer_of answer ≡ given (contains_single (paths_in ts))
   unfolding map_answer
-  told = e ∙ ap (map_answer contains_single) ok
+  single_told = e ∙ ap (map_answer contains_single) ok
 
-  pub pruned_told : (count : ℕ) (single : Bool) → count ≡ 4 → answer ≡ Contained.Is single → not single ≡ (eqb count 4 && not (contains_single (paths_in ts)))
+  pub pruned_told : (count : ℕ) (single : Bool) → count ≡ 4 → answer ≡ Ok single → not single ≡ (eqb count 4 && not (contains_single (paths_in ts)))
   pruned_told count single q f =
-      let same : given single ≡ given (contains_single (paths_in ts)) = sym (ap contains_answer f) ∙ told in
-      let s : single ≡ contains_single (paths_in ts) = cc in
+      let s : single ≡ contains_single (paths_in ts) = given_inj single (contains_single (paths_in ts)) (sym (ap answer_of f) ∙ single_told) in
       rw (q, s)
-
-  pub pruned_clash : (r : Refusal) → answer ≡ Contained.Refused r → (t : Bool) → t ≡ false
-  pruned_clash r f t =
-      let no : refused (refusal_number r) ≡ given (contains_single (paths_in ts)) = sym (ap contains_answer f) ∙ told in
-      let z : ◌≡◌ {A = ℕ} 0 1 = cc in
-      absurd (omega arith)
 
 -- ---- what is found, and what is done then
 
@@ -252,20 +250,20 @@ pub fit_is : (b : Board) → valid b ≡ true → (m : ℕ) → m ≡ marks b �
 fit_is b ok m e path s j h cell = fit_in_is_fit_for b m e path j cell ∙ fit_for_fit b path j cell (valid_size b ok) s h
 
 -- what is told of the chosen cell by the numbers of an accepted board
-pub found_told : (b : Board) → valid b ≡ true → (m : ℕ) → m ≡ marks b → (x : ChosenCell) → chosen_answer x ≡ chosen_for b.width b.height m b.laid → chosen_answer x ≡ given (chosen_count b)
+pub found_told : (b : Board) → valid b ≡ true → (m : ℕ) → m ≡ marks b → (x : Result (Option (ℕ × ℕ)) Refusal) → answer_of x ≡ chosen_for b.width b.height m b.laid → answer_of x ≡ given (chosen_count b)
 found_told b ok m e x f = f ∙ ap (λ (n : ℕ). chosen_for b.width b.height n b.laid) e ∙ chosen_for_is b ok
 
 -- the test of the chosen cell's count is that of any free cell
-pub found_pruned : (b : Board) → valid b ≡ true → (cell n : ℕ) → chosen b ≡ some cell → n ≡ count_of b cell → (paths : List Path) (t : Bool) → t ≡ (eqb n 4 && not (contains_single paths)) → pruned b paths ≡ t
+pub found_pruned : (b : Board) → valid b ≡ true → (cell n : ℕ) → chosen b ≡ Some cell → n ≡ count_of b cell → (paths : List Path) (t : Bool) → t ≡ (eqb n 4 && not (contains_single paths)) → pruned b paths ≡ t
 found_pruned b ok cell n e k paths t f =
     pruned_chosen b (valid_width b ok) paths cell e ∙ ap (λ (i : ℕ). eqb i 4 && not (contains_single paths)) (sym k) ∙ sym f
 
 module _ (b : Board) (paths : List Path) (ws : List ℕ) where
-  pub kept_none : children b paths ≡ [] → Keeps (children b paths) ws (S.Number 0)
-  kept_none e = subst (λ (l : List ℕ). Keeps l ws (S.Number 0)) (sym e) (keeps_none ws)
+  pub kept_none : children b paths ≡ [] → Keeps (children b paths) ws (Some 0)
+  kept_none e = subst (λ (l : List ℕ). Keeps l ws (Some 0)) (sym e) (keeps_none ws)
 
   -- children are compared instead of pieces
-  pub kept_all : (cell : ℕ) → chosen b ≡ some cell → pruned b paths ≡ false → (st : Stored) → Keeps (add_firsts eqb [] (map (child_of b) (fits_of_all b cell paths))) ws st → Keeps (children b paths) ws st
+  pub kept_all : (cell : ℕ) → chosen b ≡ Some cell → pruned b paths ≡ false → (st : Option ℕ) → Keeps (add_firsts eqb [] (map (child_of b) (fits_of_all b cell paths))) ws st → Keeps (children b paths) ws st
   unfolding firsts fits_of_all
   kept_all cell e f st k =
       subst (λ (l : List ℕ). Keeps l ws st) (firsts_children b paths cell ∙ sym (children_chosen b paths f cell e)) k

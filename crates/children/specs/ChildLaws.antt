@@ -9,7 +9,7 @@ use mathlib.Core.List.Memᴰ.{map as mem-map}
 use mathlib.Core.List.Memᴰ.{not-nil}
 use mathlib.Core.List.Memᴰ.{of_map}
 use mathlib.Core.List.{List, [], map, flat_map, Memᴰ as Mem}
-use Rattle.std.proofs.Math.Option.{Option, none, some}
+use Rattle.std.specs.Prelude.{Option, None, Some}
 use borrow.Author.Tests.{eqb-true, eq-eqb}
 use Rattle.std.proofs.Math.Dec.{eqb}
 use Rattle.std.proofs.lemmas.List.{length-map}
@@ -35,11 +35,11 @@ module _ (b : Board) (paths : List Path) where
   unfolding children
   children_pruned e = rw e
 
-  pub children_chosen : pruned b paths ≡ false → (cell : ℕ) → chosen b ≡ some cell → children b paths ≡ map (λ piece. marks (lay b piece)) (pieces b paths cell)
+  pub children_chosen : pruned b paths ≡ false → (cell : ℕ) → chosen b ≡ Some cell → children b paths ≡ map (λ piece. marks (lay b piece)) (pieces b paths cell)
   unfolding children
   children_chosen e cell f = rw (e, f)
 
-  pub children_full : chosen b ≡ none → children b paths ≡ []
+  pub children_full : chosen b ≡ None → children b paths ≡ []
   unfolding children
   children_full f = rw f (go (pruned b paths))
     where
@@ -48,13 +48,13 @@ module _ (b : Board) (paths : List Path) where
       go false = refl
 
   -- no children, or those that the pieces on the chosen cell make
-  pub children_cases : (children b paths ≡ []) ⊎ ((cell : ℕ) × (chosen b ≡ some cell) × (children b paths ≡ map (λ piece. marks (lay b piece)) (pieces b paths cell)))
+  pub children_cases : (children b paths ≡ []) ⊎ ((cell : ℕ) × (chosen b ≡ Some cell) × (children b paths ≡ map (λ piece. marks (lay b piece)) (pieces b paths cell)))
   children_cases = go (pruned b paths) refl (chosen b) refl
     where
-      go : (t : Bool) → pruned b paths ≡ t → (c : Option ℕ) → chosen b ≡ c → (children b paths ≡ []) ⊎ ((cell : ℕ) × (chosen b ≡ some cell) × (children b paths ≡ map (λ piece. marks (lay b piece)) (pieces b paths cell)))
+      go : (t : Bool) → pruned b paths ≡ t → (c : Option ℕ) → chosen b ≡ c → (children b paths ≡ []) ⊎ ((cell : ℕ) × (chosen b ≡ Some cell) × (children b paths ≡ map (λ piece. marks (lay b piece)) (pieces b paths cell)))
       go true e c f = inl (children_pruned e)
-      go false e none f = inl (children_full f)
-      go false e (some cell) f = inr (cell, f, children_chosen e cell f)
+      go false e None f = inl (children_full f)
+      go false e (Some cell) f = inr (cell, f, children_chosen e cell f)
 
   -- laying different pieces makes different children
   lay_inj : (x y : ℕ) → IsPiece b paths x → IsPiece b paths y → marks (lay b x) ≡ marks (lay b y) → x ≡ y
@@ -69,7 +69,7 @@ module _ (b : Board) (paths : List Path) where
       children_cases
 
   -- a child is the marks with a piece on the chosen cell laid
-  child_laid : (x : ℕ) → Mem x (children b paths) → (cell : ℕ) × (chosen b ≡ some cell) × (n : ℕ) × Mem n (pieces b paths cell) × (x ≡ marks (lay b n))
+  child_laid : (x : ℕ) → Mem x (children b paths) → (cell : ℕ) × (chosen b ≡ Some cell) × (n : ℕ) × Mem n (pieces b paths cell) × (x ≡ marks (lay b n))
   child_laid x m =
       ⊎_elim (λ e. absurd (not-nil (subst (Mem x) e m)))
       (λ r. let s = of_map (λ piece. marks (lay b piece)) (pieces b paths r.0) (subst (Mem x) r.2 m) in (r.0, r.1, s.0, s.1, sym s.2))
@@ -108,14 +108,14 @@ module _ (b : Board) (paths : List Path) where
 module _ (b : Board) (ok : So (valid b)) where
   module _ (paths : List Path) where
     -- a child is the marks and a piece that covers the chosen cell
-    pub child_piece : (x : ℕ) → Mem x (children b paths) → (cell : ℕ) × (chosen b ≡ some cell) × (n : ℕ) × IsPiece b paths n × So (has_cell n cell) × (x ≡ marks b + n)
+    pub child_piece : (x : ℕ) → Mem x (children b paths) → (cell : ℕ) × (chosen b ≡ Some cell) × (n : ℕ) × IsPiece b paths n × So (has_cell n cell) × (x ≡ marks b + n)
     child_piece x m =
         let r = child_laid b paths x m in
         let p = (mem_pieces b paths r.0 r.2 (valid_width b ok) (valid_height b ok)).0 r.3 in
         (r.0, r.1, r.2, p.0, p.1, r.4 ∙ marks_lay b paths r.2 p.0)
 
     -- and where the board is not pruned every such piece makes a child
-    pub piece_child : pruned b paths ≡ false → (cell : ℕ) → chosen b ≡ some cell → (n : ℕ) → IsPiece b paths n → So (has_cell n cell) → Mem (marks b + n) (children b paths)
+    pub piece_child : pruned b paths ≡ false → (cell : ℕ) → chosen b ≡ Some cell → (n : ℕ) → IsPiece b paths n → So (has_cell n cell) → Mem (marks b + n) (children b paths)
     piece_child e cell f n p h =
         subst (Mem (marks b + n)) (sym (children_chosen b paths e cell f))
         (cast (sym (marks_lay b paths n p)) (mem-map (λ piece. marks (lay b piece)) ((mem_pieces b paths cell n (valid_width b ok) (valid_height b ok)).1 (p, h))))

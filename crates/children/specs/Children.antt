@@ -1,9 +1,9 @@
 -- Definitions: the children of a board. Pruning, children in order, and what `place_tile` answers and leaves in the lent words.
 -- What stands in quotation marks is 01's, from its section Children. Assumes nothing.
-use Rattle.std.specs.Prelude.{Bool, not, cond, ◌&&◌, List, [], map, ℕ, ◌/◌, leb, length}
-use Rattle.std.proofs.Math.Option.{Option, none, some}
+use Rattle.std.specs.Prelude.{Bool, not, cond, ◌&&◌, Option, None, Some, Result, List, [], map, ℕ, ◌/◌, leb, length}
 use Rattle.cells.specs.Lists.{words_for}
-use Rattle.refusal.specs.Refusal.{Answer, refused, given, map_answer, bind_answer, refusal_number, Leaves}
+use Rattle.refusal.specs.declared.Refusal.{Refusal}
+use Rattle.refusal.specs.Refusal.{Answer, refused, given, map_answer, bind_answer, Leaves, answer_of}
 use Rattle.tiles.specs.declared.Tiles.{Tiles}
 use Rattle.tile.specs.Path.{Path}
 use Rattle.tiles.specs.Paths.{contains_single, read_tiles}
@@ -12,8 +12,6 @@ use Rattle.fit.specs.Fit.{pieces}
 use Rattle.choice.specs.Choice.{chosen, has_four}
 use Rattle.board.specs.declared.RectangularBoard.{RectangularBoard}
 use Rattle.board.specs.Board.{board_of}
-use Rattle.children.specs.declared.Children.{Children}
-use Rattle.children.specs.declared.Children.TheVariants as C
 
 -- ---- children
 
@@ -25,8 +23,8 @@ pruned b paths = has_four b && not (contains_single paths)
 -- the boards, both kinds of marks together, that the pieces on a cell make; "A full board has none"
 unfoldable pub children_on : Board → List Path → Option ℕ → List ℕ
 unfolding pieces lay marks
-children_on b paths none = []
-children_on b paths (some cell) = map (λ piece. marks (lay b piece)) (pieces b paths cell)
+children_on b paths None = []
+children_on b paths (Some cell) = map (λ piece. marks (lay b piece)) (pieces b paths cell)
 
 -- the children of a board, in order
 unfoldable pub children : Board → List Path → List ℕ
@@ -57,11 +55,6 @@ unfoldable pub place_tile : Board → Tiles → ℕ → Answer (List ℕ)
 unfolding children_of bind_answer
 place_tile b ts n = bind_answer (children_of b ts) (λ ns. cond (leb (length ns) (n / 4)) (given ns) (refused 8))
 
--- what `place_tile` answers: the number of children, or a refusal
-abbrev pub children_answer : Children → Answer ℕ
-children_answer (C.Number n) = given n
-children_answer (C.Refused r) = refused (refusal_number r)
-
 -- `place_tile`: the number of children; and the words hold the children, zeros behind, or zeros after a refusal
-abbrev pub PlacesTiles : RectangularBoard → Tiles → List ℕ → List ℕ → Children → Type 0
-PlacesTiles b ts old new r = Leaves words_for (place_tile (board_of b) ts (length old)) (children_answer r) old new
+abbrev pub PlacesTiles : RectangularBoard → Tiles → List ℕ → List ℕ → Result ℕ Refusal → Type 0
+PlacesTiles b ts old new r = Leaves words_for (place_tile (board_of b) ts (length old)) (answer_of r) old new

@@ -1,4 +1,5 @@
 -- The definitions compute: the children of small boards, and what `place_tile` answers. Assumes nothing.
+use Rattle.std.specs.Prelude.{Err, Ok}
 use Rattle.std.specs.Prelude.{◌≡◌, refl, true, false, List, [], ◌∷◌, ℕ, ◌+◌, ◌-◌, ◌*◌, ◌^◌}
 use Rattle.cells.specs.declared.Cells.{Cells}
 use Rattle.cells.specs.Set.{number}
@@ -12,7 +13,6 @@ use Rattle.tile.specs.Path.{Path}
 use Rattle.tiles.specs.Paths.{orbit, tiles_of}
 use Rattle.rectangle.specs.Board.{Board}
 use Rattle.children.specs.Children.{pruned, children, place_tile, PlacesTiles}
-use Rattle.children.specs.declared.Children.TheVariants as C
 
 -- boards of a width and a height with fixed and laid marks
 abbrev board : ℕ → ℕ → ℕ → ℕ → Board
@@ -89,11 +89,11 @@ no_cells : Cells
 no_cells = record { w0 = 0; w1 = 0; w2 = 0; w3 = 0 }
 
 -- what `place_tile` leaves in words that held 7: one child of 2 by 1, zeros behind
-left : PlacesTiles (of_marks 2 1 no_cells no_cells) right (7 ∷ 7 ∷ 7 ∷ 7 ∷ 7 ∷ []) (3 ∷ 0 ∷ 0 ∷ 0 ∷ 0 ∷ []) (C.Number 1)
+left : PlacesTiles (of_marks 2 1 no_cells no_cells) right (7 ∷ 7 ∷ 7 ∷ 7 ∷ 7 ∷ []) (3 ∷ 0 ∷ 0 ∷ 0 ∷ 0 ∷ []) (Ok 1)
 unfolding place_tile words_for map_answer value_or number right tiles_of no_cells step
 left = record { answer = refl; words = refl }
 
 -- after refusal 8 zeros
-left_refused : PlacesTiles (of_marks 2 1 no_cells no_cells) right (7 ∷ 7 ∷ 7 ∷ []) (0 ∷ 0 ∷ 0 ∷ []) (C.Refused R.NoRoom)
+left_refused : PlacesTiles (of_marks 2 1 no_cells no_cells) right (7 ∷ 7 ∷ 7 ∷ []) (0 ∷ 0 ∷ 0 ∷ []) (Err R.NoRoom)
 unfolding place_tile words_for map_answer value_or number right tiles_of no_cells step
 left_refused = record { answer = refl; words = refl }

@@ -7,7 +7,7 @@ use Rattle.std.proofs.lemmas.Bool.{false≢true, not-true}
 use mathlib.Core.List.Memᴰ.{map as mem-map}
 use mathlib.Core.List.Memᴰ.{of_map}
 use mathlib.Core.List.{List, [], ◌∷◌, Memᴰ as Mem}
-use Rattle.std.proofs.Math.Option.{some}
+use Rattle.std.specs.Prelude.{Some}
 use Rattle.cells.specs.Set.{has_cell}
 use Rattle.cells.specs.FirstsLaws.{any_true}
 use Rattle.direction.specs.Direction.{Position, shift, step}
@@ -23,7 +23,7 @@ use Rattle.choice.specs.ChosenLaws.{any_four_some, any_four}
 use Rattle.children.specs.Children.{pruned}
 
 -- the test of the chosen cell's count is that of any free cell
-pub pruned_chosen : (b : Board) → b.width ≤ 16 → (paths : List Path) (cell : ℕ) → chosen b ≡ some cell → pruned b paths ≡ (eqb (count_of b cell) 4 && not (contains_single paths))
+pub pruned_chosen : (b : Board) → b.width ≤ 16 → (paths : List Path) (cell : ℕ) → chosen b ≡ Some cell → pruned b paths ≡ (eqb (count_of b cell) 4 && not (contains_single paths))
 unfolding pruned
 pruned_chosen b wide paths cell e = ap (λ (t : Bool). t && not (contains_single paths)) (any_four b wide cell e)
 

@@ -3,69 +3,40 @@
 // specs/Children.antt.
 #![tactic(auto)]
 
-ghost use Rattle.std.specs.Prelude.{◌≡◌};
-ghost use Rattle.refusal.specs.Refusal.{refusal_of, verdict_number};
 ghost use Rattle.board.specs.Board.{board_of};
-ghost use Rattle.children.specs.Children.{children_of, PlacesTiles};
-ghost use Rattle.children.specs.Inner.{earlier_of};
+ghost use Rattle.children.specs.Children.{PlacesTiles};
+ghost use Rattle.children.specs.Inner.{Stores};
 
 use board::RectangularBoard;
 use cells::list;
-use placing::Stored;
-use refusal::{Refusal, Verdict};
+use refusal::Refusal;
 use tiles::Tiles;
 
 mod placing;
 
-// The number of children that were written.
-#[derive(Clone, Copy, Drop)]
-pub enum Children {
-    Number(usize),
-    Refused(Refusal),
-}
-
 // The children, four words each, both kinds of marks together. The words behind the last child are
 // zero, and all of them after a refusal: 4, 6, 5, and 8 for more children than the words hold.
-pub fn place_tile(board: RectangularBoard, tiles: Tiles, out: &mut [u64]) -> Children
+pub fn place_tile(board: RectangularBoard, tiles: Tiles, out: &mut [u64]) -> Result<usize, Refusal>
     ensures { PlacesTiles board tiles out.old out.new result }
 {
-    let verdict = judged(board, tiles);
-    match verdict {
-        Verdict::Accepted => {
-            let stored = placing::add_children(out, board, tiles);
-            match stored {
-                Stored::Number(n) => {
-                    list::clear_from(out, 4 * n);
-                    Children::Number(n)
-                }
-                Stored::Full => {
-                    list::clear_from(out, 0);
-                    Children::Refused(Refusal::NoRoom)
-                }
-            }
+    let stored = store_children(board, tiles, out);
+    match stored {
+        Ok(n) => {
+            list::clear_from(out, 4 * n);
+            Ok(n)
         }
-        Verdict::Refused(refusal) => {
+        Err(refusal) => {
             list::clear_from(out, 0);
-            Children::Refused(refusal)
+            Err(refusal)
         }
     }
 }
 
-// The refusal of the board, and then of the tiles.
-fn judged(board: RectangularBoard, tiles: Tiles) -> Verdict
-    ensures { verdict_number result ≡ refusal_of (children_of (board_of board) tiles) }
+// The children, stored in the first words, whatever stands behind them then.
+fn store_children(board: RectangularBoard, tiles: Tiles, out: &mut [u64]) -> Result<usize, Refusal>
+    ensures { Stores (board_of board) tiles out.new result }
 {
-    let first = board.check();
-    let second = tiles.check();
-    earlier(first, second)
-}
-
-// The first refusal of two verdicts.
-fn earlier(first: Verdict, second: Verdict) -> Verdict
-    ensures { verdict_number result ≡ earlier_of (verdict_number first) (verdict_number second) }
-{
-    match first {
-        Verdict::Accepted => second,
-        Verdict::Refused(refusal) => Verdict::Refused(refusal),
-    }
+    board.check()?;
+    tiles.check()?;
+    placing::add_children(out, board, tiles).ok_or(Refusal::NoRoom)
 }

@@ -4,7 +4,7 @@ use mathlib.Core.Path.{◌≡◌, refl, sym, ap, ◌∙◌}
 use mathlib.Core.Logic.{⊎_elim}
 use mathlib.Core.Bool.{Bool, true, not, ◌&&◌}
 use mathlib.Core.List.{List, Memᴰ as Mem}
-use mathlib.Core.Option.{Option, none, some}
+use Rattle.std.specs.Prelude.{Option, None, Some}
 use Prim.Native.Nat.{ℕ, ◌/◌, ◌%◌, ◌<◌}
 use native.Mathlib.Omega.{arith}
 use lib.ListN.{get_or}
@@ -15,11 +15,13 @@ use Rattle.refusal.specs.Refusal.{given}
 use Rattle.rectangle.specs.Board.{size_ok, cell_of, position_of}
 use Rattle.rectangle.specs.Parts.{free_in}
 use Rattle.rectangle.proofs.BoardLaws.{size_ok_le, inside_iff, cell_of_position_of}
-use Rattle.choice.specs.declared.ChosenCell.{ChosenCell}
-use Rattle.choice.specs.Inner.{array_count, open_in, found_of}
-use Rattle.choice.specs.Choice.{neighbour_count, columns, best_of, cell_with_count_by, chosen_answer}
+use Rattle.choice.specs.Inner.{array_count, open_in}
+use Rattle.choice.specs.Choice.{neighbour_count, columns, best_of, cell_with_count_by}
 use Rattle.choice.specs.Parts.{chosen_in, chosen_for}
 use Rattle.choice.specs.ChosenLaws.{mem_columns, best_of_ext, best_among}
+
+none_some : (c : ℕ) → None ≡ Some c → ⊥
+none_some c e = cc
 
 module _ (w h : ℕ) (ok : size_ok w h ≡ true) (m laid : ℕ) (counts : List ℕ) (ec : counts ≡ list_of (neighbour_count w h laid) 256) where
   small : (c : ℕ) → Mem c (columns h w) → (c % 16 < w) × (c / 16 < h) × (c < 256)
@@ -39,21 +41,22 @@ module _ (w h : ℕ) (ok : size_ok w h ≡ true) (m laid : ℕ) (counts : List �
       (ap (λ (t : Bool). t && not (has_cell m (cell_of (position_of c)))) ((inside_iff w h (c / 16) (c % 16)).1 (r.1, r.0))
       ∙ ap (λ (n : ℕ). not (has_cell m n)) (cell_of_position_of c))
 
-  best_is : best_of (open_in m) (array_count counts) none (columns h w) ≡ chosen_in w h m laid
+  best_is : best_of (open_in m) (array_count counts) None (columns h w) ≡ chosen_in w h m laid
   unfolding chosen_in
   best_is =
-      best_of_ext (open_in m) (λ c. free_in w h m (position_of c)) (array_count counts) (neighbour_count w h laid) (columns h w) none open_is count_is
-      (λ c e. let z : ◌≡◌ {A = ℕ} 0 1 = cc in absurd (omega arith))
+      best_of_ext (open_in m) (λ c. free_in w h m (position_of c)) (array_count counts) (neighbour_count w h laid) (columns h w) None open_is count_is
+      (λ c e. absurd (none_some _ e))
 
   -- the count that stands beside the cell is the cell's
-  found_count_is : (o : Option ℕ) → ((c : ℕ) → o ≡ some c → Mem c (columns h w)) → chosen_answer (found_of (array_count counts) o) ≡ given (cell_with_count_by (neighbour_count w h laid) o)
+  found_count_is : (o : Option ℕ) → ((c : ℕ) → o ≡ Some c → Mem c (columns h w)) → cell_with_count_by (array_count counts) o ≡ cell_with_count_by (neighbour_count w h laid) o
   unfolding cell_with_count_by
-  found_count_is none f = refl
-  found_count_is (some c) f = ap (λ (n : ℕ). given (some (c, n))) (count_is c (f c refl))
+  found_count_is None f = refl
+  found_count_is (Some c) f = ap (λ (n : ℕ). Some (c, n)) (count_is c (f c refl))
 
-  pub found_is : (x : ChosenCell) → x ≡ found_of (array_count counts) (best_of (open_in m) (array_count counts) none (columns h w)) → chosen_answer x ≡ chosen_for w h m laid
+  pub found_is : given (cell_with_count_by (array_count counts) (best_of (open_in m) (array_count counts) None (columns h w))) ≡ chosen_for w h m laid
   unfolding chosen_for
-  found_is x ex =
-      ap chosen_answer (ex ∙ ap (found_of (array_count counts)) best_is)
-      ∙ found_count_is (chosen_in w h m laid) (λ c e. ⊎_elim (λ q. let z : ◌≡◌ {A = ℕ} 0 1 = cc in absurd (omega arith)) (λ k. k) (best_among (open_in m) (array_count counts) none (columns h w) c (best_is ∙ e)))
+  found_is =
+      ap given
+      (ap (cell_with_count_by (array_count counts)) best_is
+      ∙ found_count_is (chosen_in w h m laid) (λ c e. ⊎_elim (λ q. absurd (none_some _ q)) (λ k. k) (best_among (open_in m) (array_count counts) None (columns h w) c (best_is ∙ e))))
       ∙ rw ok refl

@@ -1,13 +1,9 @@
 -- Definitions: neighbour counts and the chosen cell. What stands in quotation marks is 01's, from its section Children. Assumes nothing.
-use Rattle.std.specs.Prelude.{Bool, true, cond, ◌&&◌, ◌||◌, List, [], ◌∷◌, ◌++◌, ℕ, zero, suc, ◌+◌, ◌*◌, ◌/◌, ◌%◌, eqb, ltb}
-use Rattle.std.proofs.Math.Option.{Option, none, some}
+use Rattle.std.specs.Prelude.{Bool, true, cond, ◌&&◌, ◌||◌, Option, None, Some, List, [], ◌∷◌, ◌++◌, ℕ, zero, suc, ◌+◌, ◌*◌, ◌/◌, ◌%◌, eqb, ltb}
 use Rattle.cells.specs.Set.{has_cell}
 use Rattle.cells.specs.Lists.{any, list_of}
-use Rattle.refusal.specs.Refusal.{Answer, refused, given, refusal_number}
 use Rattle.direction.specs.Direction.{shift, step}
 use Rattle.rectangle.specs.Board.{Board, cell_of, position_of, inside, is_free}
-use Rattle.choice.specs.declared.ChosenCell.{ChosenCell}
-use Rattle.choice.specs.declared.ChosenCell.TheVariants as H
 
 -- ---- neighbour counts
 
@@ -48,19 +44,19 @@ columns h (suc c) = columns h c ++ list_of (λ row. 16 * row + c) h
 
 -- whether a cell's count is higher than that of the best cell so far
 unfoldable pub higher : (ℕ → ℕ) → ℕ → Option ℕ → Bool
-higher count cell none = true
-higher count cell (some best) = ltb (count best) (count cell)
+higher count cell None = true
+higher count cell (Some best) = ltb (count best) (count cell)
 
 -- the best of the cells so far and of a list: a cell takes the place of the best if it is free and its count is higher
 unfoldable pub best_of : (ℕ → Bool) → (ℕ → ℕ) → Option ℕ → List ℕ → Option ℕ
 unfolding higher
 best_of free count best [] = best
-best_of free count best (cell ∷ cells) = best_of free count (cond (free cell && higher count cell best) (some cell) best) cells
+best_of free count best (cell ∷ cells) = best_of free count (cond (free cell && higher count cell best) (Some cell) best) cells
 
 -- "The chosen cell is the free cell with the highest neighbour count; ties go to the lowest column, then the lowest row"
 unfoldable pub chosen : Board → Option ℕ
 unfolding best_of is_free neighbour_count columns
-chosen b = best_of (is_free b) (count_of b) none (columns b.height b.width)
+chosen b = best_of (is_free b) (count_of b) None (columns b.height b.width)
 
 -- "any free cell has count 4"
 unfoldable pub has_four : Board → Bool
@@ -71,8 +67,8 @@ has_four b = any (λ cell. is_free b cell && eqb (count_of b cell) 4) (columns b
 
 -- a cell and its count
 unfoldable pub cell_with_count_by : (ℕ → ℕ) → Option ℕ → Option (ℕ × ℕ)
-cell_with_count_by count none = none
-cell_with_count_by count (some cell) = some (cell, count cell)
+cell_with_count_by count None = None
+cell_with_count_by count (Some cell) = Some (cell, count cell)
 
 -- a cell and its neighbour count
 unfoldable pub cell_with_count : Board → Option ℕ → Option (ℕ × ℕ)
@@ -83,9 +79,3 @@ cell_with_count b o = cell_with_count_by (count_of b) o
 unfoldable pub chosen_count : Board → Option (ℕ × ℕ)
 unfolding cell_with_count chosen
 chosen_count b = cell_with_count b (chosen b)
-
--- what `chosen_cell` answers
-abbrev pub chosen_answer : ChosenCell → Answer (Option (ℕ × ℕ))
-chosen_answer (H.Cell cell count) = given (some (cell, count))
-chosen_answer H.Full = given none
-chosen_answer (H.Refused r) = refused (refusal_number r)

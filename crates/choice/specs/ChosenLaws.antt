@@ -1,6 +1,7 @@
 -- Laws of the chosen cell: the cells of the columns are those of the rectangle, in order; what is chosen is the best free cell, and the best free
 -- cell is chosen; no cell is chosen just where none is free, and so just where the board is full. A free cell with count 4 is looked for at the
 -- chosen cell alone. What is chosen over numbers is what is chosen on a board. Rests on `CountLaws` and on the laws of boards. Assumes nothing.
+use Rattle.std.specs.Prelude.{Err, Ok, Result}
 use Rattle.std.proofs.Math.Path.{◌≡◌, refl, ap, ap₂}
 use Rattle.std.proofs.Common.{sym, ◌∙◌, subst}
 use Rattle.std.specs.Prelude.{◌⊎◌, ◌↔◌, ◌&&◌}
@@ -14,7 +15,7 @@ use mathlib.Core.List.Memᴰ.{head as here}
 use mathlib.Core.List.Memᴰ.{not-nil}
 use mathlib.Core.List.Memᴰ.{tail as there}
 use mathlib.Core.List.{List, [], ◌∷◌, ◌++◌, Memᴰ as Mem}
-use Rattle.std.proofs.Math.Option.{Option, none, some}
+use Rattle.std.specs.Prelude.{Option, None, Some}
 use Prim.Native.Nat.{ℕ, zero, suc, ◌+◌, ◌*◌, ◌/◌, ◌%◌, ◌≤◌, ◌<◌}
 use native.Mathlib.Omega.{arith}
 use Rattle.std.proofs.Math.Decide.{ℕ_discrete, dec_lt}
@@ -22,14 +23,12 @@ use borrow.Author.Tests.{ltb-true, ltb-false, eqb-true, eq-eqb}
 use Rattle.std.proofs.Math.Dec.{eqb, ltb}
 use Rattle.cells.specs.Lists.{list_from}
 use Rattle.cells.specs.FirstsLaws.{so_eq, any_true, any_some}
-use Rattle.refusal.specs.Refusal.{Answer, refused, given, refusal_number}
+use Rattle.refusal.specs.Refusal.{Answer, refused, given, refusal_number, answer_of}
 use Rattle.refusal.specs.declared.Refusal.{Refusal}
 use Rattle.rectangle.specs.Board.{marks, valid, size_ok, Board, position_of, is_free, is_full}
 use Rattle.rectangle.specs.Parts.{free_in}
 use Rattle.rectangle.proofs.BoardLaws.{full_none, none_full, valid_width, valid_height, free_inside, free_in_free_at, valid_size}
-use Rattle.choice.specs.declared.ChosenCell.{ChosenCell}
-use Rattle.choice.specs.declared.ChosenCell.TheVariants as H
-use Rattle.choice.specs.Choice.{chosen_count, cell_with_count, chosen_answer, count_of, columns, higher, best_of, chosen, has_four}
+use Rattle.choice.specs.Choice.{chosen_count, cell_with_count, count_of, columns, higher, best_of, chosen, has_four}
 use Rattle.choice.specs.Parts.{chosen_in, chosen_for}
 use Rattle.choice.specs.CountLaws.{count_le}
 
@@ -125,21 +124,21 @@ in_order_columns h (suc c) l =
 module _ (free : ℕ → Bool) (count : ℕ → ℕ) where
   -- the best of the cells of S: none where none of them is free; else a free one with the highest count, and none before it has that count
   abbrev BestIn : (ℕ → Type 0) → Option ℕ → Type 0
-  BestIn S none = (d : ℕ) → S d → So (free d) → ⊥
-  BestIn S (some cell) =
+  BestIn S None = (d : ℕ) → S d → So (free d) → ⊥
+  BestIn S (Some cell) =
       S cell × So (free cell) × ((d : ℕ) → S d → So (free d) → count d ≤ count cell) × ((d : ℕ) → S d → So (free d) → count d ≡ count cell → Earlier d cell → ⊥)
 
   -- the same cells by another name
   renamed : (S T : ℕ → Type 0) (best : Option ℕ) → ((d : ℕ) → S d → T d) → ((d : ℕ) → T d → S d) → BestIn S best → BestIn T best
-  renamed S T none f g p = λ d t. p d (g d t)
-  renamed S T (some cell) f g p = (f cell p.0, p.1, λ d t. p.2 d (g d t), λ d t. p.3 d (g d t))
+  renamed S T None f g p = λ d t. p d (g d t)
+  renamed S T (Some cell) f g p = (f cell p.0, p.1, λ d t. p.2 d (g d t), λ d t. p.3 d (g d t))
 
   -- one cell more
   module _ (S : ℕ → Type 0) (cell : ℕ) where
     abbrev More : ℕ → Type 0
     More d = S d ⊎ (d ≡ cell)
 
-    raised : So (free cell) → ((d : ℕ) → S d → So (free d) → count d < count cell) → BestIn More (some cell)
+    raised : So (free cell) → ((d : ℕ) → S d → So (free d) → count d < count cell) → BestIn More (Some cell)
     raised e l = (
       inr refl,
       e,
@@ -148,7 +147,7 @@ module _ (free : ℕ → Bool) (count : ℕ → ℕ) where
     )
 
     module _ (late : (d : ℕ) → S d → Earlier cell d → ⊥) where
-      kept : (best : ℕ) → BestIn S (some best) → (So (free cell) → count cell ≤ count best) → BestIn More (some best)
+      kept : (best : ℕ) → BestIn S (Some best) → (So (free cell) → count cell ≤ count best) → BestIn More (Some best)
       kept best p l = (
         inl p.0,
         p.1,
@@ -156,16 +155,16 @@ module _ (free : ℕ → Bool) (count : ℕ → ℕ) where
         λ d s f k e. ⊎_elim (λ x. p.3 d x f k e) (λ q. late best p.0 (subst (λ (c : ℕ). Earlier c best) q e)) s,
       )
 
-      scan_one : (best : Option ℕ) → BestIn S best → BestIn More (cond (free cell && higher count cell best) (some cell) best)
+      scan_one : (best : Option ℕ) → BestIn S best → BestIn More (cond (free cell && higher count cell best) (Some cell) best)
       unfolding higher
-      scan_one none p = go (free cell) refl
+      scan_one None p = go (free cell) refl
         where
-          go : (t : Bool) → free cell ≡ t → BestIn More (cond (t && true) (some cell) none)
+          go : (t : Bool) → free cell ≡ t → BestIn More (cond (t && true) (Some cell) None)
           go true e = raised e (λ d s f. absurd (p d s f))
           go false e = λ d s f. ⊎_elim (λ x. p d x f) (λ q. false≢true (sym e ∙ ap free (sym q) ∙ f)) s
-      scan_one (some best) p = go (free cell) (ltb (count best) (count cell)) refl refl
+      scan_one (Some best) p = go (free cell) (ltb (count best) (count cell)) refl refl
         where
-          go : (t u : Bool) → free cell ≡ t → ltb (count best) (count cell) ≡ u → BestIn More (cond (t && u) (some cell) (some best))
+          go : (t u : Bool) → free cell ≡ t → ltb (count best) (count cell) ≡ u → BestIn More (cond (t && u) (Some cell) (Some best))
           go true true e f = raised e (λ d s g. let m = p.2 d s g in omega (arith, ltb-true (count best) (count cell) f))
           go true false e f = kept best p (λ _. ltb-false (count best) (count cell) f)
           go false u e f = kept best p (λ g. absurd (false≢true (sym e ∙ g)))
@@ -175,7 +174,7 @@ module _ (free : ℕ → Bool) (count : ℕ → ℕ) where
   scan_all S best [] p o late =
       renamed S (λ d. S d ⊎ Mem d []) best (λ d s. inl s) (λ d s. ⊎_elim (λ x. x) (λ m. absurd (not-nil m)) s) p
   scan_all S best (cell ∷ cells) p o late =
-      let next = cond (free cell && higher count cell best) (some cell) best in
+      let next = cond (free cell && higher count cell best) (Some cell) best in
       renamed (λ d. More S cell d ⊎ Mem d cells) (λ d. S d ⊎ Mem d (cell ∷ cells)) (best_of free count next cells)
       (λ d s. ⊎_elim (λ x. ⊎_elim (λ y. inl y) (λ q. inr (here q)) x) (λ m. inr (there m)) s)
       (λ d s. ⊎_elim (λ x. inl (inl x)) (λ m. ⊎_elim (λ q. inl (inr q)) (λ k. inr k) (cases_cons m)) s)
@@ -206,41 +205,41 @@ module _ (b : Board) (wide : b.width ≤ 16) where
   scanned : BestIn (is_free b) (count_of b) (λ d. ⊥ ⊎ Mem d (columns b.height b.width)) (chosen b)
   unfolding chosen
   scanned =
-      scan_all (is_free b) (count_of b) (λ d. ⊥) none (columns b.height b.width) (λ d s f. s) (in_order_columns b.height b.width wide) (λ d c s. absurd s)
+      scan_all (is_free b) (count_of b) (λ d. ⊥) None (columns b.height b.width) (λ d s f. s) (in_order_columns b.height b.width wide) (λ d c s. absurd s)
 
-  pub chosen_best : (cell : ℕ) → chosen b ≡ some cell → Best b cell
+  pub chosen_best : (cell : ℕ) → chosen b ≡ Some cell → Best b cell
   chosen_best cell e =
       let p = subst (BestIn (is_free b) (count_of b) (λ d. ⊥ ⊎ Mem d (columns b.height b.width))) e scanned in
       record { free = p.1; most = λ d f. p.2 d (inr (seen d f)) f; first = λ d f. p.3 d (inr (seen d f)) f }
 
-  pub chosen_none : chosen b ≡ none → (d : ℕ) → So (is_free b d) → ⊥
+  pub chosen_none : chosen b ≡ None → (d : ℕ) → So (is_free b d) → ⊥
   chosen_none e d f = subst (BestIn (is_free b) (count_of b) (λ d. ⊥ ⊎ Mem d (columns b.height b.width))) e scanned d (inr (seen d f)) f
 
   -- no cell is chosen if and only if none is free
-  pub chosen_none_iff : (chosen b ≡ none) ↔ ((d : ℕ) → So (is_free b d) → ⊥)
+  pub chosen_none_iff : (chosen b ≡ None) ↔ ((d : ℕ) → So (is_free b d) → ⊥)
   chosen_none_iff = (chosen_none, λ f. go f (chosen b) refl)
     where
-      go : ((d : ℕ) → So (is_free b d) → ⊥) → (best : Option ℕ) → chosen b ≡ best → best ≡ none
-      go f none e = refl
-      go f (some c) e = absurd (f c (chosen_best c e).free)
+      go : ((d : ℕ) → So (is_free b d) → ⊥) → (best : Option ℕ) → chosen b ≡ best → best ≡ None
+      go f None e = refl
+      go f (Some c) e = absurd (f c (chosen_best c e).free)
 
   -- a board is full if and only if no cell is chosen
-  pub full_iff : b.height ≤ 16 → (is_full b ≡ true) ↔ (chosen b ≡ none)
+  pub full_iff : b.height ≤ 16 → (is_full b ≡ true) ↔ (chosen b ≡ None)
   full_iff high = (
     λ e. chosen_none_iff.1 (λ d f. let r = free_inside b d f in full_none b e d (omega arith) f),
     λ e. none_full b (chosen_none e),
   )
 
-  pub best_chosen : (cell : ℕ) → Best b cell → chosen b ≡ some cell
+  pub best_chosen : (cell : ℕ) → Best b cell → chosen b ≡ Some cell
   best_chosen cell p = go (chosen b) refl
     where
-      go : (best : Option ℕ) → chosen b ≡ best → best ≡ some cell
-      go none e = absurd (chosen_none e cell p.free)
-      go (some c) e = ap some (best_unique b c cell (chosen_best c e) p)
+      go : (best : Option ℕ) → chosen b ≡ best → best ≡ Some cell
+      go None e = absurd (chosen_none e cell p.free)
+      go (Some c) e = ap Some (best_unique b c cell (chosen_best c e) p)
 
   -- ---- a free cell with count 4 is looked for at the chosen cell alone
 
-  pub any_four : (cell : ℕ) → chosen b ≡ some cell → has_four b ≡ eqb (count_of b cell) 4
+  pub any_four : (cell : ℕ) → chosen b ≡ Some cell → has_four b ≡ eqb (count_of b cell) 4
   unfolding has_four
   any_four cell e =
       let best = chosen_best cell e in
@@ -256,34 +255,34 @@ module _ (b : Board) (wide : b.width ≤ 16) where
 
 -- tests and counts that agree on the cells of a list find the same cell
 module _ (free free' : ℕ → Bool) (count count' : ℕ → ℕ) where
-  higher_ext : (cell : ℕ) (o : Option ℕ) → count cell ≡ count' cell → ((c : ℕ) → o ≡ some c → count c ≡ count' c) → higher count cell o ≡ higher count' cell o
+  higher_ext : (cell : ℕ) (o : Option ℕ) → count cell ≡ count' cell → ((c : ℕ) → o ≡ Some c → count c ≡ count' c) → higher count cell o ≡ higher count' cell o
   unfolding higher
-  higher_ext cell none e f = refl
-  higher_ext cell (some c) e f = ap₂ ltb (f c refl) e
+  higher_ext cell None e f = refl
+  higher_ext cell (Some c) e f = ap₂ ltb (f c refl) e
 
-  pub best_of_ext : (cells : List ℕ) (o : Option ℕ) → ((c : ℕ) → Mem c cells → free c ≡ free' c) → ((c : ℕ) → Mem c cells → count c ≡ count' c) → ((c : ℕ) → o ≡ some c → count c ≡ count' c) → best_of free count o cells ≡ best_of free' count' o cells
+  pub best_of_ext : (cells : List ℕ) (o : Option ℕ) → ((c : ℕ) → Mem c cells → free c ≡ free' c) → ((c : ℕ) → Mem c cells → count c ≡ count' c) → ((c : ℕ) → o ≡ Some c → count c ≡ count' c) → best_of free count o cells ≡ best_of free' count' o cells
   unfolding best_of
   best_of_ext [] o f g k = refl
   best_of_ext (cell ∷ cells) o f g k =
-      ap (λ (b : Bool). best_of free count (cond b (some cell) o) cells) same
-      ∙ best_of_ext cells (cond (free' cell && higher count' cell o) (some cell) o) (λ c m. f c (there m)) (λ c m. g c (there m)) (kept (free' cell && higher count' cell o))
+      ap (λ (b : Bool). best_of free count (cond b (Some cell) o) cells) same
+      ∙ best_of_ext cells (cond (free' cell && higher count' cell o) (Some cell) o) (λ c m. f c (there m)) (λ c m. g c (there m)) (kept (free' cell && higher count' cell o))
     where
       same : (free cell && higher count cell o) ≡ (free' cell && higher count' cell o)
       same = ap₂ (λ (a b : Bool). a && b) (f cell (here refl)) (higher_ext cell o (g cell (here refl)) k)
 
-      kept : (b : Bool) (c : ℕ) → cond b (some cell) o ≡ some c → count c ≡ count' c
+      kept : (b : Bool) (c : ℕ) → cond b (Some cell) o ≡ Some c → count c ≡ count' c
       kept true c e = let q : cell ≡ c = cc in ap count (sym q) ∙ g cell (here refl) ∙ ap count' q
       kept false c e = k c e
 
 -- the best of a list is the best before it or one of the list
-pub best_among : (free : ℕ → Bool) (count : ℕ → ℕ) (o : Option ℕ) (cells : List ℕ) (c : ℕ) → best_of free count o cells ≡ some c → (o ≡ some c) ⊎ Mem c cells
+pub best_among : (free : ℕ → Bool) (count : ℕ → ℕ) (o : Option ℕ) (cells : List ℕ) (c : ℕ) → best_of free count o cells ≡ Some c → (o ≡ Some c) ⊎ Mem c cells
 unfolding best_of
 best_among free count o [] c e = inl e
 best_among free count o (cell ∷ cells) c e =
     ⊎_elim (λ q. go (free cell && higher count cell o) q) (λ m. inr (there m))
-    (best_among free count (cond (free cell && higher count cell o) (some cell) o) cells c e)
+    (best_among free count (cond (free cell && higher count cell o) (Some cell) o) cells c e)
   where
-    go : (t : Bool) → cond t (some cell) o ≡ some c → (o ≡ some c) ⊎ Mem c (cell ∷ cells)
+    go : (t : Bool) → cond t (Some cell) o ≡ Some c → (o ≡ Some c) ⊎ Mem c (cell ∷ cells)
     go true q = let s : c ≡ cell = cc in inr (here s)
     go false q = inl q
 
@@ -291,7 +290,7 @@ module _ (b : Board) (wide : b.width ≤ 16) (high : b.height ≤ 16) where
   chosen_in_is : chosen_in b.width b.height (marks b) b.laid ≡ chosen b
   unfolding chosen_in chosen is_free
   chosen_in_is =
-      best_of_ext (λ cell. free_in b.width b.height (marks b) (position_of cell)) (is_free b) (count_of b) (count_of b) (columns b.height b.width) none
+      best_of_ext (λ cell. free_in b.width b.height (marks b) (position_of cell)) (is_free b) (count_of b) (count_of b) (columns b.height b.width) None
       (λ c m. free_in_free_at b wide high (position_of c)) (λ c m. refl) (λ c e. refl)
 
 -- the chosen cell of an accepted board
@@ -307,38 +306,38 @@ chosen_for_refused w h m laid e = rw e
 
 -- ---- what the answer tells of an accepted board
 
-given_pair : (c n d k : ℕ) → ◌≡◌ {A = Answer (Option (ℕ × ℕ))} (given (some (c, n))) (given (some (d, k))) → (c ≡ d) × (n ≡ k)
+given_pair : (c n d k : ℕ) → ◌≡◌ {A = Answer (Option (ℕ × ℕ))} (given (Some (c, n))) (given (Some (d, k))) → (c ≡ d) × (n ≡ k)
 given_pair c n d k e =
     let q : ◌≡◌ {A = ℕ × ℕ} (c, n) (d, k) = cc in
     (ap (λ (p : ℕ × ℕ). p.0) q, ap (λ (p : ℕ × ℕ). p.1) q)
 
-module _ (b : Board) (x : ChosenCell) (ex : chosen_answer x ≡ given (chosen_count b)) where
-  pub found_full : x ≡ H.Full → chosen b ≡ none
+module _ (b : Board) (x : (Result (Option (ℕ × ℕ)) Refusal)) (ex : answer_of x ≡ given (chosen_count b)) where
+  pub found_full : x ≡ (Ok None) → chosen b ≡ None
   unfolding chosen_count cell_with_count
-  found_full e = go (chosen b) (sym (ap chosen_answer e) ∙ ex)
+  found_full e = go (chosen b) (sym (ap answer_of e) ∙ ex)
     where
-      go : (o : Option ℕ) → given none ≡ given (cell_with_count b o) → o ≡ none
-      go none q = refl
-      go (some c) q = let z : ◌≡◌ {A = ℕ} 0 1 = cc in absurd (omega arith)
+      go : (o : Option ℕ) → given None ≡ given (cell_with_count b o) → o ≡ None
+      go None q = refl
+      go (Some c) q = let z : ◌≡◌ {A = ℕ} 0 1 = cc in absurd (omega arith)
 
-  pub found_no_refusal : (r : Refusal) → x ≡ H.Refused r → ⊥
+  pub found_no_refusal : (r : Refusal) → x ≡ Err r → ⊥
   found_no_refusal r e =
-      let q : refused (refusal_number r) ≡ given (chosen_count b) = sym (ap chosen_answer e) ∙ ex in
+      let q : refused (refusal_number r) ≡ given (chosen_count b) = sym (ap answer_of e) ∙ ex in
       let z : ◌≡◌ {A = ℕ} 0 1 = cc in
       omega arith
 
-  module _ (cell n : ℕ) (e : x ≡ H.Cell cell n) where
-    told : (chosen b ≡ some cell) × (n ≡ count_of b cell)
+  module _ (cell n : ℕ) (e : x ≡ Ok (Some (cell, n))) where
+    told : (chosen b ≡ Some cell) × (n ≡ count_of b cell)
     unfolding chosen_count cell_with_count
-    told = go (chosen b) (sym (ap chosen_answer e) ∙ ex)
+    told = go (chosen b) (sym (ap answer_of e) ∙ ex)
       where
-        go : (o : Option ℕ) → given (some (cell, n)) ≡ given (cell_with_count b o) → (o ≡ some cell) × (n ≡ count_of b cell)
-        go none q = let z : ◌≡◌ {A = ℕ} 0 1 = cc in absurd (omega arith)
-        go (some c) q =
+        go : (o : Option ℕ) → given (Some (cell, n)) ≡ given (cell_with_count b o) → (o ≡ Some cell) × (n ≡ count_of b cell)
+        go None q = let z : ◌≡◌ {A = ℕ} 0 1 = cc in absurd (omega arith)
+        go (Some c) q =
             let s = given_pair cell n c (count_of b c) q in
-            (ap some (sym s.0), s.1 ∙ ap (count_of b) (sym s.0))
+            (ap Some (sym s.0), s.1 ∙ ap (count_of b) (sym s.0))
 
-    pub found_cell : chosen b ≡ some cell
+    pub found_cell : chosen b ≡ Some cell
     found_cell = told.0
 
     pub found_count : n ≡ count_of b cell

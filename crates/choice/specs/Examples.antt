@@ -1,12 +1,10 @@
 -- The definitions compute: counts and chosen cells of small boards. Assumes nothing.
-use Rattle.std.specs.Prelude.{◌≡◌, refl, true, false, [], ◌∷◌, map, ℕ, ◌+◌, ◌*◌, ◌^◌}
-use Rattle.std.proofs.Math.Option.{none, some}
-use Rattle.refusal.specs.Refusal.{refused, given}
+use Rattle.std.specs.Prelude.{◌≡◌, refl, true, false, Option, None, Some, Ok, Err, [], ◌∷◌, map, ℕ, ◌+◌, ◌*◌, ◌^◌}
+use Rattle.refusal.specs.Refusal.{refused, given, answer_of}
 use Rattle.rectangle.specs.Board.{Board}
 use Rattle.refusal.specs.declared.Refusal.TheVariants as R
-use Rattle.choice.specs.declared.ChosenCell.TheVariants as H
 use Rattle.choice.specs.Parts.{chosen_for}
-use Rattle.choice.specs.Choice.{neighbour_count, count_of, chosen, has_four, chosen_count, chosen_answer}
+use Rattle.choice.specs.Choice.{neighbour_count, count_of, chosen, has_four, chosen_count}
 
 -- boards of a width and a height with fixed and laid marks
 abbrev board : ℕ → ℕ → ℕ → ℕ → Board
@@ -49,16 +47,16 @@ unfolding neighbour_count
 no_marks_outside = refl
 
 -- "ties go to the lowest column, then the lowest row": (1, 0) comes before (0, 1), and (0, 1) before (1, 1)
-ties : (chosen (board 3 2 1 0) ≡ some 16) × (chosen (board 3 2 (1 + 2 ^ 16) 0) ≡ some 1)
+ties : (chosen (board 3 2 1 0) ≡ Some 16) × (chosen (board 3 2 (1 + 2 ^ 16) 0) ≡ Some 1)
 unfolding chosen
 ties = (refl, refl)
 
 -- the last column and the last row are looked at
-last_cells : (chosen (board 3 1 3 0) ≡ some 2) × (chosen (board 1 3 (1 + 2 ^ 16) 0) ≡ some 32)
+last_cells : (chosen (board 3 1 3 0) ≡ Some 2) × (chosen (board 1 3 (1 + 2 ^ 16) 0) ≡ Some 32)
 unfolding chosen
 last_cells = (refl, refl)
 
-full : chosen (board 1 1 0 1) ≡ none
+full : chosen (board 1 1 0 1) ≡ None
 unfolding chosen
 full = refl
 
@@ -71,15 +69,15 @@ fours = refl
 -- ---- `chosen_cell`
 
 -- a full board has no chosen cell; otherwise the cell and its count: an edge cell, and the middle of the ring
-chosen_counts : (chosen_count (board 1 1 0 1) ≡ none) × (chosen_count (board 3 2 1 0) ≡ some (16, 1)) × (chosen_count (board 3 3 0 ring) ≡ some (17, 4))
+chosen_counts : (chosen_count (board 1 1 0 1) ≡ None) × (chosen_count (board 3 2 1 0) ≡ Some (16, 1)) × (chosen_count (board 3 3 0 ring) ≡ Some (17, 4))
 unfolding chosen_count
 chosen_counts = (refl, refl, refl)
 
 -- the same over numbers: fixed marks are among the marks and not among the laid ones; a size that no board has is refused
-over_numbers : chosen_for 3 2 1 0 ∷ chosen_for 3 3 ring ring ∷ chosen_for 3 3 ring 0 ∷ chosen_for 1 1 1 1 ∷ chosen_for 17 1 0 0 ∷ chosen_for 0 5 0 0 ∷ [] ≡ given (some (16, 1)) ∷ given (some (17, 4)) ∷ given (some (17, 0)) ∷ given none ∷ refused 4 ∷ refused 4 ∷ []
+over_numbers : chosen_for 3 2 1 0 ∷ chosen_for 3 3 ring ring ∷ chosen_for 3 3 ring 0 ∷ chosen_for 1 1 1 1 ∷ chosen_for 17 1 0 0 ∷ chosen_for 0 5 0 0 ∷ [] ≡ given (Some (16, 1)) ∷ given (Some (17, 4)) ∷ given (Some (17, 0)) ∷ given None ∷ refused 4 ∷ refused 4 ∷ []
 unfolding chosen_for
 over_numbers = refl
 
 -- what the answers of the code stand for
-answers : chosen_answer (H.Cell 17 4) ∷ chosen_answer H.Full ∷ chosen_answer (H.Refused R.BadBoard) ∷ [] ≡ given (some (17, 4)) ∷ given none ∷ refused 4 ∷ []
+answers : map (answer_of {A = Option (ℕ × ℕ)}) (Ok (Some (17, 4)) ∷ Ok None ∷ Err R.BadBoard ∷ []) ≡ given (Some (17, 4)) ∷ given None ∷ refused 4 ∷ []
 answers = refl

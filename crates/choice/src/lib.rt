@@ -2,10 +2,10 @@
 // answer, which is a definition of specs/Parts.antt.
 #![tactic(auto)]
 
+ghost use Rattle.refusal.specs.Refusal.{answer_of};
 ghost use Rattle.std.specs.Prelude.{◌≡◌};
 ghost use Rattle.cells.specs.Set.{number};
 ghost use Rattle.choice.specs.Parts.{chosen_for};
-ghost use Rattle.choice.specs.Choice.{chosen_answer};
 
 use cells::Cells;
 use refusal::Refusal;
@@ -13,22 +13,19 @@ use refusal::Refusal;
 mod counts;
 mod scan;
 
-// The chosen cell and its neighbour count; full where no cell is free.
-#[derive(Clone, Copy, Drop)]
-pub enum ChosenCell {
-    Cell(usize, u8),
-    Full,
-    Refused(Refusal),
-}
-
 // The free cell with the highest neighbour count, the first by columns and then by rows, of a size, the
 // marks of both kinds together and the laid ones; refusal 4 for a size that no board has.
-pub fn chosen_cell(width: usize, height: usize, marks: Cells, laid: Cells) -> ChosenCell
-    ensures { chosen_answer result ≡ chosen_for width height (number marks) (number laid) }
+pub fn chosen_cell(
+    width: usize,
+    height: usize,
+    marks: Cells,
+    laid: Cells,
+) -> Result<Option<(usize, u8)>, Refusal>
+    ensures { answer_of result ≡ chosen_for width height (number marks) (number laid) }
 {
     if !rectangle::size_ok(width, height) {
-        return ChosenCell::Refused(Refusal::BadBoard);
+        return Err(Refusal::BadBoard);
     }
     let counts = counts::neighbour_counts(laid, width, height);
-    scan::choose(marks, &counts, width, height)
+    Ok(scan::choose(marks, &counts, width, height))
 }

@@ -1,23 +1,26 @@
 // The scan for the best free cell. Private helpers; they ask that the size has been tested.
 ghost use Rattle.std.specs.Prelude.{◌≡◌, [], ◌∷◌, ◌+◌, ◌*◌, ◌≤◌, ◌<◌};
-ghost use Rattle.std.proofs.Math.Option.{none};
 ghost use Rattle.cells.specs.Set.{number};
 ghost use Rattle.cells.specs.Lists.{list_of};
-ghost use Rattle.choice.specs.Choice.{columns, best_of};
-ghost use Rattle.choice.specs.Inner.{array_count, open_in, found_of, Looked};
+ghost use Rattle.choice.specs.Choice.{columns, best_of, cell_with_count_by};
+ghost use Rattle.choice.specs.Inner.{array_count, open_in, Looked};
 
-use crate::ChosenCell;
 use cells::Cells;
 
 // How far a scan is: the best of the cells so far, and the bit number of the place it has come to.
 #[derive(Clone, Copy, Drop)]
 struct Scan {
-    best: ChosenCell,
+    best: Option<(usize, u8)>,
     cell: usize,
 }
 
 // One cell more is looked at.
-fn look_at(marks: Cells, counts: &[u8; 256], best: ChosenCell, cell: usize) -> ChosenCell
+fn look_at(
+    marks: Cells,
+    counts: &[u8; 256],
+    best: Option<(usize, u8)>,
+    cell: usize,
+) -> Option<(usize, u8)>
     requires { cell < 256 }
     ensures { Looked (number marks) counts.now best (cell ∷ []) result }
 {
@@ -26,14 +29,8 @@ fn look_at(marks: Cells, counts: &[u8; 256], best: ChosenCell, cell: usize) -> C
     }
     let count = counts[cell];
     match best {
-        ChosenCell::Full => ChosenCell::Cell(cell, count),
-        ChosenCell::Cell(other, high) => {
-            if high < count {
-                return ChosenCell::Cell(cell, count);
-            }
-            ChosenCell::Cell(other, high)
-        }
-        ChosenCell::Refused(refusal) => ChosenCell::Refused(refusal),
+        Some((_, high)) if count <= high => best,
+        _ => Some((cell, count)),
     }
 }
 
@@ -46,31 +43,27 @@ fn scan_column(marks: Cells, counts: &[u8; 256], height: usize, col: usize, scan
 {
     let mut best = scan.best;
     let mut cell = scan.cell;
-    let mut row = 0;
-    while row < height {
+    for _row in 0..height {
         best = look_at(marks, counts, best, cell);
         cell += 16;
-        row += 1;
     }
     Scan { best, cell }
 }
 
 // The free cell with the highest count, the first by columns and then by rows. For the step over, from below a column
 // to the top of the next, 1 is added to the bit number and what the column has added is taken away.
-pub fn choose(marks: Cells, counts: &[u8; 256], width: usize, height: usize) -> ChosenCell
+pub fn choose(marks: Cells, counts: &[u8; 256], width: usize, height: usize) -> Option<(usize, u8)>
     requires { (width ≤ 16) × (height ≤ 16) }
-    ensures { result ≡ found_of (array_count counts.now) (best_of (open_in (number marks)) (array_count counts.now) none (columns height width)) }
+    ensures { result ≡ cell_with_count_by (array_count counts.now) (best_of (open_in (number marks)) (array_count counts.now) None (columns height width)) }
 {
     let depth = 16 * height;
     let mut scan = Scan {
-        best: ChosenCell::Full,
+        best: None,
         cell: 0,
     };
-    let mut col = 0;
-    while col < width {
+    for col in 0..width {
         scan = scan_column(marks, counts, height, col, scan);
         scan.cell = scan.cell + 1 - depth;
-        col += 1;
     }
     scan.best
 }

@@ -8,7 +8,8 @@ use Rattle.std.proofs.Common.{◌∙◌, add-zero}
 use Rattle.std.proofs.Math.Logic.{⊎_elim}
 use Rattle.std.proofs.Math.Bool.{true, false, So, cond}
 use Rattle.std.proofs.lemmas.Bool.{false≢true}
-use Rattle.std.proofs.Math.Option.{Option, none, some, none-ne-some, some-injective}
+use Rattle.std.specs.Prelude.{Option, None, Some}
+use Rattle.cells.specs.OptionLaws.{none-ne-some, some-injective}
 use mathlib.Core.List.Memᴰ.{cases_cons}
 use mathlib.Core.List.Memᴰ.{not-nil}
 use mathlib.Core.List.{List, [], ◌∷◌, ◌++◌, map, flat_map, Memᴰ as Mem}
@@ -32,29 +33,29 @@ use Rattle.covers.proofs.NodeLaws.{count_number, number_get_d}
 -- ---- the full node
 
 module _ {B : Type 0} (full : B → Bool) where
-  full_from_some : (i v : ℕ) (ss : List B) (d : B) → full_from full i ss ≡ some v → (k : ℕ) × (v ≡ i + k) × (k < length ss) × So (full (get_or ss k d))
+  full_from_some : (i v : ℕ) (ss : List B) (d : B) → full_from full i ss ≡ Some v → (k : ℕ) × (v ≡ i + k) × (k < length ss) × So (full (get_or ss k d))
   unfolding full_from
   full_from_some i v [] d e = absurd (none-ne-some v e)
   full_from_some i v (s ∷ ss) d e = go (full s) refl e (λ q. full_from_some (suc i) v ss d q)
     where
-      go : (b : Bool) → full s ≡ b → cond b (some i) (full_from full (suc i) ss) ≡ some v
-          → (full_from full (suc i) ss ≡ some v → (k : ℕ) × (v ≡ suc i + k) × (k < length ss) × So (full (get_or ss k d)))
+      go : (b : Bool) → full s ≡ b → cond b (Some i) (full_from full (suc i) ss) ≡ Some v
+          → (full_from full (suc i) ss ≡ Some v → (k : ℕ) × (v ≡ suc i + k) × (k < length ss) × So (full (get_or ss k d)))
           → (k : ℕ) × (v ≡ i + k) × (k < length (s ∷ ss)) × So (full (get_or (s ∷ ss) k d))
       go true f q below = (0, sym (some-injective i v q) ∙ sym (add-zero i), omega arith, f)
       go false f q below = let r = below q in (suc r.0, omega (arith, r.1), omega (arith, r.2), r.3)
 
-  full_from_none : (i : ℕ) (ss : List B) → full_from full i ss ≡ none → (t : B) → Mem t ss → full t ≡ false
+  full_from_none : (i : ℕ) (ss : List B) → full_from full i ss ≡ None → (t : B) → Mem t ss → full t ≡ false
   unfolding full_from
   full_from_none i [] e t m = absurd (not-nil m)
   full_from_none i (s ∷ ss) e t m = go (full s) refl e (λ q. full_from_none (suc i) ss q t)
     where
-      go : (b : Bool) → full s ≡ b → cond b (some i) (full_from full (suc i) ss) ≡ none
-          → (full_from full (suc i) ss ≡ none → Mem t ss → full t ≡ false) → full t ≡ false
+      go : (b : Bool) → full s ≡ b → cond b (Some i) (full_from full (suc i) ss) ≡ None
+          → (full_from full (suc i) ss ≡ None → Mem t ss → full t ≡ false) → full t ≡ false
       go true f q below = absurd (none-ne-some i (sym q))
       go false f q below = ⊎_elim (λ k. ap full k ∙ f) (below q) (cases_cons m)
 
   -- the full node is a node behind the first, and full
-  pub full_node_some : (s : B) (ss : List B) (v : ℕ) (d : B) → full_node full (s ∷ ss) ≡ some v
+  pub full_node_some : (s : B) (ss : List B) (v : ℕ) (d : B) → full_node full (s ∷ ss) ≡ Some v
       → (0 < v) × (v < length (s ∷ ss)) × So (full (get_or (s ∷ ss) v d))
   unfolding full_node
   full_node_some s ss v d e =
@@ -63,7 +64,7 @@ module _ {B : Type 0} (full : B → Bool) where
       (omega arith, omega (arith, r.2), subst (λ (w : ℕ). So (full (get_or (s ∷ ss) w d))) (sym q) r.3)
 
   -- with none, no node behind the first is full
-  pub full_node_none : (s : B) (ss : List B) → full_node full (s ∷ ss) ≡ none → (t : B) → Mem t ss → full t ≡ false
+  pub full_node_none : (s : B) (ss : List B) → full_node full (s ∷ ss) ≡ None → (t : B) → Mem t ss → full t ≡ false
   unfolding full_node
   full_node_none s ss e t m = full_from_none 1 ss e t m
 
@@ -108,7 +109,7 @@ module _ {B P : Type 0} (G : Setting B P) (L : Laws G) (a : ℕ) (E : EqualSteps
   nodes : nodes_of G s ≡ s ∷ boards rest
   nodes = ap boards entries
 
-  some_full : (v : ℕ) → full_node G.full (nodes_of G s) ≡ some v → (v < length (nodes_of G s)) × So (G.full (get_or (nodes_of G s) v s))
+  some_full : (v : ℕ) → full_node G.full (nodes_of G s) ≡ Some v → (v < length (nodes_of G s)) × So (G.full (get_or (nodes_of G s) v s))
   some_full v e =
       let r = full_node_some G.full s (boards rest) v s (ap (full_node G.full) (sym nodes) ∙ e) in
       (subst (λ (ss : List B). v < length ss) (sym nodes) r.1, subst (λ (ss : List B). So (G.full (get_or ss v s))) (sym nodes) r.2)
@@ -135,7 +136,7 @@ module _ {B P : Type 0} (G : Setting B P) (L : Laws G) (a : ℕ) (E : EqualSteps
       (ap (number_in G.same_board (nodes_of G s)) e.2 ∙ number_get_d G.same_board L.board_eq (nodes_of G s) v s (once_nodes G L a E s ok) h)
 
   module _ (notFull : G.full s ≡ false) where
-    none_full : full_node G.full (nodes_of G s) ≡ none → (t : B) → Mem t (nodes_of G s) → G.full t ≡ false
+    none_full : full_node G.full (nodes_of G s) ≡ None → (t : B) → Mem t (nodes_of G s) → G.full t ≡ false
     none_full e t m =
         ⊎_elim (λ q. ap G.full q ∙ notFull) (full_node_none G.full s (boards rest) (ap (full_node G.full) (sym nodes) ∙ e) t)
         (cases_cons (subst (Mem t) nodes m))
@@ -150,7 +151,7 @@ module _ {B P : Type 0} (G : Setting B P) (L : Laws G) (a : ℕ) (E : EqualSteps
         sum_append (λ e. cond (G.full e.0) e.1 0) (layers G.same_board (child_boards G) s n) (layer_of G s (suc n))
         ∙ ap (λ (k : ℕ). k + full_count G.full (layer_of G s (suc n))) (sum_layers n)
 
-    none_count : full_node G.full (nodes_of G s) ≡ none → full_count G.full (entries_of G s) ≡ 0
+    none_count : full_node G.full (nodes_of G s) ≡ None → full_count G.full (entries_of G s) ≡ 0
     unfolding full_count
     none_count e = sum_zero (λ e. cond (G.full e.0) e.1 0) (entries_of G s)
         (λ x k. ap (λ (b : Bool). cond b x.1 0) (none_full e x.0 (mem_boards (entries_of G s) x k)))
@@ -161,8 +162,8 @@ module _ {B P : Type 0} (G : Setting B P) (L : Laws G) (a : ℕ) (E : EqualSteps
       where
         go : (o : Option ℕ) → full_node G.full (nodes_of G s) ≡ o
             → full_count G.full (entries_of G s) ≡ at_node (path_count_of G s) (full_node G.full (nodes_of G s))
-        go none e = none_count e ∙ ap (at_node (path_count_of G s)) (sym e)
-        go (some v) e = let r = some_full v e in full_weight v r.0 r.1 ∙ ap (at_node (path_count_of G s)) (sym e)
+        go None e = none_count e ∙ ap (at_node (path_count_of G s)) (sym e)
+        go (Some v) e = let r = some_full v e in full_weight v r.0 r.1 ∙ ap (at_node (path_count_of G s)) (sym e)
 
     -- ---- and are the number of child sequences to the full board, where one is reached
 
@@ -175,8 +176,8 @@ module _ {B P : Type 0} (G : Setting B P) (L : Laws G) (a : ℕ) (E : EqualSteps
         m = (node_reached G L s ok t).1 (xs, r)
 
         go : (o : Option ℕ) → full_node G.full (nodes_of G s) ≡ o → Exactly (at_node (path_count_of G s) o) (ChildSequence (child_boards G) s t)
-        go none e = absurd (false≢true (sym (none_full e t m) ∙ f))
-        go (some v) e =
+        go None e = absurd (false≢true (sym (none_full e t m) ∙ f))
+        go (Some v) e =
             let k = some_full v e in
             let o = node_ok G L s ok (get_or (nodes_of G s) v s) (mem_get_d (nodes_of G s) v s k.0) in
             subst (λ (u : B). Exactly (path_count_of G s v) (ChildSequence (child_boards G) s u)) (L.full_one (get_or (nodes_of G s) v s) t o (node_ok G L s ok t m) k.1 f)
@@ -188,15 +189,15 @@ module _ {B P : Type 0} (G : Setting B P) (L : Laws G) (a : ℕ) (E : EqualSteps
     read_to : Option ℕ → ℕ → List P
     read_to o m = pieces_of G.step_piece (map (λ v. get_or (nodes_of G s) v s) (node_list_to (graph_edges G s) (path_count_of G s) (at_node (λ v. v) o) m))
 
-    no_sequence : full_node G.full (nodes_of G s) ≡ none → (ps : List P) → PlacingSequence G s ps → ⊥
+    no_sequence : full_node G.full (nodes_of G s) ≡ None → (ps : List P) → PlacingSequence G s ps → ⊥
     no_sequence e ps r =
         let k = sequence_children G L s ps ok r in
         false≢true (sym (none_full e k.0 ((node_reached G L s ok k.0).1 (k.1, k.4))) ∙ k.3)
 
     numbered_to : (o : Option ℕ) → full_node G.full (nodes_of G s) ≡ o → Numbering (PlacingSequence G s) (at_node (path_count_of G s) o) (read_to o)
     unfolding at_node read_to
-    numbered_to none e = numbering_none (read_to none) (no_sequence e)
-    numbered_to (some v) e =
+    numbered_to None e = numbering_none (read_to None) (no_sequence e)
+    numbered_to (Some v) e =
         let r = some_full v e in
         let o = node_ok G L s ok (get_or (nodes_of G s) v s) (mem_get_d (nodes_of G s) v s r.0) in
         sequences_numbered G L s (get_or (nodes_of G s) v s) ok o r.1 (tilings_numbered G L a E s ok v r.0)
@@ -221,8 +222,8 @@ module _ {B P : Type 0} (G : Setting B P) (L : Laws G) (a : ℕ) (E : EqualSteps
   none_reached never = go (full_node G.full (nodes_of G s)) refl
     where
       go : (o : Option ℕ) → full_node G.full (nodes_of G s) ≡ o → at_node (path_count_of G s) o ≡ 0
-      go none e = refl
-      go (some v) e =
+      go None e = refl
+      go (Some v) e =
           let k = some_full v e in
           let t = get_or (nodes_of G s) v s in
           let r = (node_reached G L s ok t).0 (mem_get_d (nodes_of G s) v s k.0) in

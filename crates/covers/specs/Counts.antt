@@ -3,7 +3,7 @@
 -- board". Assumes nothing.
 use Rattle.std.specs.Prelude.{◌≡◌, Bool, eqb, ltb}
 use Rattle.std.proofs.Math.Bool.{cond}
-use Rattle.std.proofs.Math.Option.{Option, none, some}
+use Rattle.std.specs.Prelude.{Option, None, Some}
 use mathlib.Core.List.{List, [], ◌∷◌, ◌++◌, map, flat_map, tail, Memᴰ as Mem}
 use Prim.Native.Nat.{ℕ, zero, suc, ◌+◌, ◌-◌, ◌<◌}
 use Rattle.cells.specs.Lists.{firsts}
@@ -132,8 +132,8 @@ module _ {B : Type 0} (full : B → Bool) where
 
   -- the number of the first full board, the numbers beginning with i
   unfoldable pub full_from : ℕ → List B → Option ℕ
-  full_from i [] = none
-  full_from i (s ∷ ss) = cond (full s) (some i) (full_from (suc i) ss)
+  full_from i [] = None
+  full_from i (s ∷ ss) = cond (full s) (Some i) (full_from (suc i) ss)
 
   -- "the full board's node, or none; node 0 is never that node"
   unfoldable pub full_node : List B → Option ℕ
@@ -142,8 +142,8 @@ module _ {B : Type 0} (full : B → Bool) where
 
 -- f of a node, 0 with none
 unfoldable pub at_node : (ℕ → ℕ) → Option ℕ → ℕ
-at_node f none = 0
-at_node f (some v) = f v
+at_node f None = 0
+at_node f (Some v) = f v
 
 -- the node list with the number m of a graph with the full node o: "from the full node go backward" (from node 0 with none, a list that is never given)
 abbrev pub node_list : List (ℕ × ℕ) → (ℕ → ℕ) → Option ℕ → ℕ → List ℕ

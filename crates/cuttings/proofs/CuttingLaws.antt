@@ -1,6 +1,8 @@
 -- Laws of the figure: what it is of a full board and of one with a free cell, that it comes from the layer count by the board alone, that it fits its words, and that it
 -- is the number of cuttings. Rests on `FullLaws`, layers' `CountLaws` and expansion's `AcceptedLaws`. Assumes nothing.
-use Rattle.std.specs.Prelude.{◌≡◌, List, Bool, ℕ, zero, suc, ◌<◌}
+use Rattle.refusal.specs.declared.Refusal.{Refusal}
+use Rattle.path_count.specs.declared.PathCount.{PathCount}
+use Rattle.std.specs.Prelude.{◌≡◌, List, Bool, ℕ, zero, suc, ◌<◌, Result}
 use Rattle.std.proofs.Math.Path.{refl, sym, ap, subst}
 use Rattle.std.proofs.Common.{◌∙◌, arith, lit<}
 use Rattle.std.proofs.Math.Bool.{true, false, So, cond}
@@ -19,7 +21,6 @@ use Rattle.path_count.specs.PathCounts.{count_limit}
 use Rattle.expansion.specs.Boards.{Accepted}
 use Rattle.expansion.specs.Plots.{accept_plot, IsCutting, HasFreeCell, AllEdgeJoined}
 use Rattle.expansion.proofs.AcceptedLaws.{read_accepted, from_read}
-use Rattle.layers.specs.declared.Count.{Count}
 use Rattle.layers.specs.LayerCounts.{layer_count_for, count_tilings, count_answer, LeavesCount}
 use Rattle.layers.proofs.CountLaws.{count_cuttings_lem, layers_small}
 use Rattle.cuttings.specs.Cuttings.{cuttings_of, count_cuttings, cuttings_from}
@@ -59,7 +60,7 @@ module _ (b : RectangularBoard) (ts : Tiles) where
       go (given n) e = ap (map_answer (λ board. cuttings_of board n)) (read_board_given b (counted_accepted room n e).0.board)
 
   -- what is answered and left after the layers are worked and the figure is told of their count
-  pub figure_left : (room : ℕ) {ba ca bb cb ba' ca' bb' cb' : List ℕ} {k r : Count} → LeavesCount (count_tilings b ts room) ba ca bb cb ba' ca' bb' cb' k
+  pub figure_left : (room : ℕ) {ba ca bb cb ba' ca' bb' cb' : List ℕ} {k r : Result PathCount Refusal} → LeavesCount (count_tilings b ts room) ba ca bb cb ba' ca' bb' cb' k
       → count_answer r ≡ cuttings_from b (count_answer k) → LeavesCount (count_cuttings b ts room) ba ca bb cb ba' ca' bb' cb' r
   figure_left room counted told = record {
     answer = told ∙ ap (cuttings_from b) counted.answer ∙ from_layers room;

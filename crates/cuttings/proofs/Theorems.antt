@@ -2,7 +2,9 @@
 -- or not, and what the product of two figures is. Each statement is for every board and tiles of the code (a set of the code has words of 64 bits: `Sound`) and every
 -- room, or over the answers of calls. What stands in quotation marks is 02's, from its request 3. Rests on `CuttingLaws`, `FullLaws` and covers' `Theorems`. Assumes
 -- nothing.
-use Rattle.std.specs.Prelude.{◌≡◌, ◌↔◌, Bool, true, false, List, ℕ, ◌*◌, ◌<◌, length}
+use Rattle.refusal.specs.declared.Refusal.{Refusal}
+use Rattle.path_count.specs.declared.PathCount.{PathCount}
+use Rattle.std.specs.Prelude.{◌≡◌, ◌↔◌, Bool, true, false, List, ℕ, ◌*◌, ◌<◌, length, Result}
 use Rattle.std.proofs.Common.{sym, ◌∙◌}
 use Rattle.std.proofs.Math.Bool.{So}
 use Rattle.cells.specs.Set.{Sound}
@@ -20,7 +22,6 @@ use Rattle.covers.proofs.Theorems.{number_of_pairs, number_of_lists}
 use Rattle.path_count.specs.PathCounts.{count_limit}
 use Rattle.graph.specs.Graph.{layer_room}
 use Rattle.expansion.specs.Plots.{accept_plot, IsCutting, HasFreeCell, AllEdgeJoined}
-use Rattle.layers.specs.declared.Count.{Count}
 use Rattle.layers.specs.LayerCounts.{count_tilings}
 use Rattle.cuttings.specs.Cuttings.{cuttings_of, count_cuttings, cuttings_from, AnswersCuttings, IsNumberOfCuttings}
 use Rattle.cuttings.specs.FullLaws.{full_iff_none, no_width_full}
@@ -83,7 +84,7 @@ module _ (b : RectangularBoard) (ts : Tiles) where
     figure_is_cuttings = Law.figure_cuttings b ts fixed laid
 
     -- and so it is of the call.
-    pub call_counts_cuttings : (boardsA countsA boardsB countsB boardsA' countsA' boardsB' countsB' : List ℕ) (count : Count)
+    pub call_counts_cuttings : (boardsA countsA boardsB countsB boardsA' countsA' boardsB' countsB' : List ℕ) (count : Result PathCount Refusal)
         → AnswersCuttings b ts boardsA countsA boardsB countsB boardsA' countsA' boardsB' countsB' count → IsNumberOfCuttings b ts count
     call_counts_cuttings boardsA countsA boardsB countsB boardsA' countsA' boardsB' countsB' count counted joined n is =
         figure_is_cuttings joined (layer_room (length boardsA) (length countsA) (length boardsB) (length countsB)) n (sym counted.answer ∙ is)

@@ -1,6 +1,8 @@
 -- Definitions: the figure called cuttings, what `tiler::count_cuttings` answers and leaves in the lent words, for every input, and what is said of it against exact
 -- covers. What stands in quotation marks is 02's, from its request 3. Assumes nothing.
-use Rattle.std.specs.Prelude.{◌≡◌, cond, List, ℕ, length}
+use Rattle.refusal.specs.declared.Refusal.{Refusal}
+use Rattle.path_count.specs.declared.PathCount.{PathCount}
+use Rattle.std.specs.Prelude.{◌≡◌, cond, List, ℕ, length, Result}
 use Rattle.tiles.specs.declared.Tiles.{Tiles}
 use Rattle.refusal.specs.Refusal.{Answer, given, map_answer, bind_answer}
 use Rattle.tiles.specs.Paths.{paths_in}
@@ -10,7 +12,6 @@ use Rattle.board.specs.Board.{board_of, read_board}
 use Rattle.covers.specs.Counts.{Exactly}
 use Rattle.graph.specs.Graph.{layer_room}
 use Rattle.expansion.specs.Plots.{IsCutting, AllEdgeJoined}
-use Rattle.layers.specs.declared.Count.{Count}
 use Rattle.layers.specs.LayerCounts.{count_tilings, count_answer, LeavesCount}
 
 -- the figure "called cuttings: 1 for a board with no free cell, otherwise the layer count", which is n
@@ -29,11 +30,11 @@ unfolding cuttings_of read_board map_answer bind_answer
 cuttings_from b layers = bind_answer layers (λ n. map_answer (λ board. cuttings_of board n) (read_board b))
 
 -- `count_cuttings`: the lent layers are zero, as after `count_tilings`
-abbrev pub AnswersCuttings : RectangularBoard → Tiles → List ℕ → List ℕ → List ℕ → List ℕ → List ℕ → List ℕ → List ℕ → List ℕ → Count → Type 0
+abbrev pub AnswersCuttings : RectangularBoard → Tiles → List ℕ → List ℕ → List ℕ → List ℕ → List ℕ → List ℕ → List ℕ → List ℕ → Result PathCount Refusal → Type 0
 AnswersCuttings b ts boardsA countsA boardsB countsB =
     LeavesCount (count_cuttings b ts (layer_room (length boardsA) (length countsA) (length boardsB) (length countsB))) boardsA countsA boardsB countsB
 
 -- "Against exact covers, cuttings needs no free cell any more": a figure that is given is the number of cuttings, where every tile is edge-joined (of a
 -- refused one it says nothing). What `CountsCuttings` is to `count_tilings`, with no condition on the board
-abbrev pub IsNumberOfCuttings : RectangularBoard → Tiles → Count → Type 0
+abbrev pub IsNumberOfCuttings : RectangularBoard → Tiles → Result PathCount Refusal → Type 0
 IsNumberOfCuttings b ts r = AllEdgeJoined (paths_in ts) → (n : ℕ) → count_answer r ≡ given n → Exactly n (IsCutting (board_of b) (paths_in ts))

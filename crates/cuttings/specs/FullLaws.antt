@@ -1,12 +1,11 @@
 -- Laws of a full start, one with no free cell: its layer count is 0 where there is room for one board and refused by 8 where there is none, and it has one cutting, the
 -- empty set, whatever the tiles. A board has a free cell exactly if it is not full. Rests on layers' `CountLaws` and `RunLaws`, expansion's `SettingLaws` and
 -- `CuttingLaws`, choice's `ChosenLaws` and covers' `Theorems`. Assumes nothing.
-use Rattle.std.specs.Prelude.{◌≡◌, refl, ◌↔◌, Bool, true, false, List, ℕ, ◌^◌, ◌<◌}
+use Rattle.std.specs.Prelude.{◌≡◌, refl, ◌↔◌, Bool, true, false, List, ℕ, ◌^◌, ◌<◌, Option, None, Some}
 use Rattle.std.proofs.Common.{sym, ◌∙◌, arith}
 use Rattle.std.proofs.Math.Path.{ap}
 use Rattle.std.proofs.Math.Bool.{So}
 use Rattle.std.proofs.lemmas.Bool.{false≢true}
-use Rattle.std.proofs.Math.Option.{Option, none, some}
 use borrow.Author.Tests.{eqb-true}
 use Rattle.refusal.specs.Refusal.{refused, given}
 use Rattle.tile.specs.Path.{Path}
@@ -41,8 +40,8 @@ pub not_full_free : (b : Board) → So (valid b) → is_full b ≡ false → Has
 not_full_free b ok e = go (chosen b) refl
   where
     go : (c : Option ℕ) → chosen b ≡ c → HasFreeCell b
-    go none h = absurd (false≢true (sym e ∙ (full_iff b (valid_width b ok) (valid_height b ok)).1 h))
-    go (some c) h = (c, (chosen_best b (valid_width b ok) c h).free)
+    go None h = absurd (false≢true (sym e ∙ (full_iff b (valid_width b ok) (valid_height b ok)).1 h))
+    go (Some c) h = (c, (chosen_best b (valid_width b ok) c h).free)
 
 pub full_iff_none : (b : Board) → So (valid b) → (is_full b ≡ true) ↔ (HasFreeCell b → ⊥)
 full_iff_none b ok = (λ e free. false≢true (sym (free_not_full b ok free) ∙ e), λ never. none_full b (λ c f. never (c, f)))

@@ -6,36 +6,23 @@
 // proofs/Theorems.antt.
 #![tactic(auto)]
 
-ghost use Rattle.std.specs.Prelude.{◌≡◌, cond};
-ghost use Rattle.path_count.specs.PathCounts.{count_value};
+ghost use Rattle.std.specs.Prelude.{◌≡◌};
 ghost use Rattle.layers.specs.LayerCounts.{count_answer};
 ghost use Rattle.cuttings.specs.Cuttings.{cuttings_from};
 
-use board::{AllMarked, RectangularBoard};
-use layers::Count;
+use board::RectangularBoard;
 use path_count::PathCount;
+use refusal::Refusal;
 
 // The figure of a board from what `layers::count_tilings` answered for it. A refusal stays; then 4 for
 // a board that is not accepted.
-pub fn count_cuttings_from_layers(board: RectangularBoard, count: Count) -> Count
+pub fn count_cuttings_from_layers(
+    board: RectangularBoard,
+    count: Result<PathCount, Refusal>,
+) -> Result<PathCount, Refusal>
     ensures { count_answer result ≡ cuttings_from board (count_answer count) }
 {
-    let Count::Number(n) = count else {
-        return count;
-    };
-    let answer = board.is_all_marked();
-    match answer {
-        AllMarked::Is(full) => Count::Number(figure(full, n)),
-        AllMarked::Refused(refusal) => Count::Refused(refusal),
-    }
-}
-
-// The figure of a board that is full or not, with the layer count n.
-fn figure(full: bool, n: PathCount) -> PathCount
-    ensures { count_value result ≡ cond full 1 (count_value n) }
-{
-    if full {
-        return PathCount::of_words(1, 0);
-    }
-    n
+    let n = count?;
+    let full = board.is_all_marked()?;
+    Ok(if full { PathCount::of_words(1, 0) } else { n })
 }

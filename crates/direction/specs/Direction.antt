@@ -1,14 +1,13 @@
 -- Definitions: positions and offsets in the plane, rows growing downward; and directions by their codes. 01: "Codes 0 to 7: Up, Down, Left, Right, UpLeft,
 -- UpRight, DownRight, DownLeft"; any other code is refused (5). Each table has its entries in the order of the codes; that the tables say what their names
 -- say is `DirectionLaws`. Assumes nothing.
-use Rattle.std.specs.Prelude.{Bool, false, ◌&&◌, cond, eqb, ltb, ℤ, pos, negsuc, ◌+ℤ◌, List, [], ◌∷◌, ℕ, get_or}
+use Rattle.std.specs.Prelude.{◌≡◌, Err, Ok, Result, Bool, false, ◌&&◌, cond, eqb, ltb, ℤ, pos, negsuc, ◌+ℤ◌, List, [], ◌∷◌, ℕ, get_or}
+use Rattle.refusal.specs.declared.Refusal.{Refusal}
 use Rattle.direction.specs.declared.Axis.{Axis}
 use Rattle.direction.specs.declared.Axis.TheVariants as A
-use Rattle.direction.specs.declared.Offset.{Offset}
-use Rattle.direction.specs.declared.Offset.TheVariants as O
-use Rattle.direction.specs.declared.Code.{Code}
-use Rattle.direction.specs.declared.Code.TheVariants as Codes
-use Rattle.refusal.specs.Refusal.{Answer, refused, given, refusal_number}
+use Rattle.direction.specs.declared.Direction.{Direction}
+use Rattle.direction.specs.declared.Direction.TheVariants as D
+use Rattle.refusal.specs.Refusal.{Answer, refused, given, refusal_number, answer_of, map_answer}
 
 -- a place in the plane, or an offset
 pub record Position : Type 0 where
@@ -78,11 +77,21 @@ on_code code a = cond (ltb code 8) (given a) (refused 5)
 -- ---- the answers of the code
 
 -- what `step` answers
-abbrev pub offset_answer : Offset → Answer Position
-offset_answer (O.By down right) = given (at down right)
-offset_answer (O.Refused r) = refused (refusal_number r)
+abbrev pub offset_answer : Result (ℤ × ℤ) Refusal → Answer Position
+offset_answer (Ok (down, right)) = given (at down right)
+offset_answer (Err r) = refused (refusal_number r)
 
--- what `opposite`, `rotate` and `reflect` answer
-abbrev pub code_answer : Code → Answer ℕ
-code_answer (Codes.Is code) = given code
-code_answer (Codes.Refused r) = refused (refusal_number r)
+-- the code of each direction
+abbrev pub code_of : Direction → ℕ
+code_of D.Up = 0
+code_of D.Down = 1
+code_of D.Left = 2
+code_of D.Right = 3
+code_of D.UpLeft = 4
+code_of D.UpRight = 5
+code_of D.DownRight = 6
+code_of D.DownLeft = 7
+
+-- what is made of a code: the direction that has it, the rest refused
+abbrev pub Decodes : ℕ → Result Direction Refusal → Type 0
+Decodes code r = map_answer code_of (answer_of r) ≡ on_code code code

@@ -1,9 +1,10 @@
 // Directions by their codes: 0 to 7 are Up, Down, Left, Right, UpLeft, UpRight, DownRight,
 // DownLeft, as the Rust's enum has them. Every other code is refused.
-#![tactic(auto)]
+#![tactic(auto, unfolding(crate::specs::Direction::step, crate::specs::Direction::opposite, crate::specs::Direction::rotate, crate::specs::Direction::reflect, crate::specs::Direction::on_code, refusal::specs::Refusal::map_answer))]
 
+ghost use Rattle.refusal.specs.Refusal.{answer_of};
 ghost use Rattle.std.specs.Prelude.{◌≡◌};
-ghost use Rattle.direction.specs.Direction.{step, opposite, rotate, reflect, on_code, offset_answer, code_answer};
+ghost use Rattle.direction.specs.Direction.{at, step, opposite, rotate, reflect, on_code, code_of, Decodes, offset_answer};
 
 use refusal::Refusal;
 
@@ -14,109 +15,144 @@ pub enum Axis {
     Horizontal,
 }
 
-// The row step and the column step of a code, rows growing downward.
-#[derive(Clone, Copy, Drop)]
-pub enum Offset {
-    By(i64, i64),
-    Refused(Refusal),
+// The directions, in the order of their codes.
+#[derive(Clone, Copy, PartialEq, Eq, Drop)]
+pub enum Direction {
+    Up,
+    Down,
+    Left,
+    Right,
+    UpLeft,
+    UpRight,
+    DownRight,
+    DownLeft,
 }
 
-// The code of another direction.
-#[derive(Clone, Copy, Drop)]
-pub enum Code {
-    Is(u8),
-    Refused(Refusal),
+impl TryFrom<u8> for Direction {
+    type Error = Refusal;
+
+    ghost try_from_gives = { Decodes };
+
+    fn try_from(code: u8) -> Result<Self, Refusal> {
+        match code {
+            0 => Ok(Direction::Up),
+            1 => Ok(Direction::Down),
+            2 => Ok(Direction::Left),
+            3 => Ok(Direction::Right),
+            4 => Ok(Direction::UpLeft),
+            5 => Ok(Direction::UpRight),
+            6 => Ok(Direction::DownRight),
+            7 => Ok(Direction::DownLeft),
+            _ => Err(Refusal::BadTile),
+        }
+    }
 }
 
-// What one step adds to the row and to the column.
-pub fn step(code: u8) -> Offset
+impl From<Direction> for u8 {
+    ghost from_gives = { λ direction code. code ≡ code_of direction };
+
+    fn from(direction: Direction) -> u8 {
+        direction as u8
+    }
+}
+
+impl Direction {
+    // What one step adds to the row and to the column.
+    pub fn offset(self) -> (i64, i64)
+        ensures { at result.0 result.1 ≡ step (code_of self) }
+    {
+        match self {
+            Direction::Up => (-1, 0),
+            Direction::Down => (1, 0),
+            Direction::Left => (0, -1),
+            Direction::Right => (0, 1),
+            Direction::UpLeft => (-1, -1),
+            Direction::UpRight => (-1, 1),
+            Direction::DownRight => (1, 1),
+            Direction::DownLeft => (1, -1),
+        }
+    }
+
+    pub fn opposite(self) -> Direction
+        ensures { code_of result ≡ opposite (code_of self) }
+    {
+        match self {
+            Direction::Up => Direction::Down,
+            Direction::Down => Direction::Up,
+            Direction::Left => Direction::Right,
+            Direction::Right => Direction::Left,
+            Direction::UpLeft => Direction::DownRight,
+            Direction::UpRight => Direction::DownLeft,
+            Direction::DownRight => Direction::UpLeft,
+            Direction::DownLeft => Direction::UpRight,
+        }
+    }
+
+    // A quarter turn clockwise.
+    pub fn rotate(self) -> Direction
+        ensures { code_of result ≡ rotate (code_of self) }
+    {
+        match self {
+            Direction::Up => Direction::Right,
+            Direction::Down => Direction::Left,
+            Direction::Left => Direction::Up,
+            Direction::Right => Direction::Down,
+            Direction::UpLeft => Direction::UpRight,
+            Direction::UpRight => Direction::DownRight,
+            Direction::DownRight => Direction::DownLeft,
+            Direction::DownLeft => Direction::UpLeft,
+        }
+    }
+
+    // Left for right about the vertical axis, up for down about the horizontal one.
+    pub fn reflect(self, axis: Axis) -> Direction
+        ensures { code_of result ≡ reflect axis (code_of self) }
+    {
+        match axis {
+            Axis::Vertical => match self {
+                Direction::Up | Direction::Down => self,
+                Direction::Left => Direction::Right,
+                Direction::Right => Direction::Left,
+                Direction::UpLeft => Direction::UpRight,
+                Direction::UpRight => Direction::UpLeft,
+                Direction::DownRight => Direction::DownLeft,
+                Direction::DownLeft => Direction::DownRight,
+            },
+            Axis::Horizontal => match self {
+                Direction::Up => Direction::Down,
+                Direction::Down => Direction::Up,
+                Direction::Left | Direction::Right => self,
+                Direction::UpLeft => Direction::DownLeft,
+                Direction::UpRight => Direction::DownRight,
+                Direction::DownRight => Direction::UpRight,
+                Direction::DownLeft => Direction::UpLeft,
+            },
+        }
+    }
+}
+
+// ---- the same by codes
+
+pub fn step(code: u8) -> Result<(i64, i64), Refusal>
     ensures { offset_answer result ≡ on_code code (step code) }
 {
-    match code {
-        0 => Offset::By(-1, 0),
-        1 => Offset::By(1, 0),
-        2 => Offset::By(0, -1),
-        3 => Offset::By(0, 1),
-        4 => Offset::By(-1, -1),
-        5 => Offset::By(-1, 1),
-        6 => Offset::By(1, 1),
-        7 => Offset::By(1, -1),
-        _ => Offset::Refused(Refusal::BadTile),
-    }
+    Ok(Direction::try_from(code)?.offset())
 }
 
-pub fn opposite(code: u8) -> Code
-    ensures { code_answer result ≡ on_code code (opposite code) }
+pub fn opposite(code: u8) -> Result<u8, Refusal>
+    ensures { answer_of result ≡ on_code code (opposite code) }
 {
-    match code {
-        0 => Code::Is(1),
-        1 => Code::Is(0),
-        2 => Code::Is(3),
-        3 => Code::Is(2),
-        4 => Code::Is(6),
-        5 => Code::Is(7),
-        6 => Code::Is(4),
-        7 => Code::Is(5),
-        _ => Code::Refused(Refusal::BadTile),
-    }
+    Ok(Direction::try_from(code)?.opposite().into())
 }
 
-// A quarter turn clockwise.
-pub fn rotate(code: u8) -> Code
-    ensures { code_answer result ≡ on_code code (rotate code) }
+pub fn rotate(code: u8) -> Result<u8, Refusal>
+    ensures { answer_of result ≡ on_code code (rotate code) }
 {
-    match code {
-        0 => Code::Is(3),
-        1 => Code::Is(2),
-        2 => Code::Is(0),
-        3 => Code::Is(1),
-        4 => Code::Is(5),
-        5 => Code::Is(6),
-        6 => Code::Is(7),
-        7 => Code::Is(4),
-        _ => Code::Refused(Refusal::BadTile),
-    }
+    Ok(Direction::try_from(code)?.rotate().into())
 }
 
-pub fn reflect(code: u8, axis: Axis) -> Code
-    ensures { code_answer result ≡ on_code code (reflect axis code) }
+pub fn reflect(code: u8, axis: Axis) -> Result<u8, Refusal>
+    ensures { answer_of result ≡ on_code code (reflect axis code) }
 {
-    match axis {
-        Axis::Vertical => reflect_vertical(code),
-        Axis::Horizontal => reflect_horizontal(code),
-    }
-}
-
-// Left for right.
-fn reflect_vertical(code: u8) -> Code
-    ensures { code_answer result ≡ on_code code (reflect Axis.Vertical code) }
-{
-    match code {
-        0 => Code::Is(0),
-        1 => Code::Is(1),
-        2 => Code::Is(3),
-        3 => Code::Is(2),
-        4 => Code::Is(5),
-        5 => Code::Is(4),
-        6 => Code::Is(7),
-        7 => Code::Is(6),
-        _ => Code::Refused(Refusal::BadTile),
-    }
-}
-
-// Up for down.
-fn reflect_horizontal(code: u8) -> Code
-    ensures { code_answer result ≡ on_code code (reflect Axis.Horizontal code) }
-{
-    match code {
-        0 => Code::Is(1),
-        1 => Code::Is(0),
-        2 => Code::Is(2),
-        3 => Code::Is(3),
-        4 => Code::Is(7),
-        5 => Code::Is(6),
-        6 => Code::Is(5),
-        7 => Code::Is(4),
-        _ => Code::Refused(Refusal::BadTile),
-    }
+    Ok(Direction::try_from(code)?.reflect(axis).into())
 }

@@ -1,12 +1,11 @@
 -- Laws of cuttings: those of the setting's start are those of the board and the tiles; under demand 3's condition on tiles only boards without a cutting
 -- are pruned; and the numbers below the graph count number the cuttings. Rests on `SettingLaws`, `AcceptedLaws`, children's `PruneLaws` and
 -- covers' `Theorems`. Assumes nothing.
-use Rattle.std.specs.Prelude.{◌≡◌, ◌⊎◌, ◌↔◌, Bool, true, false, cond, ℕ, ◌^◌, ◌<◌}
+use Rattle.std.specs.Prelude.{◌≡◌, ◌⊎◌, ◌↔◌, Bool, true, false, cond, ℕ, ◌^◌, ◌<◌, Option, None, Some}
 use Rattle.std.proofs.Math.Path.{refl}
 use Rattle.std.proofs.Common.{sym, subst, inl, inr}
 use Rattle.std.proofs.Math.Bool.{So}
 use mathlib.Core.List.{List, [], Memᴰ as Mem}
-use Rattle.std.proofs.Math.Option.{Option, none, some}
 use Rattle.cells.specs.Set.{has_cell, Sound}
 use Rattle.cells.specs.WordLaws.{number_lt}
 use Rattle.tiles.specs.declared.Tiles.{Tiles}
@@ -55,10 +54,10 @@ module _ (b : Board) (paths : List Path) (good : So (valid b)) where
           let y = (fits_piece b paths good n (one.0 0) ok).0 (u.fits (one.0 0) at.0) in
           r.2 y.0 y.1 y.2 y.3
           (piece_cell (board_at b n) (valid_width b good) (valid_height b good) y.0 y.2 y.3 r.0 (subst (λ (z : ℕ). So (has_cell z r.0)) y.4 at.1)))
-      go false e none i =
+      go false e None i =
           let s = piece_some b good paths p f.tile in
           absurd (chosen_none (board_at b n) (valid_width b good) i s.0 (f.onto s.0 s.1))
-      go false e (some cell) i =
+      go false e (Some cell) i =
           inl ((mem_pieces (board_at b n) paths cell p (valid_width b good) (valid_height b good)).1 (x, subst (λ (c : Option ℕ). So (has_cell p (cell_or c))) i h))
 
   module _ (fixed_lt : b.fixed < 2 ^ 256) (laid_lt : b.laid < 2 ^ 256) where

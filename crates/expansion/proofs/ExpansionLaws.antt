@@ -1,6 +1,6 @@
 -- What the calls tell their callers: neither board nor tiles are refused, or the refusal; the words for the children; and of a board of the start all
 -- children, in order; and numbers below a bound, by their places. Rests on `Plots`, `Parts`, `AcceptedLaws`, `SettingLaws` and the laws of `cells`, `tiles`, `board` and `children`. Assumes nothing.
-use Rattle.std.specs.Prelude.{◌≡◌, ℕ, ◌*◌, ◌/◌, ◌^◌, ◌≤◌, ◌<◌, length, get_or, take}
+use Rattle.std.specs.Prelude.{Err, Ok, Result, ◌≡◌, ℕ, ◌*◌, ◌/◌, ◌^◌, ◌≤◌, ◌<◌, length, get_or, take}
 use Rattle.std.proofs.Math.Path.{refl, sym, ap}
 use Rattle.std.proofs.Common.{◌∙◌, subst, arith, pow_pos, length-take-le}
 use Rattle.std.proofs.Math.Bool.{So}
@@ -12,7 +12,7 @@ use Rattle.cells.specs.Lists.{list_of, set_at, words_for}
 use Rattle.cells.specs.FirstsLaws.{mem_get_d}
 use Rattle.cells.specs.ListLaws.{sets_words_for}
 use Rattle.refusal.specs.declared.Refusal.{Refusal}
-use Rattle.refusal.specs.Refusal.{Answer, refused, given, map_answer, bind_answer, refusal_number, value_or}
+use Rattle.refusal.specs.Refusal.{Answer, refused, given, map_answer, bind_answer, refusal_number, value_or, answer_of}
 use Rattle.refusal.specs.RefusalLaws.{refused_given, given_inj, refused_inj}
 use Rattle.tiles.specs.declared.Tiles.{Tiles}
 use Rattle.tile.specs.Path.{Path}
@@ -29,11 +29,9 @@ use Rattle.children.specs.ChildLaws.{child_lt, length_children}
 use Rattle.children.specs.WriteLaws.{few_children}
 use Rattle.board.specs.BoardLaws.{with_within}
 use Rattle.covers.specs.Setting.{child_boards}
-use Rattle.expansion.specs.declared.Judged.{Judged}
-use Rattle.expansion.specs.declared.Judged.TheVariants as J
 use Rattle.expansion.specs.Boards.{From, setting_of, Accepted}
 use Rattle.expansion.specs.Plots.{accept_plot}
-use Rattle.expansion.specs.Parts.{step_of, judged_answer, marked_board, Expands, child_words}
+use Rattle.expansion.specs.Parts.{step_of, marked_board, Expands, child_words}
 use Rattle.expansion.proofs.SettingLaws.{children_are}
 use Rattle.expansion.proofs.AcceptedLaws.{read_accepted}
 
@@ -43,15 +41,15 @@ use Rattle.expansion.proofs.AcceptedLaws.{read_accepted}
 abbrev steps : Board × List Path → ℕ
 steps p = step_of p.1
 
-module _ (b : RectangularBoard) (ts : Tiles) (r : Judged) where
+module _ (b : RectangularBoard) (ts : Tiles) (r : Result ℕ Refusal) where
   -- neither is refused, and the number is the step
-  pub judged_size : (n : ℕ) → judged_answer r ≡ map_answer (λ p. step_of p.1) (accept_plot b ts) → r ≡ J.Size n
+  pub judged_size : (n : ℕ) → answer_of r ≡ map_answer (λ p. step_of p.1) (accept_plot b ts) → r ≡ Ok n
       → Accepted b ts × (n ≡ step_of (paths_in ts)) × (accept_plot b ts ≡ given (board_of b, paths_in ts))
   unfolding map_answer
   judged_size n e f = go (accept_plot b ts) refl
     where
       told : given n ≡ map_answer steps (accept_plot b ts)
-      told = sym (ap judged_answer f) ∙ e
+      told = sym (ap answer_of f) ∙ e
 
       go : (a : Answer (Board × List Path)) → accept_plot b ts ≡ a
           → Accepted b ts × (n ≡ step_of (paths_in ts)) × (accept_plot b ts ≡ given (board_of b, paths_in ts))
@@ -61,10 +59,10 @@ module _ (b : RectangularBoard) (ts : Tiles) (r : Judged) where
           (r.1, given_inj n (step_of p.1) (told ∙ ap (map_answer steps) q) ∙ ap steps r.0, q ∙ ap given r.0)
 
   -- board or tiles are refused
-  pub judged_refused : (q : Refusal) → judged_answer r ≡ map_answer (λ p. step_of p.1) (accept_plot b ts) → r ≡ J.Refused q
+  pub judged_refused : (q : Refusal) → answer_of r ≡ map_answer (λ p. step_of p.1) (accept_plot b ts) → r ≡ Err q
       → accept_plot b ts ≡ refused (refusal_number q)
   unfolding map_answer
-  judged_refused q e f = go (accept_plot b ts) (sym (ap judged_answer f) ∙ e)
+  judged_refused q e f = go (accept_plot b ts) (sym (ap answer_of f) ∙ e)
     where
       go : (a : Answer (Board × List Path)) → refused (refusal_number q) ≡ map_answer steps a → a ≡ refused (refusal_number q)
       go (refused n) s = ap refused (sym (refused_inj (refusal_number q) n s))

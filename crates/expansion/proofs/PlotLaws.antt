@@ -1,10 +1,14 @@
 -- What `judge`, `expand` and `child_words` answer: the refusals of board and tiles and the step that they tell, the number of the children that are
 -- written, and the words for as many as there can be. Rests on
 -- `Plots` and on the laws of `refusal` and `board`. Assumes nothing.
+use Rattle.std.specs.Prelude.{Err, Ok, Result, ⊤}
 use mathlib.Core.Path.{◌≡◌, refl, sym, ap, ap₂, ◌∙◌}
-use mathlib.Core.Bool.{true, cond}
+use mathlib.Core.Bool.{Bool, true, false, cond}
+use Rattle.std.specs.Result.{is_err, result_unwrap_or}
+use Rattle.std.proofs.lemmas.Bool.{false≢true}
+use borrow.Author.Tests.{eqb-true, eqb-false}
 use mathlib.Core.List.{List, [], ◌∷◌, ◌++◌}
-use Prim.Native.Nat.{ℕ, zero, suc, ◌+◌, ◌*◌, ◌≤◌, ◌<◌}
+use Prim.Native.Nat.{ℕ, zero, suc, max, ◌+◌, ◌*◌, ◌≤◌, ◌<◌}
 use native.Mathlib.Numerals.{add-one}
 use native.Mathlib.Omega.{arith}
 use lib.Dec.{eqb}
@@ -12,46 +16,20 @@ use lib.ListN.{length, get_or, drop, length-take, length-drop}
 use Rattle.cells.specs.Lists.{list_from, list_of, words_for}
 use Rattle.cells.specs.ArrayLaws.{list_of_snoc}
 use Rattle.tiles.specs.declared.Tiles.{Tiles}
-use Rattle.tile.specs.declared.CellCount.{CellCount}
-use Rattle.tile.specs.declared.CellCount.TheVariants as N
 use Rattle.refusal.specs.declared.Refusal.{Refusal}
-use Rattle.refusal.specs.declared.Verdict.{Verdict}
-use Rattle.refusal.specs.declared.Verdict.TheVariants as Verdicts
-use Rattle.refusal.specs.Refusal.{Answer, refused, given, map_answer, bind_answer, refusal_of, refusal_number, verdict_number, value_or}
-use Rattle.refusal.specs.RefusalLaws.{refused_of, refused_given, given_inj}
-use Rattle.tile.specs.Path.{Path, cell_count_answer}
+use Rattle.refusal.specs.Refusal.{Answer, refused, given, map_answer, bind_answer, refusal_of, refusal_number, verdict_number, value_or, answer_of}
+use Rattle.refusal.specs.RefusalLaws.{refused_of, refused_given, refused_inj, given_inj}
+use Rattle.tile.specs.Path.{Path}
 use Rattle.tiles.specs.Paths.{shared_count, path_at, paths_in, read_tiles, read_equal_tiles}
 use Rattle.tiles.specs.ReadLaws.{read_tiles_accepted, read_tiles_sound, sound_tile}
 use Rattle.board.specs.declared.RectangularBoard.{RectangularBoard}
-use Rattle.children.specs.declared.Children.{Children}
-use Rattle.children.specs.declared.Children.TheVariants as C
-use Rattle.rectangle.specs.Board.{Board, valid}
+use Rattle.rectangle.specs.Board.{Board}
 use Rattle.board.specs.Board.{board_of, read_board}
 use Rattle.fit.specs.Parts.{most_children}
-use Rattle.children.specs.Children.{place_tile, children_answer, PlacesTiles}
+use Rattle.children.specs.Children.{place_tile, PlacesTiles}
 use Rattle.board.specs.BoardLaws.{read_board_given, check_accepted}
-use Rattle.expansion.specs.declared.Judged.{Judged}
 use Rattle.expansion.specs.Plots.{accept_plot}
-use Rattle.expansion.specs.Parts.{step_of, judged_answer, marked_board, Expands, child_words}
-
--- ---- `sized`: the cells that each piece covers
-
-module _ (ts : Tiles) (r : CellCount) (e : cell_count_answer r ≡ map_answer shared_count (read_equal_tiles ts)) where
-  pub sized_given : (n m : ℕ) → r ≡ N.Is n → m ≡ cond (eqb n 0) 1 n → given m ≡ map_answer step_of (read_equal_tiles ts)
-  unfolding map_answer step_of
-  sized_given n m q s = go (read_equal_tiles ts) (sym (ap cell_count_answer q) ∙ e)
-    where
-      go : (a : Answer (List Path)) → given n ≡ map_answer shared_count a → given m ≡ map_answer step_of a
-      go (refused k) f = absurd (refused_given k n (sym f))
-      go (given paths) f = ap given (s ∙ ap (λ (k : ℕ). cond (eqb k 0) 1 k) (given_inj n (shared_count paths) f))
-
-  pub sized_refused : (q : Refusal) → r ≡ N.Refused q → refused (refusal_number q) ≡ map_answer step_of (read_equal_tiles ts)
-  unfolding map_answer
-  sized_refused q s = go (read_equal_tiles ts) (sym (ap cell_count_answer s) ∙ e)
-    where
-      go : (a : Answer (List Path)) → refused (refusal_number q) ≡ map_answer shared_count a → refused (refusal_number q) ≡ map_answer step_of a
-      go (refused k) f = f
-      go (given paths) f = absurd (refused_given (refusal_number q) (shared_count paths) f)
+use Rattle.expansion.specs.Parts.{step_of, marked_board, Expands, child_words}
 
 -- ---- `judge`: the board first, then the tiles
 
@@ -62,58 +40,63 @@ steps p = step_of p.1
 abbrev beside : RectangularBoard → List Path → Board × List Path
 beside b paths = (board_of b, paths)
 
+-- a step is at least 1
+step_is : (paths : List Path) (n : ℕ) → n ≡ shared_count paths → max n 1 ≡ step_of paths
+unfolding step_of
+step_is paths n e = go (eqb n 0) refl ∙ ap (λ (k : ℕ). cond (eqb k 0) 1 k) e
+  where
+    go : (t : Bool) → eqb n 0 ≡ t → max n 1 ≡ cond t 1 n
+    go true q = omega (arith, eqb-true n 0 q)
+    go false q = let ne = eqb-false n 0 q in omega arith
+
 module _ (b : RectangularBoard) (ts : Tiles) where
-  plot_given : valid (board_of b) ≡ true → accept_plot b ts ≡ map_answer (beside b) (read_equal_tiles ts)
-  unfolding accept_plot bind_answer
-  plot_given e = rw (read_board_given b e)
+  pub judge_refused : (q : Refusal) → refusal_number q ≡ refusal_of (read_board b) → refused (refusal_number q) ≡ map_answer (λ p. step_of p.1) (accept_plot b ts)
+  unfolding accept_plot map_answer bind_answer
+  judge_refused q e = rw (refused_of (read_board b) q e) refl
 
-  plot_refused : (n : ℕ) → read_board b ≡ refused n → accept_plot b ts ≡ refused n
-  unfolding accept_plot bind_answer
-  plot_refused n e = rw e
+  module _ (e : 0 ≡ refusal_of (read_board b)) where
+    plot_given : accept_plot b ts ≡ map_answer (beside b) (read_equal_tiles ts)
+    unfolding accept_plot bind_answer
+    plot_given = rw (read_board_given b (check_accepted b (Ok tt) e refl)) refl
 
-  module _ (v : Verdict) (e : verdict_number v ≡ refusal_of (read_board b)) where
-    pub judge_accepted : v ≡ Verdicts.Accepted → (r : Judged) → judged_answer r ≡ map_answer step_of (read_equal_tiles ts)
-        → judged_answer r ≡ map_answer (λ p. step_of p.1) (accept_plot b ts)
+    pub tiles_refused : (n : ℕ) → refused n ≡ map_answer shared_count (read_equal_tiles ts) → refused n ≡ map_answer (λ p. step_of p.1) (accept_plot b ts)
     unfolding map_answer
-    judge_accepted q r f = f ∙ go (read_equal_tiles ts) ∙ ap (map_answer steps) (sym (plot_given (check_accepted b v e q)))
+    tiles_refused n f = go (read_equal_tiles ts) f ∙ ap (map_answer steps) (sym plot_given)
       where
-        go : (a : Answer (List Path)) → map_answer step_of a ≡ map_answer steps (map_answer (beside b) a)
-        go (refused n) = refl
-        go (given paths) = refl
+        go : (a : Answer (List Path)) → refused n ≡ map_answer shared_count a → refused n ≡ map_answer steps (map_answer (beside b) a)
+        go (refused k) h = ap refused (refused_inj n k h)
+        go (given paths) h = absurd (refused_given n (shared_count paths) h)
 
-    pub judge_refused : (q : Refusal) → v ≡ Verdicts.Refused q → refused (refusal_number q) ≡ map_answer (λ p. step_of p.1) (accept_plot b ts)
+    pub judge_given : (n : ℕ) → given n ≡ map_answer shared_count (read_equal_tiles ts) → given (max n 1) ≡ map_answer (λ p. step_of p.1) (accept_plot b ts)
     unfolding map_answer
-    judge_refused q f =
-        ap (map_answer steps) (sym (plot_refused (refusal_number q) (refused_of (read_board b) q (sym (ap verdict_number f) ∙ e))))
+    judge_given n f = go (read_equal_tiles ts) f ∙ ap (map_answer steps) (sym plot_given)
+      where
+        go : (a : Answer (List Path)) → given n ≡ map_answer shared_count a → given (max n 1) ≡ map_answer steps (map_answer (beside b) a)
+        go (refused k) h = absurd (refused_given k n (sym h))
+        go (given paths) h = ap given (step_is paths n (given_inj n (shared_count paths) h))
 
 -- ---- `expand`: what is written of the board d with some marks
 
-number_of : (a : Answer (List ℕ)) (n : ℕ) → given n ≡ map_answer length a → n ≡ length (value_or [] a)
+number_of : (r : Result ℕ Refusal) (a : Answer (List ℕ)) → answer_of r ≡ map_answer length a → result_unwrap_or r 0 ≡ length (value_or [] a)
 unfolding map_answer value_or
-number_of (refused k) n e = absurd (refused_given k n (sym e))
-number_of (given ns) n e = given_inj n (length ns) e
+number_of (Ok n) (refused k) e = absurd (refused_given k n (sym e))
+number_of (Ok n) (given ns) e = given_inj n (length ns) e
+number_of (Err q) (refused k) e = refl
+number_of (Err q) (given ns) e = absurd (refused_given (refusal_number q) (length ns) e)
 
-none_of : (a : Answer (List ℕ)) (k : ℕ) → refused k ≡ map_answer length a → 0 ≡ length (value_or [] a)
-unfolding map_answer value_or
-none_of (refused n) k e = refl
-none_of (given ns) k e = absurd (refused_given k (length ns) e)
-
-module _ (b d : RectangularBoard) (ts : Tiles) (m : ℕ) (at : board_of d ≡ marked_board b m) (old new : List ℕ) (r : Children)
+module _ (b d : RectangularBoard) (ts : Tiles) (m : ℕ) (at : board_of d ≡ marked_board b m) (old new : List ℕ) (r : Result ℕ Refusal)
     (w : PlacesTiles d ts old new r) where
   abbrev placed : Answer (List ℕ)
   placed = place_tile (marked_board b m) ts (length old)
 
-  told : children_answer r ≡ map_answer length placed
+  told : answer_of r ≡ map_answer length placed
   told = w.answer ∙ ap (λ (x : Board). map_answer length (place_tile x ts (length old))) at
 
   written : new ≡ words_for (value_or [] placed) (length old)
   written = w.words ∙ ap (λ (x : Board). words_for (value_or [] (place_tile x ts (length old))) (length old)) at
 
-  pub expands_number : (n : ℕ) → r ≡ C.Number n → Expands b ts m old new n
-  expands_number n q = record { number = number_of placed n (sym (ap children_answer q) ∙ told); words = written }
-
-  pub expands_none : (q : Refusal) → r ≡ C.Refused q → Expands b ts m old new 0
-  expands_none q s = record { number = none_of placed (refusal_number q) (sym (ap children_answer s) ∙ told); words = written }
+  pub expands_number : (n : ℕ) → n ≡ result_unwrap_or r 0 → Expands b ts m old new n
+  expands_number n q = record { number = q ∙ number_of r placed told; words = written }
 
 -- ---- `most_children`: the tiles one after the other
 
@@ -154,16 +137,17 @@ module _ (ts : Tiles) (lent : length ts.codes ≡ 2048) (ok : read_tiles ts ≡ 
 
 -- ---- `child_words`
 
-module _ (ts : Tiles) (v : Verdict) (e : verdict_number v ≡ refusal_of (read_tiles ts)) where
-  pub words_read : v ≡ Verdicts.Accepted → (ts.count ≤ 64) × (read_tiles ts ≡ given (paths_in ts))
-  words_read q = read_tiles_accepted ts (sym (ap verdict_number q) ∙ e)
+pub words_read : (ts : Tiles) (v : Result ⊤ Refusal) → verdict_number v ≡ refusal_of (read_tiles ts) → false ≡ is_err v → read_tiles ts ≡ given (paths_in ts)
+words_read ts (Ok tt) e q = (read_tiles_accepted ts e).1
+words_read ts (Err f) e q = absurd (false≢true q)
 
-  pub words_accepted : v ≡ Verdicts.Accepted → (n : ℕ) → n ≡ most_children (paths_in ts) → 4 * n ≡ child_words ts
-  unfolding child_words map_answer value_or
-  words_accepted q n m =
-      ap (λ (k : ℕ). 4 * k) m ∙ sym (ap (λ (a : Answer (List Path)). value_or 0 (map_answer (λ paths. 4 * most_children paths) a)) (words_read q).1)
+pub words_accepted : (ts : Tiles) → read_tiles ts ≡ given (paths_in ts) → (n : ℕ) → n ≡ most_children (paths_in ts) → 4 * n ≡ child_words ts
+unfolding child_words map_answer value_or
+words_accepted ts e n m =
+    ap (λ (k : ℕ). 4 * k) m ∙ sym (ap (λ (a : Answer (List Path)). value_or 0 (map_answer (λ paths. 4 * most_children paths) a)) e)
 
-  pub words_refused : (q : Refusal) → v ≡ Verdicts.Refused q → 0 ≡ child_words ts
-  unfolding child_words map_answer value_or
-  words_refused q f =
-      sym (ap (λ (a : Answer (List Path)). value_or 0 (map_answer (λ paths. 4 * most_children paths) a)) (refused_of (read_tiles ts) q (sym (ap verdict_number f) ∙ e)))
+pub words_refused : (ts : Tiles) (v : Result ⊤ Refusal) → verdict_number v ≡ refusal_of (read_tiles ts) → true ≡ is_err v → 0 ≡ child_words ts
+unfolding child_words map_answer value_or
+words_refused ts (Ok tt) e q = absurd (false≢true (sym q))
+words_refused ts (Err f) e q =
+    sym (ap (λ (a : Answer (List Path)). value_or 0 (map_answer (λ paths. 4 * most_children paths) a)) (refused_of (read_tiles ts) f e))

@@ -1,14 +1,13 @@
 -- The boards of a start and some tiles meet the laws of `covers`: the laws of a setting, and equal steps where all tiles have as many cells. Their
 -- children are those of `place_tile`, and the start is one of them. Rests on the laws of `rectangle`, `fit`,
 -- `choice` and `children`. Assumes nothing.
-use Rattle.std.specs.Prelude.{◌≡◌, ◌↔◌, true, false, ◌&&◌}
+use Rattle.std.specs.Prelude.{◌≡◌, ◌↔◌, true, false, ◌&&◌, Option, None, Some}
 use Rattle.std.proofs.Math.Path.{refl, sym, ap, subst, fun_ext}
 use Rattle.std.proofs.Common.{◌∙◌, lt_of_le_of_lt}
 use Rattle.std.proofs.Math.Bool.{Bool, So, not, cond}
 use Rattle.std.proofs.lemmas.Bool.{false≢true}
 use mathlib.Core.List.Memᴰ.{not-nil}
 use mathlib.Core.List.{List, [], map, Memᴰ as Mem}
-use Rattle.std.proofs.Math.Option.{Option, none, some}
 use Prim.Native.Nat.{ℕ, ◌+◌, ◌-◌, ◌^◌, ◌≤◌, ◌<◌}
 use Rattle.std.proofs.Math.Decide.{dec_lt}
 use native.Mathlib.Omega.{arith}
@@ -41,25 +40,25 @@ children_are b paths n = go (pruned (board_at b n) paths) (chosen (board_at b n)
   where
     go : (t : Bool) (c : Option ℕ) → map (λ p. marks (lay (board_at b n) p)) (cond t [] (pieces_on (board_at b n) paths c)) ≡ cond t [] (children_on (board_at b n) paths c)
     go true c = refl
-    go false none = refl
-    go false (some cell) = refl
+    go false None = refl
+    go false (Some cell) = refl
 
 -- and so they are as functions of the number
 pub same_children : (b : Board) (paths : List Path) → child_boards (setting b paths) ≡ children_at b paths
 same_children b paths = fun_ext (children_are b paths)
 
 -- a piece of the setting is a piece on the chosen cell
-piece_on : (b : Board) (paths : List Path) (p : ℕ) (t : Bool) (c : Option ℕ) → Mem p (cond t [] (pieces_on b paths c)) → (cell : ℕ) × (c ≡ some cell) × Mem p (pieces b paths cell)
+piece_on : (b : Board) (paths : List Path) (p : ℕ) (t : Bool) (c : Option ℕ) → Mem p (cond t [] (pieces_on b paths c)) → (cell : ℕ) × (c ≡ Some cell) × Mem p (pieces b paths cell)
 unfolding pieces_on
 piece_on b paths p true c m = absurd (not-nil m)
-piece_on b paths p false none m = absurd (not-nil m)
-piece_on b paths p false (some cell) m = (cell, refl, m)
+piece_on b paths p false None m = absurd (not-nil m)
+piece_on b paths p false (Some cell) m = (cell, refl, m)
 
 once_on : (b : Board) (paths : List Path) (t : Bool) (c : Option ℕ) → Once (cond t [] (pieces_on b paths c))
 unfolding pieces_on
 once_on b paths true c = tt
-once_on b paths false none = tt
-once_on b paths false (some cell) = once_pieces b paths cell
+once_on b paths false None = tt
+once_on b paths false (Some cell) = once_pieces b paths cell
 
 -- ---- a board and its number. A mark past cell 255 is none that `valid` sees, so the start's numbers are asked to be below 2 ^ 256
 
@@ -138,8 +137,8 @@ module _ (b : Board) (paths : List Path) (good : So (valid b)) where
   chosen_is_free n ok e = go (chosen (board_at b n)) refl
     where
       go : (c : Option ℕ) → chosen (board_at b n) ≡ c → So (is_free (board_at b n) (cell_or c))
-      go none h = absurd (false≢true (sym e ∙ none_full (board_at b n) (chosen_none (board_at b n) (valid_width b good) h)))
-      go (some cell) h = (chosen_best (board_at b n) (valid_width b good) cell h).free
+      go None h = absurd (false≢true (sym e ∙ none_full (board_at b n) (chosen_none (board_at b n) (valid_width b good) h)))
+      go (Some cell) h = (chosen_best (board_at b n) (valid_width b good) cell h).free
 
   -- the pieces of the setting
   piece_there : (n p : ℕ) → From b n → Mem p ((setting b paths).pieces n) → IsPiece (board_at b n) paths p × So (has_cell p (cell_or (chosen (board_at b n))))

@@ -1,8 +1,7 @@
 -- Definitions: the boards of a start and some tiles as a setting of `covers`, so that its layers, path counts, graph and cuttings are those of real
 -- boards. A board is the number of its marks, a piece the number of its cells. What stands in quotation marks is 01's. Assumes nothing.
-use Rattle.std.specs.Prelude.{◌≡◌, cond, List, [], ℕ, ◌^◌, ◌<◌, eqb}
+use Rattle.std.specs.Prelude.{◌≡◌, cond, List, [], ℕ, ◌^◌, ◌<◌, eqb, Option, None, Some}
 use Rattle.std.proofs.Math.Bool.{So}
-use Rattle.std.proofs.Math.Option.{Option, none, some}
 use Rattle.cells.specs.Set.{has_cell}
 use Rattle.cells.specs.BitLaws.{Within}
 use Rattle.tiles.specs.declared.Tiles.{Tiles}
@@ -32,13 +31,13 @@ pub record From (b : Board) (n : ℕ) : Type 0 where
 
 -- a chosen cell, 0 with none, and the pieces on it
 unfoldable pub cell_or : Option ℕ → ℕ
-cell_or none = 0
-cell_or (some cell) = cell
+cell_or None = 0
+cell_or (Some cell) = cell
 
 unfoldable pub pieces_on : Board → List Path → Option ℕ → List ℕ
 unfolding pieces
-pieces_on b paths none = []
-pieces_on b paths (some cell) = pieces b paths cell
+pieces_on b paths None = []
+pieces_on b paths (Some cell) = pieces b paths cell
 
 -- the setting of a start and some tiles. A piece, whatever its place, is one of the board without marks. `children_are` says that its children are
 -- those of `place_tile`

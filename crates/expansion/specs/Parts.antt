@@ -4,26 +4,19 @@ use Rattle.std.specs.Prelude.{◌≡◌, cond, List, [], ℕ, ◌*◌, eqb, leng
 use Rattle.cells.specs.Set.{union_of, number}
 use Rattle.cells.specs.Lists.{words_for}
 use Rattle.tiles.specs.declared.Tiles.{Tiles}
-use Rattle.refusal.specs.Refusal.{Answer, refused, given, map_answer, refusal_number, value_or}
+use Rattle.refusal.specs.Refusal.{map_answer, value_or}
 use Rattle.tile.specs.Path.{Path}
 use Rattle.tiles.specs.Paths.{shared_count, read_tiles}
 use Rattle.board.specs.declared.RectangularBoard.{RectangularBoard}
 use Rattle.rectangle.specs.Board.{Board, board_at}
 use Rattle.board.specs.Board.{board_of}
 use Rattle.children.specs.Children.{place_tile}
-use Rattle.expansion.specs.declared.Judged.{Judged}
-use Rattle.expansion.specs.declared.Judged.TheVariants as J
 use Rattle.fit.specs.Parts.{most_children}
 
 -- the cells that each piece covers; 1 where there are no tiles, and so no pieces
 unfoldable pub step_of : List Path → ℕ
 unfolding shared_count
 step_of paths = cond (eqb (shared_count paths) 0) 1 (shared_count paths)
-
--- what `judge` answers
-abbrev pub judged_answer : Judged → Answer ℕ
-judged_answer (J.Size n) = given n
-judged_answer (J.Refused r) = refused (refusal_number r)
 
 -- "A board in an output, layer or node is four words, both kinds together; its fixed marks are the starting board's": the board with these marks and its
 -- fixed ones

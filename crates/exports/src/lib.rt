@@ -9,6 +9,8 @@
 // bytes that are not a multiple of 33, or a tile that is not 33; 11, a result that is not four words or
 // whose third word is neither 0 nor 1; 12, a number that is not two words; 8, an answer or an output
 // of fixed size that is too short.
+// Kept: each gives 0 or the refusal's number, and no `Result`, and takes a board as width, height and words, since C
+// calls it.
 // After any refusal every lent word and byte is zero, but that with 13 the first answer word is the place
 // of the earliest broken record.
 #![tactic(auto)]

@@ -1,83 +1,79 @@
 -- What the walks of the code come to: the place one step on if it is free, the walks back and on, and the fit by the two walks.
 -- Rests on `FitLaws` and on the laws of places. Assumes nothing.
-use mathlib.Core.Path.{◌≡◌, refl, sym, ap, ap₂, ◌∙◌}
+use Rattle.std.specs.Prelude.{None, Option, Some}
+use mathlib.Core.Path.{◌≡◌, refl, sym, ap, ap₂, subst, ◌∙◌}
 use mathlib.Core.Bool.{Bool, true, false, So, not, and-eq-true_iff}
 use mathlib.Core.List.{List, [], ◌∷◌, ◌++◌, flat_map, append-nil}
 use Prim.Native.Nat.{ℕ, zero, suc, ◌+◌, ◌-◌, ◌*◌, ◌≤◌, ◌<◌}
 use native.Mathlib.Numerals.{add-one}
 use native.Mathlib.Omega.{arith}
-use lib.IntN.{pos}
-use lib.ListN.{length, get_or, drop, drop_of_length-le}
-use lib.Seq.{drop-cons}
+use lib.IntN.{pos, nat_abs}
+use lib.ListN.{length, get_or, take, drop, drop_of_length-le, length-drop}
+use lib.Seq.{drop-cons, get_or-drop}
+use Rattle.std.proofs.lemmas.List.{take_all}
 use Rattle.cells.specs.declared.Cells.{Cells}
 use Rattle.cells.specs.Set.{has_cell, with_cell, value, number}
 use Rattle.cells.specs.ListLaws.{value_none}
-use Rattle.refusal.specs.declared.Refusal.{Refusal}
-use Rattle.refusal.specs.Refusal.{refused, given, refusal_number}
-use Rattle.direction.specs.declared.Code.{Code}
-use Rattle.direction.specs.declared.Code.TheVariants as Codes
-use Rattle.direction.specs.Direction.{Position, at, shift, step, opposite, on_code, code_answer}
+use Rattle.refusal.specs.Refusal.{given}
+use Rattle.refusal.specs.RefusalLaws.{given_inj}
+use Rattle.direction.specs.Direction.{Position, at, shift, step, opposite, on_code}
 use Rattle.direction.specs.DirectionLaws.{on_code_given, opposite_lt}
 use Rattle.tile.specs.Path.{codes_ok, is_path, Path}
+use Rattle.tile.specs.PathLaws.{codes_ok_at}
 use Rattle.tile.specs.StoredLaws.{is_path_is}
-use Rattle.rectangle.specs.declared.Place.{Place}
-use Rattle.rectangle.specs.declared.Place.TheVariants as P
 use Rattle.rectangle.specs.Board.{cell_of, inside}
-use Rattle.rectangle.specs.Parts.{free_in, place_answer, place_if, place_after}
+use Rattle.rectangle.specs.Parts.{free_in, place_if, place_after}
 use Rattle.rectangle.proofs.BoardLaws.{inside_iff}
 use Rattle.rectangle.proofs.PlaceLaws.{Placed, place_false, place_placed, place_true, placed, placed_cell, place_after_is}
-use Rattle.fit.specs.declared.Fit.{Fit}
-use Rattle.fit.specs.declared.Fit.TheVariants as F
 use Rattle.fit.specs.Fit.{cover, moved, offset, point_at}
 use Rattle.fit.specs.Parts.{fit_pieces}
 use Rattle.fit.specs.Inner.{back, onward, walked}
 use Rattle.fit.specs.FitLaws.{cover_free, cover_blocked, cover_end, cover_append, walked_moved}
 
--- one step from a place of a board leads to the place at the position one step on
-pub walk_step : (w h row col code : ℕ) (x : Place) → place_answer x ≡ place_after w h row col code → w ≤ 16 → h ≤ 16 → row < h → col < w → code < 8 → place_answer x ≡ place_if (inside w h) (shift (at (pos row) (pos col)) (step code))
-walk_step w h row col code x e a b r c k = e ∙ place_after_is w h row col code (omega arith) (omega arith) k
-
 -- the codes of a path are directions
 pub path_codes : (codes : List ℕ) → is_path codes ≡ true → So (codes_ok codes)
 path_codes codes e = (is_path_is codes e).1
 
--- ---- the place one step on, if it has no mark
+-- ---- the place one step on from a place of a board, if it has no mark
 
-module _ (w h m : ℕ) (p : Position) (x : Place) (e : place_answer x ≡ place_if (inside w h) p) where
-  pub free_nowhere : x ≡ P.Nowhere → place_answer P.Nowhere ≡ place_if (free_in w h m) p
+module _ (w h m row col code : ℕ) (k : (w ≤ 16) × (h ≤ 16) × (row < h) × (col < w) × (code < 8)) where
+  -- its position
+  ahead : Position
+  ahead = shift (at (pos row) (pos col)) (step code)
+
+  stepped : place_after w h row col code ≡ place_if (inside w h) ahead
+  unfolding ahead
+  stepped = place_after_is w h row col code (omega arith) (omega arith) k.4
+
+  pub free_nowhere : place_after w h row col code ≡ None → None ≡ place_if (free_in w h m) (shift (at (pos row) (pos col)) (step code))
+  unfolding ahead place_if free_in
+  free_nowhere f = rw (place_false (inside w h) ahead (sym f ∙ stepped))
+
+  pub step_placed : (r c : ℕ) → place_after w h row col code ≡ Some (r, c) → Placed w h (shift (at (pos row) (pos col)) (step code)) r c
+  unfolding ahead
+  step_placed r c f = place_placed w h ahead r c (place_after w h row col code) stepped f
+
+  pub free_marked : (r c : ℕ) → place_after w h row col code ≡ Some (r, c) → true ≡ has_cell m (16 * r + c) → None ≡ place_if (free_in w h m) (shift (at (pos row) (pos col)) (step code))
   unfolding place_if free_in
-  free_nowhere f = rw (place_false (inside w h) p (sym (ap place_answer f) ∙ e))
+  free_marked r c f t = let s = step_placed r c f in rw (s.is_inside, placed_cell w h _ r c s, ← t)
 
-  pub free_marked : (r c : ℕ) → x ≡ P.At r c → has_cell m (16 * r + c) ≡ true → place_answer P.Nowhere ≡ place_if (free_in w h m) p
+  pub free_open : (r c : ℕ) → place_after w h row col code ≡ Some (r, c) → false ≡ has_cell m (16 * r + c) → ◌≡◌ {A = Option (ℕ × ℕ)} (Some (r, c)) (place_if (free_in w h m) (shift (at (pos row) (pos col)) (step code)))
   unfolding place_if free_in
-  free_marked r c f t = let s = place_placed w h p r c x e f in rw (s.is_inside, placed_cell w h p r c s, t)
+  free_open r c f t = let s = step_placed r c f in let place : ◌≡◌ {A = ℕ × ℕ} (nat_abs (shift (at (pos row) (pos col)) (step code)).row, nat_abs (shift (at (pos row) (pos col)) (step code)).col) (r, c) = ap (λ (q : Position). (nat_abs q.row, nat_abs q.col)) s.is_at in
+      rw (s.is_inside, placed_cell w h _ r c s, ← t) (ap Some (sym place))
 
-  pub free_open : (r c : ℕ) → x ≡ P.At r c → has_cell m (16 * r + c) ≡ false → place_answer (P.At r c) ≡ place_if (free_in w h m) p
-  unfolding place_if free_in
-  free_open r c f t =
-      let s = place_placed w h p r c x e f in
-      rw (s.is_inside, placed_cell w h p r c s, t, s.is_at)
-
-pub free_in_placed : (w h m : ℕ) (p : Position) (r c : ℕ) → place_answer (P.At r c) ≡ place_if (free_in w h m) p → Placed w h p r c
+pub free_in_placed : (w h m : ℕ) (p : Position) (r c : ℕ) → place_if (free_in w h m) p ≡ Some (r, c) → Placed w h p r c
 unfolding free_in
 free_in_placed w h m p r c e =
-    let s = place_true (free_in w h m) p r c e in
+    let s = place_true (free_in w h m) p r c (sym e) in
     placed w h p r c ((and-eq-true_iff (inside w h p) (not (has_cell m (cell_of p)))).0 s.0).0 s.1 s.2
 
 -- ---- the opposite code
 
-module _ (a : Code) (code : ℕ) (e : code_answer a ≡ on_code code (opposite code)) (h : code < 8) where
-  pub told_back : (other : ℕ) → a ≡ Codes.Is other → (other ≡ opposite code) × (other < 8)
-  told_back other q =
-      let s : given other ≡ given (opposite code) = ap code_answer (sym q) ∙ e ∙ on_code_given code (opposite code) h in
-      let t : other ≡ opposite code = cc in
-      (t, omega (arith, opposite_lt code h))
-
-  pub told_back_no_refusal : (r : Refusal) → a ≡ Codes.Refused r → ⊥
-  told_back_no_refusal r q =
-      let s : refused (refusal_number r) ≡ given (opposite code) = ap code_answer (sym q) ∙ e ∙ on_code_given code (opposite code) h in
-      let z : ◌≡◌ {A = ℕ} 0 1 = cc in
-      omega arith
+pub told_back : (code other : ℕ) → code < 8 → given other ≡ on_code code (opposite code) → (other ≡ opposite code) × (other < 8)
+told_back code other h e =
+    let s : other ≡ opposite code = given_inj other (opposite code) (e ∙ on_code_given code (opposite code) h) in
+    (s, omega (arith, opposite_lt code h))
 
 -- ---- the positions that are left of a walk
 
@@ -99,31 +95,40 @@ unfolding back
 back_none p path zero h = refl
 back_none p path (suc i) h = absurd (omega arith)
 
--- ---- where a walk stands: on the place of row r and column c, at point i of a path of n codes; what is left gives what the whole walk gives
+-- what is left of a path, as a slice has it
+pub rest_is : (start : ℕ) (path : Path) → take (length path - start) (drop start path) ≡ drop start path
+rest_is start path = take_all (length path - start) (drop start path) (omega (arith, length-drop start path))
 
-pub record Walking (whole rest : List ℕ) (w h r c i n : ℕ) : Type 0 where
+-- its codes are directions
+pub rest_ok : (start i : ℕ) (path : Path) → So (codes_ok path) → i < length (take (length path - start) (drop start path)) → get_or (take (length path - start) (drop start path)) i 0 < 8
+rest_ok start i path ok h =
+    let l : i < length (drop start path) = subst (λ (s : Path). i < length s) (rest_is start path) h in
+    let n : start + i < length path = omega (arith, length-drop start path) in
+    rw (rest_is start path, get_or-drop) (codes_ok_at path (start + i) ok n)
+
+-- ---- where a walk stands: on the place of row r and column c; what is left gives what the whole walk gives
+
+pub record Walking (whole rest : List ℕ) (w h r c : ℕ) : Type 0 where
   pub row : r < h
   pub col : c < w
-  pub index : i ≤ n
   pub same : rest ≡ whole
 
-module _ (w h m : ℕ) (whole : List ℕ) (s : Cells) (l : List Position) (r c i n : ℕ) (k : Walking whole (cover (free_in w h m) (number s) l) w h r c i n) where
+module _ (w h m : ℕ) (whole : List ℕ) (s : Cells) (l : List Position) (r c : ℕ) (k : Walking whole (cover (free_in w h m) (number s) l) w h r c) where
   -- the next place is not free
-  pub walk_stops : (p : Position) (ps : List Position) (x : Place) → l ≡ p ∷ ps → place_answer x ≡ place_if (free_in w h m) p → x ≡ P.Nowhere → [] ≡ whole
-  walk_stops p ps x e f g =
-      sym (cover_blocked (free_in w h m) (number s) p ps (place_false (free_in w h m) p (sym (ap place_answer g) ∙ f)))
+  pub walk_stops : (p : Position) (ps : List Position) → l ≡ p ∷ ps → None ≡ place_if (free_in w h m) p → [] ≡ whole
+  walk_stops p ps e f =
+      sym (cover_blocked (free_in w h m) (number s) p ps (place_false (free_in w h m) p f))
       ∙ ap (cover (free_in w h m) (number s)) (sym e)
       ∙ k.same
 
   -- it is free
-  pub walk_goes : (p : Position) (next : Position → List Position) (x : Place) → l ≡ p ∷ next p → place_answer x ≡ place_if (free_in w h m) p → (a b : ℕ) → x ≡ P.At a b → (t : Cells) → number t ≡ with_cell (number s) (16 * a + b) → (j : ℕ) → j ≤ n → Walking whole (cover (free_in w h m) (number t) (next (at (pos a) (pos b)))) w h a b j n
-  walk_goes p next x e f a b g t u j v =
-      let o = free_in_placed w h m p a b (sym (ap place_answer g) ∙ f) in
-      let free = (place_true (free_in w h m) p a b (sym (ap place_answer g) ∙ f)).0 in
+  pub walk_goes : (p : Position) (next : Position → List Position) → l ≡ p ∷ next p → (a b : ℕ) → place_if (free_in w h m) p ≡ Some (a, b) → (t : Cells) → number t ≡ with_cell (number s) (16 * a + b) → Walking whole (cover (free_in w h m) (number t) (next (at (pos a) (pos b)))) w h a b
+  walk_goes p next e a b f t u =
+      let o = free_in_placed w h m p a b f in
+      let free = (place_true (free_in w h m) p a b (sym f)).0 in
       record {
         row = o.row;
         col = o.col;
-        index = v;
         same =
             ap₂ (λ (y : ℕ) (q : Position). cover (free_in w h m) y (next q)) (u ∙ ap (with_cell (number s)) (sym (placed_cell w h p a b o))) (sym o.is_at)
             ∙ sym (cover_free (free_in w h m) (number s) p (next p) free)
@@ -132,8 +137,7 @@ module _ (w h m : ℕ) (whole : List ℕ) (s : Cells) (l : List Position) (r c i
       }
 
   -- there is none
-  pub walk_ends : l ≡ [] → value (s.w0 ∷ s.w1 ∷ s.w2 ∷ s.w3 ∷ []) ∷ [] ≡ whole
-  unfolding number
+  pub walk_ends : l ≡ [] → number s ∷ [] ≡ whole
   walk_ends e = sym (cover_end (free_in w h m) (number s)) ∙ ap (cover (free_in w h m) (number s)) (sym e) ∙ k.same
 
 -- ---- the fit, by its two walks
@@ -151,7 +155,7 @@ module _ (w h m : ℕ) (path : Path) (j r c : ℕ) (hr : r < h) (hc : c < w) (hj
       sym (cover_blocked (free_in w h m) 0 p (back p path j ++ onward p (drop j path)) (here_free true e)) ∙ walked_moved (free_in w h m) path j p hj
 
   -- its point j lies on a free place: the walk back, and then the walk on
-  module _ (free : has_cell m (16 * r + c) ≡ false) (none first : ℕ) (empty : none ≡ value (0 ∷ 0 ∷ 0 ∷ 0 ∷ [])) (start : first ≡ with_cell none (16 * r + c)) (behind : Fit) (e : fit_pieces behind ≡ cover (free_in w h m) first (back (at (pos r) (pos c)) path j)) where
+  module _ (free : has_cell m (16 * r + c) ≡ false) (none first : ℕ) (empty : none ≡ value (0 ∷ 0 ∷ 0 ∷ 0 ∷ [])) (start : first ≡ with_cell none (16 * r + c)) (behind : Option Cells) (e : fit_pieces behind ≡ cover (free_in w h m) first (back (at (pos r) (pos c)) path j)) where
     fit_free : flat_map (λ n. cover (free_in w h m) n (onward (at (pos r) (pos c)) (drop j path))) (fit_pieces behind) ≡ cover (free_in w h m) 0 (moved (offset (point_at path j) (at (pos r) (pos c))) path)
     unfolding walked cell_of
     fit_free =
@@ -163,16 +167,14 @@ module _ (w h m : ℕ) (path : Path) (j r c : ℕ) (hr : r < h) (hc : c < w) (hj
         ∙ sym (cover_free f 0 p (back p path j ++ onward p (drop j path)) (here_free false free))
         ∙ walked_moved f path j p hj
 
-    pub fit_stops : behind ≡ F.Nothing → [] ≡ cover (free_in w h m) 0 (moved (offset (point_at path j) (at (pos r) (pos c))) path)
+    pub fit_stops : behind ≡ None → [] ≡ cover (free_in w h m) 0 (moved (offset (point_at path j) (at (pos r) (pos c))) path)
     unfolding flat_map
-    fit_stops g = ap (λ (x : Fit). flat_map (λ n. cover (free_in w h m) n (onward (at (pos r) (pos c)) (drop j path))) (fit_pieces x)) (sym g) ∙ fit_free
+    fit_stops g = ap (λ (x : Option Cells). flat_map (λ n. cover (free_in w h m) n (onward (at (pos r) (pos c)) (drop j path))) (fit_pieces x)) (sym g) ∙ fit_free
 
-    pub fit_goes : (w0 w1 w2 w3 : ℕ) → behind ≡ F.Piece w0 w1 w2 w3 → (set : ℕ) → set ≡ value (w0 ∷ w1 ∷ w2 ∷ w3 ∷ []) → (r' : List ℕ) → r' ≡ cover (free_in w h m) set (onward (at (pos r) (pos c)) (drop j path)) → r' ≡ cover (free_in w h m) 0 (moved (offset (point_at path j) (at (pos r) (pos c))) path)
+    pub fit_goes : (set : Cells) → behind ≡ Some set → cover (free_in w h m) (number set) (onward (at (pos r) (pos c)) (drop j path)) ≡ cover (free_in w h m) 0 (moved (offset (point_at path j) (at (pos r) (pos c))) path)
     unfolding flat_map
-    fit_goes w0 w1 w2 w3 g set u r' v =
+    fit_goes set g =
         let on : ℕ → List ℕ = λ n. cover (free_in w h m) n (onward (at (pos r) (pos c)) (drop j path)) in
-        v
-        ∙ ap on u
-        ∙ sym (append-nil (on (value (w0 ∷ w1 ∷ w2 ∷ w3 ∷ []))))
-        ∙ ap (λ (x : Fit). flat_map on (fit_pieces x)) (sym g)
+        sym (append-nil (on (number set)))
+        ∙ ap (λ (x : Option Cells). flat_map on (fit_pieces x)) (sym g)
         ∙ fit_free

@@ -10,13 +10,6 @@ use cells::Cells;
 
 mod walk;
 
-// The set of cells that a tile covers, in four words, or nothing where it does not fit.
-#[derive(Clone, Copy, Drop)]
-pub enum Fit {
-    Piece(u64, u64, u64, u64),
-    Nothing,
-}
-
 // The piece that a path makes with point start on a cell, in a rectangle with some marks. Nothing fits on
 // a size that no board has or on a cell outside, and nothing is made of codes that are no path or by a
 // point that the path does not have. The marks are not tested: whatever they are, each cell is free or
@@ -28,20 +21,20 @@ pub fn tile_fits_at_position(
     path: &[u8],
     start: usize,
     cell: usize,
-) -> Fit
+) -> Option<Cells>
     ensures { fit_pieces result ≡ fit_in width height (number marks) path.now start cell }
 {
     if path.len() < start {
-        return Fit::Nothing;
+        return None;
     }
     if !rectangle::size_ok(width, height) {
-        return Fit::Nothing;
+        return None;
     }
     if !rectangle::is_inside(width, height, cell) {
-        return Fit::Nothing;
+        return None;
     }
     if !tile::is_path(path) {
-        return Fit::Nothing;
+        return None;
     }
     walk::tile_fits_at_position(marks, width, height, path, start, cell / 16, cell % 16)
 }

@@ -1,10 +1,8 @@
 -- Examples of the definitions, by computation.
-use Rattle.std.specs.Prelude.{◌≡◌, refl, [], ◌∷◌, eqb}
-use Rattle.std.proofs.Math.Option.{none, some}
+use Rattle.std.specs.Prelude.{◌≡◌, refl, [], ◌∷◌, eqb, None, Some, Err, Ok}
 use Rattle.cells.specs.Lists.{holds, padded}
 use Rattle.refusal.specs.Refusal.{refused, given, map_answer, value_or}
 use Rattle.refusal.specs.declared.Refusal.TheVariants as R
-use Rattle.graph.specs.declared.Edges.TheVariants as E
 use Rattle.graph.specs.Graph.{layer_room, node_room, edge_room, plot_boards, plot_nodes, plot_edges, node_part, edge_at, edges_in, edges_from, get_edges, GetsEdges, edges_for, count_from_graph, step_piece, marked_pieces_in}
 
 -- the least of words and count words decides; quotients drop their remainder
@@ -58,12 +56,12 @@ unfolding get_edges
 given_children = (refl, refl, refl)
 
 -- what `get_edges` leaves in words that held 7: node 0's two children, zeros behind
-left : GetsEdges (0 ∷ 1 ∷ 0 ∷ 2 ∷ 1 ∷ 3 ∷ []) 3 0 (7 ∷ 7 ∷ 7 ∷ []) (1 ∷ 2 ∷ 0 ∷ []) (E.Number 2)
+left : GetsEdges (0 ∷ 1 ∷ 0 ∷ 2 ∷ 1 ∷ 3 ∷ []) 3 0 (7 ∷ 7 ∷ 7 ∷ []) (1 ∷ 2 ∷ 0 ∷ []) (Ok 2)
 unfolding get_edges map_answer value_or padded
 left = record { answer = refl; words = refl }
 
 -- after refusal 8 zeros
-left_refused : GetsEdges (0 ∷ 1 ∷ 0 ∷ 2 ∷ 1 ∷ 3 ∷ []) 3 0 (7 ∷ []) (0 ∷ []) (E.Refused R.NoRoom)
+left_refused : GetsEdges (0 ∷ 1 ∷ 0 ∷ 2 ∷ 1 ∷ 3 ∷ []) 3 0 (7 ∷ []) (0 ∷ []) (Err R.NoRoom)
 unfolding get_edges map_answer value_or padded
 left_refused = record { answer = refl; words = refl }
 
@@ -73,7 +71,7 @@ written = (refl, refl)
 
 -- ---- the graph count: the full node's, 0 with none
 
-graph_counts : (count_from_graph (some 3) (1 ∷ 1 ∷ 1 ∷ 2 ∷ []) ≡ 2) × (count_from_graph none (1 ∷ 1 ∷ 1 ∷ 2 ∷ []) ≡ 0)
+graph_counts : (count_from_graph (Some 3) (1 ∷ 1 ∷ 1 ∷ 2 ∷ []) ≡ 2) × (count_from_graph None (1 ∷ 1 ∷ 1 ∷ 2 ∷ []) ≡ 0)
 unfolding count_from_graph
 graph_counts = (refl, refl)
 

@@ -2,14 +2,13 @@
 -- words behind the last edge or number cleared. Rests on `Graph`, `cells` and `covers`. Assumes nothing.
 use Rattle.std.proofs.Math.Path.{◌≡◌, refl, ap}
 use Rattle.std.proofs.Common.{sym, ap₂, ◌∙◌, subst, ⊎_elim, add-zero, zero-add, lt-ltb, le-ltb, eq-eqb, ne_eqb, length-set, get_or-set_same, get_or-set_other}
-use Rattle.std.specs.Prelude.{◌↔◌, Bool, ◌||◌, ltb, length, set, take}
+use Rattle.std.specs.Prelude.{◌↔◌, Bool, ◌||◌, ltb, length, set, take, None, Some}
 use Rattle.std.proofs.Math.Bool.{true, false, cond}
 use mathlib.Core.List.Memᴰ.{cases_cons}
 use mathlib.Core.List.Memᴰ.{head as here}
 use mathlib.Core.List.Memᴰ.{not-nil}
 use mathlib.Core.List.Memᴰ.{tail as there}
 use mathlib.Core.List.{List, [], ◌∷◌, ◌++◌, Memᴰ as Mem, flat_map}
-use Rattle.std.proofs.Math.Option.{none, some}
 use Prim.Native.Nat.{ℕ, zero, suc, ◌+◌, ◌-◌, ◌*◌, ◌/◌, ◌%◌, ◌≤◌, ◌<◌, min}
 use Rattle.std.proofs.Math.Decide.{ℕ_discrete, dec_lt}
 use native.Mathlib.Omega.{arith}
@@ -26,31 +25,31 @@ use Rattle.graph.specs.Graph.{edge_at, edges_in, edges_from, edges_for}
 module _ (test : ℕ → Bool) where
   -- the places hold a list's elements: the first is the element's number
   first_from_held : (bs : List ℕ) (v i : ℕ) → ((k : ℕ) → k < length bs → test (i + k) ≡ eqb (get_or bs k 0) v)
-      → first_from test i (length bs) ≡ cond (holds eqb bs v) (some (i + number_in eqb bs v)) none
+      → first_from test i (length bs) ≡ cond (holds eqb bs v) (Some (i + number_in eqb bs v)) None
   unfolding first_from holds any number_in
   first_from_held [] v i h = refl
   first_from_held (b ∷ bs) v i h =
       go (eqb b v) (sym (ap test (add-zero i)) ∙ h 0 (omega arith))
       (first_from_held bs v (suc i) (λ k l. let q : suc i + k ≡ i + suc k = omega arith in ap test q ∙ h (suc k) (omega arith)))
     where
-      go : (t : Bool) → test i ≡ t → first_from test (suc i) (length bs) ≡ cond (holds eqb bs v) (some (suc i + number_in eqb bs v)) none
-          → cond (test i) (some i) (first_from test (suc i) (length bs))
-          ≡ cond (t || holds eqb bs v) (some (i + cond t 0 (suc (number_in eqb bs v)))) none
-      go true e r = rw e (ap some (sym (add-zero i)))
+      go : (t : Bool) → test i ≡ t → first_from test (suc i) (length bs) ≡ cond (holds eqb bs v) (Some (suc i + number_in eqb bs v)) None
+          → cond (test i) (Some i) (first_from test (suc i) (length bs))
+          ≡ cond (t || holds eqb bs v) (Some (i + cond t 0 (suc (number_in eqb bs v)))) None
+      go true e r = rw e (ap Some (sym (add-zero i)))
       go false e r =
           let q : suc i + number_in eqb bs v ≡ i + suc (number_in eqb bs v) = omega arith in
-          rw e (r ∙ ap (λ (k : ℕ). cond (holds eqb bs v) (some k) none) q)
+          rw e (r ∙ ap (λ (k : ℕ). cond (holds eqb bs v) (Some k) None) q)
 
 -- the search in words that hold a list of nodes
 pub found_held : (ws : List ℕ) (bs : List ℕ) (v : ℕ) → length bs ≤ length ws / 4 → list_of (set_at ws) (length bs) ≡ bs
-    → find_set ws 0 (length bs) v ≡ cond (holds eqb bs v) (some (number_in eqb bs v)) none
+    → find_set ws 0 (length bs) v ≡ cond (holds eqb bs v) (Some (number_in eqb bs v)) None
 unfolding find_set
 found_held ws bs v h e =
     let all : min (length bs) (length ws / 4) - 0 ≡ length bs = omega arith in
     ap (first_from (λ i. eqb (set_at ws i) v) 0) all
     ∙ first_from_held (λ i. eqb (set_at ws i) v) bs v 0
     (λ k l. ap (λ (n : ℕ). eqb n v) (ap (set_at ws) (zero-add k) ∙ sym (get_d_list_of (set_at ws) (length bs) k 0 l) ∙ ap (λ (l : List ℕ). get_or l k 0) e))
-    ∙ ap (λ (k : ℕ). cond (holds eqb bs v) (some k) none) (zero-add (number_in eqb bs v))
+    ∙ ap (λ (k : ℕ). cond (holds eqb bs v) (Some k) None) (zero-add (number_in eqb bs v))
 
 -- ---- the edges out of a node
 

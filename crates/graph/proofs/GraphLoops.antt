@@ -1,32 +1,17 @@
--- What the part of a node and the loops over edges in lent words come to. Rests on `Graph`, `GraphLaws` and `cells`. Assumes nothing.
-use mathlib.Core.Path.{◌≡◌, refl, sym, ap, ◌∙◌, subst}
-use mathlib.Core.List.{List, [], ◌∷◌, ◌++◌}
-use Prim.Native.Nat.{ℕ, ◌+◌, ◌-◌, ◌*◌, ◌/◌, ◌≤◌, ◌<◌, min}
-use native.Mathlib.Decide.{ℕ_discrete}
-use native.Mathlib.Omega.{arith}
-use borrow.Author.Tests.{lt-ltb, le-ltb, le-leb, lt-leb}
-use lib.ListN.{length, get_or, set, take, drop, length-append, length-set}
-use lib.Seq.{get_or-append_seam, get_or-set_same, get_or-set_other}
+-- What the loops over edges in lent words come to. Rests on `Graph`, `GraphLaws` and `cells`. Assumes nothing.
+use Rattle.std.specs.Prelude.{Err, Ok}
+use Rattle.std.proofs.Common.{◌≡◌, refl, sym, ap, ◌∙◌, subst, List, [], ◌∷◌, ◌++◌, ℕ, ◌+◌, ◌*◌, ◌/◌, ◌≤◌, ◌<◌, min, arith, le-leb, length, get_or, set, length-append, length-set, get_or-set_same, get_or-set_other}
+use Rattle.std.proofs.lemmas.Bool.{lt-leb}
+use Rattle.std.proofs.Math.Decide.{ℕ_discrete}
+use Rattle.std.proofs.Math.Seq.{get_or-append_seam}
 use Rattle.cells.specs.Lists.{list_from, list_of, padded}
 use Rattle.cells.specs.Parts.{cleared_from}
 use Rattle.cells.specs.ArrayLaws.{get_d_snoc, list_of_snoc}
 use Rattle.refusal.specs.Refusal.{given, map_answer, value_or}
 use Rattle.refusal.specs.declared.Refusal.TheVariants as R
-use Rattle.graph.specs.declared.Edges.TheVariants as E
-use Rattle.graph.specs.Graph.{node_part, edge_at, edges_in, edges_from, get_edges, GetsEdges}
+use Rattle.graph.specs.Graph.{edge_at, edges_in, edges_from, get_edges, GetsEdges}
 use Rattle.graph.specs.Inner.{StandsIn}
 use Rattle.graph.proofs.GraphLaws.{edges_from_more, edges_from_other, cleared_numbers}
-
--- ---- the part of a node
-
-module _ (ws : List ℕ) (n : ℕ) where
-  pub part_lent : n < length ws / 4 → take (4 * n + 4 - 4 * n) (drop (4 * n) ws) ≡ node_part ws n
-  unfolding node_part
-  part_lent h = let e : 4 * n + 4 - 4 * n ≡ 4 = omega arith in rw (e, lt-ltb n (length ws / 4) h)
-
-  pub part_none : length ws / 4 ≤ n → [] ≡ node_part ws n
-  unfolding node_part
-  part_none h = rw (le-ltb n (length ws / 4) h)
 
 -- ---- the edges out of a node
 
@@ -90,56 +75,52 @@ module _ (ws : List ℕ) (v : ℕ) where
     counted_miss n f = (omega (arith, h.0), f ∙ h.1 ∙ sym (ap length (children_miss ws v i n)))
 
 -- they are counted, and stand in the output as far as it reaches
-pub record WrittenTo (ws : List ℕ) (v i count : ℕ) (old out : List ℕ) : Type 0 where
+pub record WrittenTo (ws : List ℕ) (v i count : ℕ) (out : List ℕ) : Type 0 where
   pub counted : CountedTo ws v i count
-  pub long : length out ≡ length old
   pub stands : StandsIn (children_to ws v i) out
 
-module _ (ws : List ℕ) (v : ℕ) (old : List ℕ) where
-  pub written_none : WrittenTo ws v 0 0 old old
-  written_none =
+module _ (ws : List ℕ) (v : ℕ) where
+  pub written_none : (out : List ℕ) → WrittenTo ws v 0 0 out
+  written_none out =
       record {
         counted = counted_none ws v;
-        long = refl;
-        stands = subst (λ (ns : List ℕ). StandsIn ns old) (sym (children_none ws v)) (λ k a b. absurd (omega arith));
+        stands = subst (λ (ns : List ℕ). StandsIn ns out) (sym (children_none ws v)) (λ k a b. absurd (omega arith));
       }
 
-  module _ (i count : ℕ) (out : List ℕ) (h : WrittenTo ws v i count old out) where
+  module _ (i count : ℕ) (out : List ℕ) (h : WrittenTo ws v i count out) where
     pub written_all : (n end : ℕ) → end ≡ min n (length ws / 2) → i ≤ end → end ≤ i → StandsIn (edges_from (edges_in ws n) v) out
     written_all n end e a b = subst (λ (ns : List ℕ). StandsIn ns out) (children_all ws v n i (omega arith)) h.stands
 
     module _ (r : ℕ) (new : List ℕ) where
-      pub written_hit : get_or ws (2 * i) 0 ≡ v → r ≡ count + 1 → new ≡ set out count (get_or ws (2 * i + 1) 0) → WrittenTo ws v (i + 1) r old new
+      pub written_hit : get_or ws (2 * i) 0 ≡ v → r ≡ count + 1 → new ≡ set out count (get_or ws (2 * i + 1) 0) → WrittenTo ws v (i + 1) r new
       written_hit e f g =
           rw (g ∙ ap (λ (k : ℕ). set out k (get_or ws (2 * i + 1) 0)) h.counted.1)
           record {
             counted = counted_hit ws v i count h.counted r e f;
-            long = length-set out (length (children_to ws v i)) (get_or ws (2 * i + 1) 0) ∙ h.long;
             stands =
                 subst (λ (ns : List ℕ). StandsIn ns (set out (length (children_to ws v i)) (get_or ws (2 * i + 1) 0))) (sym (children_hit ws v i e))
                 (stands_more (children_to ws v i) out (get_or ws (2 * i + 1) 0) h.stands);
           }
 
-      pub written_miss : (get_or ws (2 * i) 0 ≡ v → ⊥) → r ≡ count → new ≡ out → WrittenTo ws v (i + 1) r old new
+      pub written_miss : (get_or ws (2 * i) 0 ≡ v → ⊥) → r ≡ count → new ≡ out → WrittenTo ws v (i + 1) r new
       written_miss n f g =
           rw g
           record {
             counted = counted_miss ws v i count h.counted r n f;
-            long = h.long;
             stands = subst (λ (ns : List ℕ). StandsIn ns out) (sym (children_miss ws v i n)) h.stands;
           }
 
 -- ---- `get_edges`
 
 module _ (ws : List ℕ) (n v : ℕ) (old : List ℕ) (count : ℕ) (e : count ≡ length (edges_from (edges_in ws n) v)) where
-  pub gets_refused : length old < count → (new : List ℕ) → new ≡ cleared_from 0 old → GetsEdges ws n v old new (E.Refused R.NoRoom)
+  pub gets_refused : length old < count → (new : List ℕ) → new ≡ cleared_from 0 old → GetsEdges ws n v old new (Err R.NoRoom)
   unfolding get_edges map_answer value_or
   gets_refused h new f =
       let over = lt-leb (length (edges_from (edges_in ws n) v)) (length old) (omega arith) in
       record { answer = rw over; words = rw over (f ∙ cleared_numbers old [] (omega arith) (λ k a. absurd (omega arith))) }
 
   pub gets_number : count ≤ length old → (mid new : List ℕ) → length mid ≡ length old → StandsIn (edges_from (edges_in ws n) v) mid
-      → new ≡ cleared_from count mid → GetsEdges ws n v old new (E.Number count)
+      → new ≡ cleared_from count mid → GetsEdges ws n v old new (Ok count)
   unfolding get_edges map_answer value_or
   gets_number h mid new l s f =
       let within = le-leb (length (edges_from (edges_in ws n) v)) (length old) (omega arith) in

@@ -1,18 +1,14 @@
 -- Definitions: how many boards, nodes or edges lent words hold; a graph in lent words, nodes as boards of four words and edges as pairs of words; the result
 -- of a graph, its count, and the cutting that a list of its nodes gives. What stands in quotation marks is 01's, from its sections on the layer count, the
 -- graph and the tiling by number; "quotients drop their remainder". Assumes nothing.
-use Rattle.std.specs.Prelude.{ℕ, ◌/◌, min, ◌+◌, ◌*◌, cond, Bool, not, ◌&&◌, eqb, ltb, leb, length, get_or, take, drop}
+use Rattle.std.specs.Prelude.{ℕ, ◌/◌, min, ◌+◌, ◌*◌, cond, Bool, not, ◌&&◌, eqb, ltb, leb, length, get_or, take, drop, Option, Result}
+use Rattle.refusal.specs.declared.Refusal.{Refusal}
 use Rattle.path_count.specs.PathCounts.{count_room, count_in}
 use mathlib.Core.List.{List, [], ◌∷◌, flat_map, map}
 use Rattle.cells.specs.Lists.{list_of, padded, holds, set_at}
-use Rattle.refusal.specs.Refusal.{Answer, refused, given, refusal_number, Leaves}
-use Rattle.graph.specs.declared.Edges.{Edges}
-use Rattle.graph.specs.declared.Edges.TheVariants as E
-use Rattle.std.proofs.Math.Option.{Option, none, some}
+use Rattle.refusal.specs.Refusal.{Answer, refused, given, Leaves, answer_of}
 use Rattle.cells.specs.Set.{has_cell, set_of}
 use Rattle.covers.specs.Counts.{at_node, pieces_of}
-use Rattle.graph.specs.declared.Complete.{Complete}
-use Rattle.graph.specs.declared.Complete.TheVariants as N
 
 -- "a room for boards, nodes or edges above 16,777,216 counts as that"
 abbrev pub room_limit : ℕ
@@ -75,26 +71,16 @@ unfoldable pub get_edges : List ℕ → ℕ → ℕ → ℕ → Answer (List ℕ
 unfolding edges_in edges_from
 get_edges ws n v room = cond (leb (length (edges_from (edges_in ws n) v)) room) (given (edges_from (edges_in ws n) v)) (refused 8)
 
--- what `get_edges` answers
-abbrev pub edges_answer : Edges → Answer ℕ
-edges_answer (E.Number n) = given n
-edges_answer (E.Refused r) = refused (refusal_number r)
-
 -- so many words that hold a list of edges, the parent before the child, zeros behind
 unfoldable pub edges_for : List (ℕ × ℕ) → ℕ → List ℕ
 unfolding flat_map padded
 edges_for es count = padded (flat_map (λ e. e.0 ∷ e.1 ∷ []) es) count
 
 -- `get_edges`: the number of children; and the words hold the children, zeros behind, or zeros after a refusal
-abbrev pub GetsEdges : List ℕ → ℕ → ℕ → List ℕ → List ℕ → Edges → Type 0
-GetsEdges ws n v old new r = Leaves padded (get_edges ws n v (length old)) (edges_answer r) old new
+abbrev pub GetsEdges : List ℕ → ℕ → ℕ → List ℕ → List ℕ → Result ℕ Refusal → Type 0
+GetsEdges ws n v old new r = Leaves padded (get_edges ws n v (length old)) (answer_of r) old new
 
 -- ---- the result: "the numbers of nodes and edges and the full board's node, or none"
-
--- the full board's node, or none
-abbrev pub complete_node : Complete → Option ℕ
-complete_node (N.Node v) = some v
-complete_node N.Nothing = none
 
 -- "The graph count is that node's path count, 0 with none": of any node or none and any count words
 unfoldable pub count_from_graph : Option ℕ → List ℕ → ℕ

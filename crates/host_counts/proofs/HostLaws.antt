@@ -1,16 +1,11 @@
 -- What each call over words tells: the answer of the call below where the shapes are right, and zeros where they are not. Rests on host_words' `AnswerLaws`,
 -- path_count's `PathCountLaws`, graph's `GraphLaws` and layers' `StartLaws`. Assumes nothing.
-use mathlib.Core.Path.{◌≡◌, refl, sym, ap₂, ◌∙◌, subst}
-use mathlib.Core.List.{List, []}
-use Prim.Native.Nat.{ℕ}
-use native.Mathlib.Omega.{arith}
-use lib.ListN.{length}
+use Rattle.std.specs.Prelude.{◌≡◌, refl, Result, Ok, Err, ⊤, List, [], ℕ, length}
+use Rattle.std.proofs.Common.{sym, ap₂, ◌∙◌, subst, arith}
 use Rattle.cells.specs.Lists.{list_from, list_of}
 use Rattle.cells.specs.Parts.{cleared_from}
 use Rattle.cells.specs.ListLaws.{cleared_all}
 use Rattle.refusal.specs.declared.Refusal.{Refusal}
-use Rattle.refusal.specs.declared.Verdict.{Verdict}
-use Rattle.refusal.specs.declared.Verdict.TheVariants as Verdicts
 use Rattle.refusal.specs.Refusal.{Answer, refused, map_answer, refusal_number, value_or, verdict_number}
 use Rattle.tiles.specs.declared.Tiles.{Tiles}
 use Rattle.board.specs.declared.RectangularBoard.{RectangularBoard}
@@ -42,7 +37,7 @@ count_cleared q ba ca bb cb answer {ba'} {ca'} {bb'} {cb'} w x y z t = record {
   zero_counts_b = cleared_zeros (length cb) cb cb' z refl;
 }
 
-module _ (width height : ℕ) (marks tiles answer : List ℕ) (v : Verdict) where
+module _ (width height : ℕ) (marks tiles answer : List ℕ) (v : Result ⊤ Refusal) where
   abbrev shape : ℕ → ℕ
   shape needed = plot_shape needed (length marks) (length tiles) (length answer)
 
@@ -52,18 +47,18 @@ module _ (width height : ℕ) (marks tiles answer : List ℕ) (v : Verdict) wher
     abbrev Tells : Answer ℕ → Type 0
     Tells a = AnswersCount a ba ca bb cb answer ba' ca' bb' cb' answer' r
 
-    pub count_accepted : (b : RectangularBoard) (ts : Tiles) → v ≡ Verdicts.Accepted → b ≡ board_in width height marks → ts ≡ tiles_in tiles
+    pub count_accepted : (b : RectangularBoard) (ts : Tiles) → v ≡ Ok tt → b ≡ board_in width height marks → ts ≡ tiles_in tiles
         → Tells (f b ts) → Tells (unless (shape 2) (f (board_in width height marks) (tiles_in tiles)))
     count_accepted b ts e is are =
         subst Tells (ap₂ f is are ∙ sym (unless_accepted (shape 2) (f (board_in width height marks) (tiles_in tiles)) v told e))
 
-    pub count_unshaped : (q : Refusal) → v ≡ Verdicts.Refused q → Tells (refused (refusal_number q)) → Tells (unless (shape 2) (f (board_in width height marks) (tiles_in tiles)))
+    pub count_unshaped : (q : Refusal) → v ≡ Err q → Tells (refused (refusal_number q)) → Tells (unless (shape 2) (f (board_in width height marks) (tiles_in tiles)))
     count_unshaped q e = subst Tells (sym (unless_refused (shape 2) (f (board_in width height marks) (tiles_in tiles)) v told q e))
 
   -- ---- the graph
 
   module _ (told : verdict_number v ≡ shape 4) (nodes counts edges : List ℕ) where
-    pub graph_accepted : (b : RectangularBoard) (ts : Tiles) → v ≡ Verdicts.Accepted → b ≡ board_in width height marks → ts ≡ tiles_in tiles → {nodes' counts' edges' answer' : List ℕ} {r : ℕ}
+    pub graph_accepted : (b : RectangularBoard) (ts : Tiles) → v ≡ Ok tt → b ≡ board_in width height marks → ts ≡ tiles_in tiles → {nodes' counts' edges' answer' : List ℕ} {r : ℕ}
         → AnswersGraph (generate_graph b ts (length nodes) (length counts) (length edges)) nodes counts edges answer nodes' counts' edges' answer' r
         → AnswersGraph (generated width height marks tiles (length nodes) (length counts) (length edges) (length answer)) nodes counts edges answer nodes' counts' edges' answer' r
     unfolding generated
@@ -72,7 +67,7 @@ module _ (width height : ℕ) (marks tiles answer : List ℕ) (v : Verdict) wher
         (ap₂ (λ (x : RectangularBoard) (y : Tiles). generate_graph x y (length nodes) (length counts) (length edges)) is are
         ∙ sym (unless_accepted (shape 4) (generate_graph (board_in width height marks) (tiles_in tiles) (length nodes) (length counts) (length edges)) v told e)) t
 
-    pub graph_unshaped : (q : Refusal) → v ≡ Verdicts.Refused q → {nodes' counts' edges' answer' : List ℕ} {r : ℕ}
+    pub graph_unshaped : (q : Refusal) → v ≡ Err q → {nodes' counts' edges' answer' : List ℕ} {r : ℕ}
         → nodes' ≡ cleared_from 0 nodes → counts' ≡ cleared_from 0 counts → edges' ≡ cleared_from 0 edges → AnswersWords (refused (refusal_number q)) answer answer' r
         → AnswersGraph (generated width height marks tiles (length nodes) (length counts) (length edges) (length answer)) nodes counts edges answer nodes' counts' edges' answer' r
     unfolding generated value_or map_answer

@@ -8,7 +8,6 @@ ghost use Rattle.graph.specs.Graph.{layer_room};
 ghost use Rattle.host_counts.specs.Calls.{counted, cuttings_counted, AnswersCount, generated, AnswersGraph};
 
 use cells::list;
-use refusal::Verdict;
 
 mod calls;
 
@@ -29,24 +28,22 @@ pub fn count_tilings(
         boards_a.old counts_a.old boards_b.old counts_b.old answer.old
         boards_a.new counts_a.new boards_b.new counts_b.new answer.new result }
 {
-    let verdict = host_words::of_plot(2, marks.len(), tiles.len(), answer.len());
-    match verdict {
-        Verdict::Accepted => calls::count_tilings(
-            host_words::board_from(width, height, marks),
-            host_tiles::tiles_from(tiles),
-            boards_a,
-            counts_a,
-            boards_b,
-            counts_b,
-            answer,
-        ),
-        Verdict::Refused(refusal) => {
+    match host_words::of_plot(2, marks.len(), tiles.len(), answer.len()) {
+        Ok(()) => {
+            let board = host_words::board_from(width, height, marks);
+            let tiles = host_tiles::tiles_from(tiles);
+            let count = layers::count_tilings(board, tiles, boards_a, counts_a, boards_b, counts_b);
+            calls::tell_count(answer, count)
+        }
+        Err(refusal) => {
             calls::refuse_count(boards_a, counts_a, boards_b, counts_b, answer, refusal)
         }
     }
 }
 
 // The figure called cuttings, low word and high word. The lent layers are zero afterwards.
+// Kept: it differs from the call above in the line that counts; one function for both would take ten
+// arguments, one of them a function of six.
 pub fn count_cuttings(
     width: u64,
     height: u64,
@@ -63,18 +60,14 @@ pub fn count_cuttings(
         boards_a.old counts_a.old boards_b.old counts_b.old answer.old
         boards_a.new counts_a.new boards_b.new counts_b.new answer.new result }
 {
-    let verdict = host_words::of_plot(2, marks.len(), tiles.len(), answer.len());
-    match verdict {
-        Verdict::Accepted => calls::count_cuttings(
-            host_words::board_from(width, height, marks),
-            host_tiles::tiles_from(tiles),
-            boards_a,
-            counts_a,
-            boards_b,
-            counts_b,
-            answer,
-        ),
-        Verdict::Refused(refusal) => {
+    match host_words::of_plot(2, marks.len(), tiles.len(), answer.len()) {
+        Ok(()) => {
+            let board = host_words::board_from(width, height, marks);
+            let tiles = host_tiles::tiles_from(tiles);
+            let count = tiler::count_cuttings(board, tiles, boards_a, counts_a, boards_b, counts_b);
+            calls::tell_count(answer, count)
+        }
+        Err(refusal) => {
             calls::refuse_count(boards_a, counts_a, boards_b, counts_b, answer, refusal)
         }
     }
@@ -96,9 +89,8 @@ pub fn generate_graph(
         (length nodes.old) (length counts.old) (length edges.old) (length answer.old))
         nodes.old counts.old edges.old answer.old nodes.new counts.new edges.new answer.new result }
 {
-    let verdict = host_words::of_plot(4, marks.len(), tiles.len(), answer.len());
-    match verdict {
-        Verdict::Accepted => calls::generate_graph(
+    match host_words::of_plot(4, marks.len(), tiles.len(), answer.len()) {
+        Ok(()) => calls::generate_graph(
             host_words::board_from(width, height, marks),
             host_tiles::tiles_from(tiles),
             nodes,
@@ -106,7 +98,7 @@ pub fn generate_graph(
             edges,
             answer,
         ),
-        Verdict::Refused(refusal) => {
+        Err(refusal) => {
             list::clear_from(nodes, 0);
             list::clear_from(counts, 0);
             list::clear_from(edges, 0);

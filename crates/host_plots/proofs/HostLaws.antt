@@ -1,15 +1,11 @@
 -- What each call over words tells: the answer of the call below where the shapes are right, and zeros where they are not. Rests on host_words' `AnswerLaws`
 -- and host_tiles' `TileByteLaws`. Assumes nothing.
-use mathlib.Core.Path.{◌≡◌, sym, ap, ap₂, ◌∙◌, subst}
-use mathlib.Core.List.{List, []}
-use Prim.Native.Nat.{ℕ}
-use lib.ListN.{length}
+use Rattle.std.specs.Prelude.{◌≡◌, Result, Ok, Err, ⊤, List, [], ℕ, length}
+use Rattle.std.proofs.Common.{sym, ap, ap₂, ◌∙◌, subst}
 use Rattle.cells.specs.Parts.{cleared_from}
 use Rattle.cells.specs.Lists.{words_for}
 use Rattle.cells.specs.ListLaws.{cleared_all}
 use Rattle.refusal.specs.declared.Refusal.{Refusal}
-use Rattle.refusal.specs.declared.Verdict.{Verdict}
-use Rattle.refusal.specs.declared.Verdict.TheVariants as Verdicts
 use Rattle.refusal.specs.Refusal.{Answer, refused, map_answer, refusal_number, value_or, verdict_number}
 use Rattle.tile.specs.declared.Tile.{Tile}
 use Rattle.tiles.specs.declared.Tiles.{Tiles}
@@ -28,11 +24,11 @@ use Rattle.host_plots.specs.Calls.{placed, orbit_shape, orbit_for, file_shape, r
 
 -- ---- the children of a board
 
-module _ (width height : ℕ) (marks tiles answer : List ℕ) (v : Verdict) (shape : verdict_number v ≡ plot_shape 1 (length marks) (length tiles) (length answer)) (out : List ℕ) where
+module _ (width height : ℕ) (marks tiles answer : List ℕ) (v : Result ⊤ Refusal) (shape : verdict_number v ≡ plot_shape 1 (length marks) (length tiles) (length answer)) (out : List ℕ) where
   abbrev below : RectangularBoard → Tiles → Answer (List ℕ)
   below b ts = place_tile (board_of b) ts (length out)
 
-  pub place_accepted : (b : RectangularBoard) (ts : Tiles) → v ≡ Verdicts.Accepted → b ≡ board_in width height marks → ts ≡ tiles_in tiles → {out' answer' : List ℕ} {r : ℕ}
+  pub place_accepted : (b : RectangularBoard) (ts : Tiles) → v ≡ Ok tt → b ≡ board_in width height marks → ts ≡ tiles_in tiles → {out' answer' : List ℕ} {r : ℕ}
       → AnswersList words_for (below b ts) out answer out' answer' r
       → AnswersList words_for (placed width height marks tiles (length out) (length answer)) out answer out' answer' r
   unfolding placed
@@ -40,7 +36,7 @@ module _ (width height : ℕ) (marks tiles answer : List ℕ) (v : Verdict) (sha
       subst (λ (a : Answer (List ℕ)). AnswersList words_for a out answer out' answer' r)
       (ap₂ below is are ∙ sym (unless_accepted (plot_shape 1 (length marks) (length tiles) (length answer)) (below (board_in width height marks) (tiles_in tiles)) v shape e)) t
 
-  pub place_unshaped : (q : Refusal) → v ≡ Verdicts.Refused q → {out' answer' : List ℕ} {r : ℕ} → out' ≡ cleared_from 0 out → AnswersWords (refused (refusal_number q)) answer answer' r
+  pub place_unshaped : (q : Refusal) → v ≡ Err q → {out' answer' : List ℕ} {r : ℕ} → out' ≡ cleared_from 0 out → AnswersWords (refused (refusal_number q)) answer answer' r
       → AnswersList words_for (placed width height marks tiles (length out) (length answer)) out answer out' answer' r
   unfolding placed value_or map_answer
   place_unshaped q e {out'} {answer'} {r} z t =
@@ -50,8 +46,8 @@ module _ (width height : ℕ) (marks tiles answer : List ℕ) (v : Verdict) (sha
 
 -- ---- the orbit
 
-module _ (tile tiles answer : List ℕ) (v : Verdict) (shape : verdict_number v ≡ orbit_shape (length tile) (length tiles) (length answer)) where
-  pub orbit_accepted : v ≡ Verdicts.Accepted → (t : Tile) → t ≡ tile_in tile → {tiles' answer' : List ℕ} {r : ℕ}
+module _ (tile tiles answer : List ℕ) (v : Result ⊤ Refusal) (shape : verdict_number v ≡ orbit_shape (length tile) (length tiles) (length answer)) where
+  pub orbit_accepted : v ≡ Ok tt → (t : Tile) → t ≡ tile_in tile → {tiles' answer' : List ℕ} {r : ℕ}
       → AnswersList bytes_for (map_answer orbit (read_tile t)) tiles answer tiles' answer' r → AnswersList bytes_for (orbit_for tile (length tiles) (length answer)) tiles answer tiles' answer' r
   unfolding orbit_for
   orbit_accepted e t is {tiles'} {answer'} {r} x =
@@ -59,7 +55,7 @@ module _ (tile tiles answer : List ℕ) (v : Verdict) (shape : verdict_number v 
       (ap (λ (y : Tile). map_answer orbit (read_tile y)) is
       ∙ sym (unless_accepted (orbit_shape (length tile) (length tiles) (length answer)) (map_answer orbit (read_tile (tile_in tile))) v shape e)) x
 
-  pub orbit_unshaped : (q : Refusal) → v ≡ Verdicts.Refused q → (ts : Tiles) → ts ≡ tiles_of [] → {tiles' answer' : List ℕ} {r : ℕ} → tiles' ≡ struct_bytes ts (length tiles)
+  pub orbit_unshaped : (q : Refusal) → v ≡ Err q → (ts : Tiles) → ts ≡ tiles_of [] → {tiles' answer' : List ℕ} {r : ℕ} → tiles' ≡ struct_bytes ts (length tiles)
       → AnswersWords (refused (refusal_number q)) answer answer' r → AnswersList bytes_for (orbit_for tile (length tiles) (length answer)) tiles answer tiles' answer' r
   unfolding orbit_for value_or map_answer
   orbit_unshaped q e ts none {tiles'} {answer'} {r} z t =
@@ -69,15 +65,15 @@ module _ (tile tiles answer : List ℕ) (v : Verdict) (shape : verdict_number v 
 
 -- ---- the plot file
 
-module _ (file board tiles answer : List ℕ) (v : Verdict) (shape : verdict_number v ≡ file_shape (length board) (length tiles) (length answer)) where
-  pub plot_accepted : v ≡ Verdicts.Accepted → {board' tiles' answer' : List ℕ} {r : ℕ} → AnswersPlot (plot_in file) board tiles answer board' tiles' answer' r
+module _ (file board tiles answer : List ℕ) (v : Result ⊤ Refusal) (shape : verdict_number v ≡ file_shape (length board) (length tiles) (length answer)) where
+  pub plot_accepted : v ≡ Ok tt → {board' tiles' answer' : List ℕ} {r : ℕ} → AnswersPlot (plot_in file) board tiles answer board' tiles' answer' r
       → AnswersPlot (read_file file (length board) (length tiles) (length answer)) board tiles answer board' tiles' answer' r
   unfolding read_file
   plot_accepted e {board'} {tiles'} {answer'} {r} x =
       subst (λ (a : Answer Plot). AnswersPlot a board tiles answer board' tiles' answer' r)
       (sym (unless_accepted (file_shape (length board) (length tiles) (length answer)) (plot_in file) v shape e)) x
 
-  pub plot_unshaped : (q : Refusal) → v ≡ Verdicts.Refused q → (ts : Tiles) → ts ≡ tiles_of [] → {board' tiles' answer' : List ℕ} {r : ℕ} → board' ≡ cleared_from 0 board → tiles' ≡ struct_bytes ts (length tiles)
+  pub plot_unshaped : (q : Refusal) → v ≡ Err q → (ts : Tiles) → ts ≡ tiles_of [] → {board' tiles' answer' : List ℕ} {r : ℕ} → board' ≡ cleared_from 0 board → tiles' ≡ struct_bytes ts (length tiles)
       → AnswersWords (refused (refusal_number q)) answer answer' r → AnswersPlot (read_file file (length board) (length tiles) (length answer)) board tiles answer board' tiles' answer' r
   unfolding read_file value_or map_answer
   plot_unshaped q e ts none {board'} {tiles'} {answer'} {r} y z t =

@@ -13,31 +13,30 @@ ghost use Rattle.host_tiles.specs.TileBytes.{bytes_for};
 ghost use Rattle.cells.specs.Lists.{words_for};
 
 use board::RectangularBoard;
-use children::Children;
-use refusal::Verdict;
 use tile::Tile;
 use tiles::Tiles;
 
 pub fn place_tile(board: RectangularBoard, tiles: Tiles, out: &mut [u64], answer: &mut [u64]) -> u64
     ensures { AnswersList words_for (place_tile (board_of board) tiles (length out.old)) out.old answer.old out.new answer.new result }
 {
-    let children = children::place_tile(board, tiles, out);
-    match children {
-        Children::Number(n) => host_words::accept(answer, n as u64, 0, 0, 0),
-        Children::Refused(refusal) => host_words::refuse(answer, refusal),
+    match children::place_tile(board, tiles, out) {
+        Ok(n) => host_words::accept(answer, &[n as u64]),
+        Err(refusal) => host_words::refuse(answer, refusal),
     }
 }
 
 pub fn orbit(tile: Tile, tiles: &mut [u8], answer: &mut [u64]) -> u64
     ensures { AnswersList bytes_for (map_answer orbit (read_tile tile)) tiles.old answer.old tiles.new answer.new result }
 {
-    let made = Tiles::orbit(tile);
-    let verdict = made.verdict;
-    let all = made.tiles;
-    host_tiles::put_tiles(tiles, all);
-    match verdict {
-        Verdict::Accepted => host_words::accept(answer, all.count as u64, 0, 0, 0),
-        Verdict::Refused(refusal) => host_words::refuse(answer, refusal),
+    match Tiles::orbit(tile) {
+        Ok(all) => {
+            host_tiles::put_tiles(tiles, all);
+            host_words::accept(answer, &[all.count as u64])
+        }
+        Err(refusal) => {
+            host_tiles::put_tiles(tiles, Tiles::new());
+            host_words::refuse(answer, refusal)
+        }
     }
 }
 
@@ -46,12 +45,11 @@ pub fn read_plot(file: &[u8], board: &mut [u64], tiles: &mut [u8], answer: &mut 
         board.old tiles.old answer.old board.new tiles.new answer.new result }
 {
     let plot = plot_file::read_plot(file);
-    let verdict = plot.verdict;
     let all = plot.tiles;
     host_words::put_board(board, plot.board);
     host_tiles::put_tiles(tiles, all);
-    match verdict {
-        Verdict::Accepted => host_words::accept(answer, all.count as u64, 0, 0, 0),
-        Verdict::Refused(refusal) => host_words::refuse(answer, refusal),
+    match plot.verdict {
+        Ok(()) => host_words::accept(answer, &[all.count as u64]),
+        Err(refusal) => host_words::refuse(answer, refusal),
     }
 }

@@ -10,7 +10,6 @@ ghost use Rattle.host_tiles.specs.TileBytes.{bytes_for};
 ghost use Rattle.cells.specs.Lists.{words_for};
 
 use cells::list;
-use refusal::Verdict;
 use tiles::Tiles;
 
 mod calls;
@@ -28,15 +27,14 @@ pub fn place_tile(
     ensures { AnswersList words_for (placed width height marks.now tiles.now (length out.old) (length answer.old))
         out.old answer.old out.new answer.new result }
 {
-    let verdict = host_words::of_plot(1, marks.len(), tiles.len(), answer.len());
-    match verdict {
-        Verdict::Accepted => calls::place_tile(
+    match host_words::of_plot(1, marks.len(), tiles.len(), answer.len()) {
+        Ok(()) => calls::place_tile(
             host_words::board_from(width, height, marks),
             host_tiles::tiles_from(tiles),
             out,
             answer,
         ),
-        Verdict::Refused(refusal) => {
+        Err(refusal) => {
             list::clear_from(out, 0);
             host_words::refuse(answer, refusal)
         }
@@ -48,10 +46,9 @@ pub fn orbit(tile: &[u8], tiles: &mut [u8], answer: &mut [u64]) -> u64
     ensures { AnswersList bytes_for (orbit_for tile.now (length tiles.old) (length answer.old))
         tiles.old answer.old tiles.new answer.new result }
 {
-    let verdict = shapes::of_orbit(tile.len(), tiles.len(), answer.len());
-    match verdict {
-        Verdict::Accepted => calls::orbit(host_tiles::tile_from(tile), tiles, answer),
-        Verdict::Refused(refusal) => {
+    match shapes::of_orbit(tile.len(), tiles.len(), answer.len()) {
+        Ok(()) => calls::orbit(host_tiles::tile_from(tile), tiles, answer),
+        Err(refusal) => {
             host_tiles::put_tiles(tiles, Tiles::new());
             host_words::refuse(answer, refusal)
         }
@@ -63,10 +60,9 @@ pub fn read_plot(file: &[u8], board: &mut [u64], tiles: &mut [u8], answer: &mut 
     ensures { AnswersPlot (read_file file.now (length board.old) (length tiles.old) (length answer.old))
         board.old tiles.old answer.old board.new tiles.new answer.new result }
 {
-    let verdict = shapes::of_file(board.len(), tiles.len(), answer.len());
-    match verdict {
-        Verdict::Accepted => calls::read_plot(file, board, tiles, answer),
-        Verdict::Refused(refusal) => {
+    match shapes::of_file(board.len(), tiles.len(), answer.len()) {
+        Ok(()) => calls::read_plot(file, board, tiles, answer),
+        Err(refusal) => {
             list::clear_from(board, 0);
             host_tiles::put_tiles(tiles, Tiles::new());
             host_words::refuse(answer, refusal)

@@ -3,36 +3,38 @@ ghost use Rattle.std.specs.Prelude.{◌≡◌};
 ghost use Rattle.refusal.specs.Refusal.{verdict_number};
 ghost use Rattle.host_plots.specs.Calls.{orbit_shape, file_shape};
 
-use refusal::{Refusal, Verdict};
+use refusal::Refusal;
 
 // Of a tile and its orbit.
-pub fn of_orbit(tile: usize, tiles: usize, answer: usize) -> Verdict
+#[tactic(auto, unfolding(crate::specs::Calls::orbit_shape))]
+pub fn of_orbit(tile: usize, tiles: usize, answer: usize) -> Result<(), Refusal>
     ensures { verdict_number result ≡ orbit_shape tile tiles answer }
 {
     if tile != 33 {
-        return Verdict::Refused(Refusal::BadTile);
+        return Err(Refusal::BadTile);
     }
     if tiles < 264 {
-        return Verdict::Refused(Refusal::NoRoom);
+        return Err(Refusal::NoRoom);
     }
     if answer < 1 {
-        return Verdict::Refused(Refusal::NoRoom);
+        return Err(Refusal::NoRoom);
     }
-    Verdict::Accepted
+    Ok(())
 }
 
 // Of what a plot file is read into.
-pub fn of_file(board: usize, tiles: usize, answer: usize) -> Verdict
+#[tactic(auto, unfolding(crate::specs::Calls::file_shape))]
+pub fn of_file(board: usize, tiles: usize, answer: usize) -> Result<(), Refusal>
     ensures { verdict_number result ≡ file_shape board tiles answer }
 {
     if board < 10 {
-        return Verdict::Refused(Refusal::NoRoom);
+        return Err(Refusal::NoRoom);
     }
     if tiles < 2112 {
-        return Verdict::Refused(Refusal::NoRoom);
+        return Err(Refusal::NoRoom);
     }
     if answer < 1 {
-        return Verdict::Refused(Refusal::NoRoom);
+        return Err(Refusal::NoRoom);
     }
-    Verdict::Accepted
+    Ok(())
 }

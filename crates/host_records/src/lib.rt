@@ -7,8 +7,8 @@ ghost use Rattle.std.specs.Prelude.{length};
 ghost use Rattle.archive.specs.Archive.{LeavesOutcome, write_record};
 ghost use Rattle.host_records.specs.Calls.{record_for, records_counted, record_found, current_found};
 
-use archive::{Record, RecordCount};
-use refusal::{Refusal, Verdict};
+use archive::Record;
+use refusal::Refusal;
 
 mod answers;
 
@@ -23,10 +23,9 @@ pub fn write_record(id: u16, year: u16, revision: u16, low: u64, high: u64, out:
         low,
         high,
     };
-    let verdict = archive::write_record(record, out);
-    match verdict {
-        Verdict::Accepted => 0,
-        Verdict::Refused(refusal) => refusal.number() as u64,
+    match archive::write_record(record, out) {
+        Ok(()) => 0,
+        Err(refusal) => refusal.into(),
     }
 }
 
@@ -37,10 +36,9 @@ pub fn count_records(file: &[u8], answer: &mut [u64]) -> u64
     if answer.len() < 1 {
         return answers::refuse(answer, Refusal::NoRoom);
     }
-    let count = archive::count_records(file);
-    match count {
-        RecordCount::Number(n) => answers::number(answer, n as u64),
-        RecordCount::Broken(place) => answers::broken(answer, place as u64),
+    match archive::count_records(file) {
+        Ok(count) => answers::give(answer, &[count as u64]),
+        Err(broken) => answers::broken(answer, broken.place as u64),
     }
 }
 
@@ -51,8 +49,7 @@ pub fn record_at(file: &[u8], place: u64, answer: &mut [u64]) -> u64
     if answer.len() < 5 {
         return answers::refuse(answer, Refusal::NoRoom);
     }
-    let found = archive::record_at(file, place as usize);
-    answers::found(answer, found)
+    answers::found(answer, archive::record_at(file, place as usize))
 }
 
 // The five words of the record of a plot id that counts.
@@ -62,6 +59,5 @@ pub fn current_record(file: &[u8], id: u16, answer: &mut [u64]) -> u64
     if answer.len() < 5 {
         return answers::refuse(answer, Refusal::NoRoom);
     }
-    let found = archive::current_record(file, id);
-    answers::found(answer, found)
+    answers::found(answer, archive::current_record(file, id))
 }

@@ -1,4 +1,3 @@
--- What a host's bytes of tiles stand for. `TileBytes` is what a reader must believe; `Inner` serves a private contract; the rest are laws.
+-- What a host's bytes of tiles stand for. `TileBytes` is what a reader must believe; the rest are laws.
 pub mod TileBytes
-pub mod Inner
 pub mod TileByteLaws

@@ -7,8 +7,8 @@
 ghost use Rattle.std.specs.Prelude.{◌≡◌, ◌+◌, ◌*◌, ◌/◌, ◌%◌, length, get_or};
 ghost use Rattle.cells.specs.Lists.{list_of};
 ghost use Rattle.host_tiles.specs.TileBytes.{tile_in, tiles_in, stored_byte, struct_bytes};
-ghost use Rattle.host_tiles.specs.Inner.{Arrays};
 
+use std::array;
 use tile::Tile;
 use tiles::Tiles;
 
@@ -16,25 +16,16 @@ use tiles::Tiles;
 fn byte_at(bytes: &[u8], i: usize) -> u8
     ensures { result ≡ get_or bytes.now i 0 }
 {
-    if i < bytes.len() {
-        return bytes[i];
-    }
-    0
+    bytes.get(i).copied().unwrap_or(0)
 }
 
 // The tile of 33 bytes.
 pub fn tile_from(bytes: &[u8]) -> Tile
     ensures { result ≡ tile_in bytes.now }
 {
-    let mut codes = [0u8; 32];
-    let mut i = 0;
-    while i < 32 {
-        codes[i] = byte_at(bytes, 1 + i);
-        i += 1;
-    }
     Tile {
-        len: byte_at(bytes, 0) as usize,
-        codes,
+        len: usize::from(byte_at(bytes, 0)),
+        codes: array::from_fn(|i| byte_at(bytes, 1 + i)),
     }
 }
 
@@ -53,53 +44,36 @@ pub fn tiles_from(bytes: &[u8]) -> Tiles
 fn lens_from(bytes: &[u8]) -> [usize; 64]
     ensures { result ≡ list_of (λ i. get_or bytes.now (33 * i) 0) 64 }
 {
-    let mut lens = [0usize; 64];
-    let mut i = 0;
-    while i < 64 {
-        lens[i] = byte_at(bytes, 33 * i) as usize;
-        i += 1;
-    }
-    lens
+    array::from_fn(|i| usize::from(byte_at(bytes, 33 * i)))
 }
 
 // The codes of the first 64 tiles.
 fn codes_from(bytes: &[u8]) -> [u8; 2048]
     ensures { result ≡ list_of (λ k. get_or bytes.now (33 * (k / 32) + (1 + k % 32)) 0) 2048 }
 {
-    let mut codes = [0u8; 2048];
-    let mut k = 0;
-    while k < 2048 {
-        codes[k] = byte_at(bytes, 33 * (k / 32) + (1 + k % 32));
-        k += 1;
-    }
-    codes
+    array::from_fn(|k| byte_at(bytes, 33 * (k / 32) + (1 + k % 32)))
 }
 
-// Byte k of tiles that are stored with these lengths and codes, 0 behind the last.
-fn tile_byte(lens: &[usize; 64], codes: &[u8; 2048], k: usize) -> u8
-    requires { Arrays lens.now codes.now }
-    ensures { result ≡ stored_byte lens.now codes.now k }
+// Byte k of some tiles as their struct has them, 0 behind the last.
+#[tactic(auto, unfolding(crate::specs::TileBytes::stored_byte))]
+fn tile_byte(tiles: &Tiles, k: usize) -> u8
+    ensures { result ≡ stored_byte tiles.now.lens tiles.now.codes k }
 {
     let tile = k / 33;
-    let place = k % 33;
     if 63 < tile {
         return 0;
     }
-    if place == 0 {
-        return (lens[tile] % 256) as u8;
+    match k % 33 {
+        0 => (tiles.lens[tile] % 256) as u8,
+        place => tiles.codes[32 * tile + (place - 1)],
     }
-    codes[32 * tile + (place - 1)]
 }
 
 // The bytes of some tiles as their struct has them, of a length its low byte, and zeros behind them.
 pub fn put_tiles(bytes: &mut [u8], tiles: Tiles)
     ensures { bytes.new ≡ struct_bytes tiles (length bytes.old) }
 {
-    let lens = tiles.lens;
-    let codes = tiles.codes;
-    let mut k = 0;
-    while k < bytes.len() {
-        bytes[k] = tile_byte(&lens, &codes, k);
-        k += 1;
+    for k in 0..bytes.len() {
+        bytes[k] = tile_byte(&tiles, k);
     }
 }

@@ -1,9 +1,8 @@
 -- Laws of the shapes of a result and a number, cause by cause. Rests on `Calls`. Assumes nothing.
-use Rattle.std.specs.Prelude.{◌≡◌, refl, Bool, true, false, cond, ◌&&◌, List, ℕ, ◌≤◌, ◌<◌, eqb, leb, length, get_or}
+use Rattle.refusal.specs.declared.Refusal.{Refusal}
+use Rattle.std.specs.Prelude.{◌≡◌, refl, Ok, Result, ⊤, Bool, true, false, cond, ◌&&◌, List, ℕ, ◌≤◌, ◌<◌, eqb, leb, length, get_or}
 use Rattle.std.proofs.Common.{sym, ap, ◌∙◌, arith}
 use borrow.Author.Tests.{eq-eqb, ne_eqb, le-leb, lt-leb, eqb-true}
-use Rattle.refusal.specs.declared.Verdict.{Verdict}
-use Rattle.refusal.specs.declared.Verdict.TheVariants as Verdicts
 use Rattle.refusal.specs.Refusal.{verdict_number}
 use Rattle.host_tilings.specs.Calls.{tiling_shape}
 
@@ -29,7 +28,7 @@ module _ (graph : List ℕ) (m answer : ℕ) where
   tiling_right e l f a = rw (eq-eqb (length graph) 4 e, le-leb (get_or graph 2 0) 1 l, eq-eqb m 2 f, le-leb 1 answer a)
 
 -- a number that is handed on has two words
-pub tiling_two : (graph : List ℕ) (m answer : ℕ) (v : Verdict) → verdict_number v ≡ tiling_shape graph m answer → v ≡ Verdicts.Accepted → m ≡ 2
+pub tiling_two : (graph : List ℕ) (m answer : ℕ) (v : Result ⊤ Refusal) → verdict_number v ≡ tiling_shape graph m answer → v ≡ Ok tt → m ≡ 2
 unfolding tiling_shape
 tiling_two graph m answer v told e = go (eqb (length graph) 4 && leb (get_or graph 2 0) 1) (eqb m 2) refl (sym told ∙ ap verdict_number e)
   where

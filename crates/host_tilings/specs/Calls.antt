@@ -2,7 +2,7 @@
 -- number of the refusal, and every lent word that holds nothing else is zero, all of them after a refusal. What is answered where the shapes are right is the
 -- definition of the call below. Assumes nothing.
 use Rattle.std.specs.Prelude.{◌≡◌, cond, ◌&&◌, List, [], ◌∷◌, ℕ, ◌/◌, eqb, leb, length, get_or}
-use Rattle.std.proofs.Math.Option.{Option}
+use Rattle.std.specs.Prelude.{Option}
 use Rattle.cells.specs.Set.{value}
 use Rattle.cells.specs.Lists.{words_for}
 use Rattle.refusal.specs.Refusal.{Answer, given, map_answer, value_or}

@@ -10,9 +10,7 @@ ghost use Rattle.cells.specs.Lists.{padded};
 
 use board::RectangularBoard;
 use graph::GraphResult;
-use numbered_tilings::Tiling;
 use path_count::PathCount;
-use single_tiling::SingleTiling;
 use tiles::Tiles;
 
 pub fn single_tiling(
@@ -23,11 +21,9 @@ pub fn single_tiling(
 ) -> u64
     ensures { AnswersSingle (read_search board tiles (length out.old / 4)) out.old answer.old out.new answer.new result }
 {
-    let single = single_tiling::get_single_tiling(board, tiles, out);
-    match single {
-        SingleTiling::Boards(n) => host_words::accept(answer, n as u64, 0, 0, 0),
-        SingleTiling::Nothing => host_words::accept(answer, 0, 0, 0, 0),
-        SingleTiling::Refused(refusal) => host_words::refuse(answer, refusal),
+    match single_tiling::get_single_tiling(board, tiles, out) {
+        Ok(found) => host_words::accept(answer, &[found.unwrap_or(0) as u64]),
+        Err(refusal) => host_words::refuse(answer, refusal),
     }
 }
 
@@ -45,9 +41,8 @@ pub fn tiling(
         out.old answer.old out.new answer.new result }
 {
     let number = PathCount::of_words(m[0], m[1]);
-    let list = numbered_tilings::tiling_by_number(graph, nodes, counts, edges, number, out);
-    match list {
-        Tiling::Length(n) => host_words::accept(answer, n as u64, 0, 0, 0),
-        Tiling::Refused(refusal) => host_words::refuse(answer, refusal),
+    match numbered_tilings::tiling_by_number(graph, nodes, counts, edges, number, out) {
+        Ok(n) => host_words::accept(answer, &[n as u64]),
+        Err(refusal) => host_words::refuse(answer, refusal),
     }
 }

@@ -9,7 +9,6 @@ ghost use Rattle.host_words.specs.Layout.{AnswersList};
 ghost use Rattle.cells.specs.Lists.{padded};
 
 use cells::list;
-use refusal::Verdict;
 
 mod calls;
 mod shapes;
@@ -26,15 +25,14 @@ pub fn single_tiling(
     ensures { AnswersSingle (searched width height marks.now tiles.now (length out.old) (length answer.old))
         out.old answer.old out.new answer.new result }
 {
-    let verdict = host_words::of_plot(1, marks.len(), tiles.len(), answer.len());
-    match verdict {
-        Verdict::Accepted => calls::single_tiling(
+    match host_words::of_plot(1, marks.len(), tiles.len(), answer.len()) {
+        Ok(()) => calls::single_tiling(
             host_words::board_from(width, height, marks),
             host_tiles::tiles_from(tiles),
             out,
             answer,
         ),
-        Verdict::Refused(refusal) => {
+        Err(refusal) => {
             list::clear_from(out, 0);
             host_words::refuse(answer, refusal)
         }
@@ -55,9 +53,8 @@ pub fn tiling(
     ensures { AnswersList padded (numbered (length nodes.now) counts.now edges.now graph.now m.now
         (length out.old) (length answer.old)) out.old answer.old out.new answer.new result }
 {
-    let verdict = shapes::of_tiling(graph, m.len(), answer.len());
-    match verdict {
-        Verdict::Accepted => calls::tiling(
+    match shapes::of_tiling(graph, m.len(), answer.len()) {
+        Ok(()) => calls::tiling(
             host_words::graph_from(graph),
             nodes,
             counts,
@@ -66,7 +63,7 @@ pub fn tiling(
             out,
             answer,
         ),
-        Verdict::Refused(refusal) => {
+        Err(refusal) => {
             list::clear_from(out, 0);
             host_words::refuse(answer, refusal)
         }

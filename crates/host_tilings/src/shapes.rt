@@ -4,23 +4,24 @@ ghost use Rattle.std.specs.Prelude.{◌≡◌};
 ghost use Rattle.refusal.specs.Refusal.{verdict_number};
 ghost use Rattle.host_tilings.specs.Calls.{tiling_shape};
 
-use refusal::{Refusal, Verdict};
+use refusal::Refusal;
 
 // Of a result and a number.
-pub fn of_tiling(graph: &[u64], m: usize, answer: usize) -> Verdict
+#[tactic(auto, unfolding(crate::specs::Calls::tiling_shape))]
+pub fn of_tiling(graph: &[u64], m: usize, answer: usize) -> Result<(), Refusal>
     ensures { verdict_number result ≡ tiling_shape graph.now m answer }
 {
     if graph.len() != 4 {
-        return Verdict::Refused(Refusal::BadGraph);
+        return Err(Refusal::BadGraph);
     }
     if 1 < graph[2] {
-        return Verdict::Refused(Refusal::BadGraph);
+        return Err(Refusal::BadGraph);
     }
     if m != 2 {
-        return Verdict::Refused(Refusal::NoSuchTiling);
+        return Err(Refusal::NoSuchTiling);
     }
     if answer < 1 {
-        return Verdict::Refused(Refusal::NoRoom);
+        return Err(Refusal::NoRoom);
     }
-    Verdict::Accepted
+    Ok(())
 }

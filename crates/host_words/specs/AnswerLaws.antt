@@ -1,14 +1,11 @@
--- Laws of answers in words: answers of fewer words than four; what is told of a value and of a refusal; and an answer where the shapes are right, or not.
+-- Laws of answers in words: what is told of a value and of a refusal; and an answer where the shapes are right, or not.
 -- Rests on `Layout`, refusal's `RefusalLaws` and graph's `GraphLaws`. Assumes nothing.
-use Rattle.std.specs.Prelude.{◌≡◌, refl, List, [], ◌∷◌, ℕ, length}
-use Rattle.std.proofs.Math.Path.{sym, ap, subst}
-use Rattle.std.proofs.Common.{◌∙◌, arith, eq-eqb, ne_eqb}
-use Rattle.cells.specs.ArrayLaws.{padded_zero}
+use Rattle.std.specs.Prelude.{◌≡◌, refl, Result, Ok, Err, ⊤, List, [], ◌∷◌, ℕ, length, replicate}
+use Rattle.std.proofs.Common.{sym, ap, subst, ◌∙◌, arith, eq-eqb, ne_eqb}
+use Rattle.cells.specs.ArrayLaws.{padded_empty, padded_zero}
 use Rattle.cells.specs.Parts.{cleared_from}
 use Rattle.cells.specs.Lists.{padded}
 use Rattle.refusal.specs.declared.Refusal.{Refusal}
-use Rattle.refusal.specs.declared.Verdict.{Verdict}
-use Rattle.refusal.specs.declared.Verdict.TheVariants as Verdicts
 use Rattle.refusal.specs.Refusal.{Answer, refused, given, map_answer, refusal_number, refusal_of, value_or, verdict_number}
 use Rattle.refusal.specs.RefusalLaws.{refusal_number_pos, map_given}
 use Rattle.graph.proofs.GraphLaws.{cleared_numbers}
@@ -35,9 +32,9 @@ pub tells_given : (ns old new : List ℕ) → new ≡ padded ns (length old) →
 unfolding refusal_of value_or
 tells_given ns old new e = record { number = refl; words = e }
 
-pub tells_refused : (q : Refusal) (old new : List ℕ) (r : ℕ) → new ≡ padded (0 ∷ 0 ∷ 0 ∷ 0 ∷ []) (length old) → r ≡ refusal_number q → AnswersWords (refused (refusal_number q)) old new r
+pub tells_refused : (q : Refusal) (old new : List ℕ) (r : ℕ) → new ≡ replicate (length old) 0 → r ≡ refusal_number q → AnswersWords (refused (refusal_number q)) old new r
 unfolding refusal_of value_or
-tells_refused q old new r e n = record { number = n; words = e ∙ numbers_none (length old) }
+tells_refused q old new r e n = record { number = n; words = e ∙ sym (padded_empty (length old)) }
 
 module _ {A : Type 0} (old new : List ℕ) (r : ℕ) where
   -- the words of a value
@@ -47,11 +44,11 @@ module _ {A : Type 0} (old new : List ℕ) (r : ℕ) where
       subst (λ (y : Answer A). AnswersWords (map_answer f y) old new r) (sym e) (record { number = t.number; words = t.words ∙ w })
 
   -- a number that was made of the value
-  pub tells_one : (f : A → ℕ) (a : Answer A) (n : ℕ) → given n ≡ map_answer f a → AnswersWords (given (n ∷ 0 ∷ 0 ∷ 0 ∷ [])) old new r → AnswersWords (map_answer (λ x. f x ∷ []) a) old new r
+  pub tells_one : (f : A → ℕ) (a : Answer A) (n : ℕ) → given n ≡ map_answer f a → AnswersWords (given (n ∷ [])) old new r → AnswersWords (map_answer (λ x. f x ∷ []) a) old new r
   tells_one f a n e t =
       let m = map_given f a n (sym e) in
-      tells_value (λ x. f x ∷ []) a m.0 (n ∷ 0 ∷ 0 ∷ 0 ∷ []) m.1
-      (numbers_one n (length old) ∙ ap (λ (k : ℕ). padded (k ∷ []) (length old)) (sym m.2)) t
+      tells_value (λ x. f x ∷ []) a m.0 (n ∷ []) m.1
+      (ap (λ (k : ℕ). padded (k ∷ []) (length old)) (sym m.2)) t
 
   pub tells_no : (f : A → List ℕ) (a : Answer A) (q : Refusal) → a ≡ refused (refusal_number q) → AnswersWords (refused (refusal_number q)) old new r → AnswersWords (map_answer f a) old new r
   unfolding map_answer refusal_of value_or
@@ -72,11 +69,11 @@ pub unless_right : {A : Type 0} (n : ℕ) (a : Answer A) → n ≡ 0 → unless 
 unfolding unless
 unless_right n a e = rw (eq-eqb n 0 e)
 
-module _ {A : Type 0} (n : ℕ) (a : Answer A) (v : Verdict) (told : verdict_number v ≡ n) where
-  pub unless_accepted : v ≡ Verdicts.Accepted → unless n a ≡ a
+module _ {A : Type 0} (n : ℕ) (a : Answer A) (v : Result ⊤ Refusal) (told : verdict_number v ≡ n) where
+  pub unless_accepted : v ≡ Ok tt → unless n a ≡ a
   unless_accepted e = unless_right n a (sym told ∙ ap verdict_number e)
 
-  pub unless_refused : (q : Refusal) → v ≡ Verdicts.Refused q → unless n a ≡ refused (refusal_number q)
+  pub unless_refused : (q : Refusal) → v ≡ Err q → unless n a ≡ refused (refusal_number q)
   unfolding unless
   unless_refused q e =
       let f : n ≡ refusal_number q = sym told ∙ ap verdict_number e in

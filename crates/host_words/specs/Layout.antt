@@ -1,15 +1,12 @@
 -- Definitions: what the words that a host hands in stand for, and what is written into those that it lends; which slices of a board and tiles have a wrong
 -- shape; and what a call over words returns and leaves in its answer words. Assumes nothing.
-use Rattle.std.specs.Prelude.{cond, List, [], ◌∷◌, ◌++◌, ℕ, ◌+◌, ◌%◌, eqb, leb, get_or, length, ◌≡◌}
-use Rattle.std.proofs.Math.Option.{Option, none, some}
+use Rattle.std.specs.Prelude.{cond, List, [], ◌∷◌, ◌++◌, ℕ, ◌+◌, ◌%◌, eqb, leb, get_or, length, ◌≡◌, Option, None, Some}
 use Rattle.cells.specs.declared.Cells.{Cells}
 use Rattle.cells.specs.Set.{words_of}
 use Rattle.board.specs.declared.RectangularBoard.{RectangularBoard}
 use Rattle.board.specs.Board.{of_marks}
 use Rattle.rectangle.specs.Board.{Board}
 use Rattle.covers.specs.Counts.{at_node}
-use Rattle.graph.specs.declared.Complete.{Complete}
-use Rattle.graph.specs.declared.Complete.TheVariants as N
 use Rattle.graph.specs.declared.GraphResult.{GraphResult}
 use Rattle.refusal.specs.Refusal.{Answer, refused, refusal_of, value_or, map_answer}
 use Rattle.cells.specs.Lists.{padded}
@@ -32,8 +29,8 @@ board_words b = b.width ∷ b.height ∷ words_of b.fixed ++ words_of b.laid
 -- ---- the result of a graph: nodes, edges, 1 if there is a full node else 0, full node
 
 -- the full node of the third word, a flag, and the fourth
-unfoldable pub complete_in : ℕ → ℕ → Complete
-complete_in flag node = cond (eqb flag 0) N.Nothing (N.Node node)
+unfoldable pub complete_in : ℕ → ℕ → Option ℕ
+complete_in flag node = cond (eqb flag 0) None (Some node)
 
 -- the result of four words
 unfoldable pub result_in : List ℕ → GraphResult
@@ -42,8 +39,8 @@ result_in words = record { nodes = get_or words 0 0; edges = get_or words 1 0; c
 
 -- 1 if there is a full node, else 0
 unfoldable pub has_node : Option ℕ → ℕ
-has_node none = 0
-has_node (some v) = 1
+has_node None = 0
+has_node (Some v) = 1
 
 -- the same words of so many nodes and edges and a full node, or none
 unfoldable pub result_words : ℕ → ℕ → Option ℕ → List ℕ

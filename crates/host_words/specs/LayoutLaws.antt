@@ -1,7 +1,8 @@
 -- Laws of boards' words and of the shapes of a board and tiles, cause by cause. Rests on `Layout` and cells' `WordLaws` and `ArrayLaws`. Assumes nothing.
 use Rattle.std.specs.Prelude.{◌≡◌, refl, List, [], ◌∷◌, ◌++◌, ℕ, zero, suc, ◌%◌, ◌≤◌, ◌<◌, get_or}
 use Rattle.std.proofs.Common.{sym, ap₂}
-use borrow.Author.Tests.{eq-eqb, ne_eqb, le-leb, lt-leb}
+use Rattle.std.proofs.Common.{eq-eqb, ne_eqb, le-leb}
+use Rattle.std.proofs.lemmas.Bool.{lt-leb}
 use Rattle.cells.specs.Set.{Sound}
 use Rattle.cells.specs.WordLaws.{words_of_number}
 use Rattle.cells.specs.ArrayLaws.{list_of_ext}
@@ -10,9 +11,13 @@ use Rattle.board.specs.Board.{board_of}
 use Rattle.rectangle.specs.Board.{no_board}
 use Rattle.cells.specs.Lists.{padded}
 use Rattle.host_words.specs.Layout.{board_words, plot_shape}
-use Rattle.host_words.specs.Inner.{struct_words}
 
 -- ---- a board's words
+
+-- the words of the board of a struct
+abbrev pub struct_words : RectangularBoard → List ℕ
+struct_words b =
+    b.width ∷ b.height ∷ b.fixed.w0 ∷ b.fixed.w1 ∷ b.fixed.w2 ∷ b.fixed.w3 ∷ b.laid.w0 ∷ b.laid.w1 ∷ b.laid.w2 ∷ b.laid.w3 ∷ []
 
 pub board_words_lem : (b : RectangularBoard) → Sound b.fixed → Sound b.laid → struct_words b ≡ board_words (board_of b)
 unfolding board_words

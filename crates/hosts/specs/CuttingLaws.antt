@@ -1,7 +1,8 @@
 -- Demand 3 from the words that exported calls leave: with the count's two words and the graph's words and four answer words, the calls below are those of
 -- layers' `CountLaws` and tiler's `CuttingTheorems`, and a numbered call that a host makes gives the list of 01's walk. Rests on `HandedOnLaws` and on those.
 -- Assumes nothing.
-use Rattle.std.specs.Prelude.{◌≡◌, refl, Bool, false, List, [], ◌∷◌, ℕ, ◌+◌, ◌≤◌, ◌<◌, get_or, take}
+use Rattle.std.specs.Prelude.{Ok, Result, ◌≡◌, refl, Bool, false, List, [], ◌∷◌, ℕ, ◌+◌, ◌≤◌, ◌<◌, get_or, take}
+use Rattle.refusal.specs.declared.Refusal.{Refusal}
 use Rattle.std.proofs.Math.Path.{sym, ap}
 use Rattle.std.proofs.Common.{◌∙◌, subst, lt_trans}
 use Rattle.std.proofs.Math.ListN.{length}
@@ -14,13 +15,11 @@ use Rattle.board.specs.declared.RectangularBoard.{RectangularBoard}
 use Rattle.board.specs.Board.{board_of}
 use Rattle.rectangle.specs.Board.{free_count}
 use Rattle.covers.specs.Counts.{Numbering, Exactly}
-use Rattle.numbered_tilings.specs.declared.Tiling.{Tiling}
-use Rattle.numbered_tilings.specs.declared.Tiling.TheVariants as T
 use Rattle.cells.specs.Lists.{padded}
-use Rattle.graph.specs.Graph.{layer_room, complete_node, count_from_graph, marked_pieces_in}
+use Rattle.graph.specs.Graph.{layer_room, count_from_graph, marked_pieces_in}
 use Rattle.numbered_tilings.specs.Tilings.{bad_graph, node_list_in, tiling_by_number, GivesTiling}
 use Rattle.numbered_tilings.proofs.TilingLaws.{tiling_given, list_read}
-use Rattle.tiler.specs.declared.MadeGraph.{MadeGraph}
+use Rattle.graph.specs.declared.GraphResult.{GraphResult}
 use Rattle.path_count.specs.PathCounts.{count_limit}
 use Rattle.layers.specs.LayerCounts.{count_tilings}
 use Rattle.tiler.specs.Graphs.{GeneratesGraph}
@@ -35,7 +34,7 @@ use Rattle.host_counts.specs.Calls.{counted, AnswersCount, generated, AnswersGra
 use Rattle.host_tilings.specs.Calls.{tiling_shape, numbered}
 use Rattle.host_words.specs.AnswerLaws.{unless_right}
 use Rattle.hosts.specs.ReadBackLaws.{number_at, two_words, two_small, value_two, count_back}
-use Rattle.hosts.specs.HandedOnLaws.{words_given, count_given_lem, made_in, result_read, graph_below}
+use Rattle.hosts.specs.HandedOnLaws.{words_given, count_given_lem, result_read, graph_below}
 
 -- ---- a list that is given, as the numbered call of a host and of graph's `Tilings`
 
@@ -131,14 +130,15 @@ module _ (width height : ℕ) (marks tiles : List ℕ) (small : Small marks) (fr
   count_n : count_tilings b ts room ≡ given n
   count_n = told_n width height marks tiles small boardsA countsA boardsB countsB answer boardsA' countsA' boardsB' countsB' answer' count_told
 
-  abbrev made : MadeGraph
-  made = made_in graphAnswer'
+  -- the result in the four answer words
+  abbrev graph : GraphResult
+  graph = result_in (take 4 graphAnswer')
 
-  generates : GeneratesGraph b ts nodes counts edges nodes' counts' edges' made
+  generates : GeneratesGraph b ts nodes counts edges nodes' counts' edges' (Ok graph)
   generates = graph_below width height marks tiles nodes counts edges graphAnswer nodes' counts' edges' graphAnswer' graphTold
 
-  pub n_from_graph : count_from_graph (complete_node (result_in (take 4 graphAnswer')).complete) counts' ≡ n
-  n_from_graph = calls_agree b fixed laid ts room n count_n nodes counts edges nodes' counts' edges' made generates refl
+  pub n_from_graph : count_from_graph ((result_in (take 4 graphAnswer')).complete) counts' ≡ n
+  n_from_graph = calls_agree b fixed laid ts room n count_n nodes counts edges nodes' counts' edges' (Ok graph) generates graph refl
 
   -- ---- the numbered call
 
@@ -152,17 +152,16 @@ module _ (width height : ℕ) (marks tiles : List ℕ) (small : Small marks) (fr
   -- more words than there are free cells are enough
   pub call_long : (k : ℕ) → k < n → length (node_list_for k) ≤ free_count (board_of b) + 1
   call_long k below =
-      let g = result_read width height marks tiles nodes counts edges graphAnswer nodes' counts' edges' graphAnswer' graphTold in
-      words_length b fixed laid ts nodes counts edges nodes' counts' edges' made generates g.0 g.1 k (subst (λ (x : ℕ). k < x) (sym n_from_graph) below)
+      words_length b fixed laid ts nodes counts edges nodes' counts' edges' (Ok graph) generates graph refl k (subst (λ (x : ℕ). k < x) (sym n_from_graph) below)
 
   -- the graph is not refused by 11, and the pieces of its lists by number are the cuttings
   sound : bad_graph (result_in (take 4 graphAnswer')) (length nodes') counts' edges' ≡ false
-  sound = own_graph_is_sound b fixed laid ts nodes counts edges nodes' counts' edges' made generates refl
+  sound = own_graph_is_sound b fixed laid ts nodes counts edges nodes' counts' edges' (Ok graph) generates graph refl
 
   numbering : Numbering (IsCutting (board_of b) (paths_in ts)) n (λ k. marked_pieces_in nodes' (node_list_for k))
   numbering =
       subst (λ (x : ℕ). Numbering (IsCutting (board_of b) (paths_in ts)) x (λ k. marked_pieces_in nodes' (node_list_for k))) n_from_graph
-      ((Demand.graph_numbers_cuttings b fixed laid ts nodes counts edges nodes' counts' edges' made generates).cuttings refl free joined)
+      ((Demand.graph_numbers_cuttings b fixed laid ts nodes counts edges nodes' counts' edges' (Ok graph) generates).cuttings graph refl free joined)
 
   module _ (m : List ℕ) (two : length m ≡ 2) (below : value m < n) (out answerM out' answerM' : List ℕ) (r : ℕ)
       (long : length (node_list_for (value m)) ≤ length out) (one : 1 ≤ length answerM) (call : Call m out answerM out' answerM' r) where
@@ -176,8 +175,8 @@ module _ (width height : ℕ) (marks tiles : List ℕ) (small : Small marks) (fr
         ap (λ (k : ℕ). tiling_shape (take 4 graphAnswer') k (length answerM)) two
         ∙ (result_read width height marks tiles nodes counts edges graphAnswer nodes' counts' edges' graphAnswer' graphTold).5 (length answerM) one
 
-    abbrev tiling : Tiling
-    tiling = T.Length (length (node_list_for (value m)))
+    abbrev tiling : Result ℕ Refusal
+    tiling = Ok (length (node_list_for (value m)))
 
     numbered_call : GivesTiling (result_in (take 4 graphAnswer')) nodes' counts' edges' (value m) out out' tiling
     unfolding map_answer

@@ -1,8 +1,7 @@
 -- The definitions compute: slices of a wrong shape, cause by cause and in their order; small plots, an orbit and 01's example file, by their words and
 -- bytes. Demand 3's conditions can be met by a host's three calls. What stands in quotation marks is 01's. Rests on `Theorems`. Assumes nothing.
-use Rattle.std.specs.Prelude.{◌≡◌, refl, Bool, true, List, [], ◌∷◌, ◌++◌, map, ℕ, ◌+◌, ◌^◌, ◌<◌, length, replicate, take}
+use Rattle.std.specs.Prelude.{◌≡◌, refl, Bool, true, List, [], ◌∷◌, ◌++◌, map, ℕ, ◌+◌, ◌^◌, ◌<◌, length, replicate, take, None, Some}
 use Rattle.std.proofs.Common.{sym, ap, ◌∙◌, subst, lit≤, lit<}
-use Rattle.std.proofs.Math.Option.{none, some}
 use Rattle.refusal.specs.Refusal.{Answer, refused, given, map_answer, refusal_of, value_or}
 use Rattle.direction.specs.Direction.{step, rotate, reflect}
 use Rattle.tile.specs.Path.{cell_count}
@@ -117,7 +116,7 @@ two_by_two = record {
   nodes = 0 ∷ 3 ∷ 65537 ∷ 196611 ∷ [];
   counts = 1 ∷ 1 ∷ 1 ∷ 2 ∷ [];
   edges = (0, 1) ∷ (0, 2) ∷ (1, 3) ∷ (2, 3) ∷ [];
-  complete = some 3;
+  complete = Some 3;
 }
 
 its_graph : generated 2 2 no_marks dominoes 16 4 8 4 ≡ given two_by_two
@@ -141,16 +140,16 @@ graph_words : (words_for two_by_two.nodes 16 ≡ node_words) × (counts_for two_
 unfolding words_for counts_for edges_for
 graph_words = (refl, refl, refl)
 
-result_four_words : padded (result_words 4 4 (some 3)) 4 ≡ result
+result_four_words : padded (result_words 4 4 (Some 3)) 4 ≡ result
 unfolding result_words padded
 result_four_words = refl
 
 -- a 1 by 1 board, which no domino covers: one node, and no full node
-one_cell : generated 1 1 no_marks dominoes 4 1 0 4 ≡ given (record { nodes = 0 ∷ []; counts = 1 ∷ []; edges = []; complete = none })
+one_cell : generated 1 1 no_marks dominoes 4 1 0 4 ≡ given (record { nodes = 0 ∷ []; counts = 1 ∷ []; edges = []; complete = None })
 unfolding generated step list_of number
 one_cell = refl
 
-no_full_node : padded (result_words 1 0 none) 4 ≡ 1 ∷ 0 ∷ 0 ∷ 0 ∷ []
+no_full_node : padded (result_words 1 0 None) 4 ≡ 1 ∷ 0 ∷ 0 ∷ 0 ∷ []
 unfolding result_words padded
 no_full_node = refl
 

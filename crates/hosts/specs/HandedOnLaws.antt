@@ -1,15 +1,14 @@
 -- Laws of calls that returned 0: what the call below gave, that the shapes were right, and what stands in the words; and so what another call that is handed
 -- those words reads from them. Rests on `ReturnLaws` and `ReadBackLaws`. Assumes nothing.
-use Rattle.std.specs.Prelude.{◌≡◌, refl, ℕ, ◌*◌, ◌%◌, ◌^◌, ◌≤◌, ◌<◌, take, drop}
-use Rattle.std.proofs.Math.Path.{sym, ap}
+use Rattle.std.specs.Prelude.{◌≡◌, Ok, Option, refl, ℕ, ◌*◌, ◌%◌, ◌^◌, ◌≤◌, ◌<◌, take, drop}
+use Rattle.std.proofs.Math.Path.{sym, ap, ap₂}
 use Rattle.std.proofs.Common.{◌∙◌, subst, lit<, length-take, length-drop}
 use mathlib.Core.List.{List, [], ◌∷◌}
 use native.Mathlib.Omega.{arith}
 use Rattle.std.proofs.Math.ListN.{length, get_or}
 use Rattle.cells.specs.Set.{words_below}
 use Rattle.cells.specs.Lists.{words_for, padded}
-use Rattle.refusal.specs.declared.Verdict.TheVariants as Verdicts
-use Rattle.refusal.specs.Refusal.{Answer, given, map_answer, refusal_of, value_or}
+use Rattle.refusal.specs.Refusal.{Answer, given, map_answer, value_or}
 use Rattle.refusal.specs.RefusalLaws.{map_given}
 use Rattle.tile.specs.Path.{Path, read_tile}
 use Rattle.tiles.specs.Paths.{orbit, read_tiles}
@@ -18,11 +17,10 @@ use Rattle.tiles.specs.StoredLaws.{read_tiles_orbit}
 use Rattle.tiles.specs.OrbitLaws.{orbit_length_le}
 use Rattle.board.specs.Board.{read_board}
 use Rattle.path_count.specs.PathCounts.{counts_for}
-use Rattle.graph.specs.Graph.{edges_for, layer_room, complete_node}
+use Rattle.graph.specs.Graph.{edges_for, layer_room}
 use Rattle.cells.specs.ArrayLaws.{length_padded}
 use Rattle.layers.specs.LayerCounts.{count_tilings}
-use Rattle.tiler.specs.declared.MadeGraph.{MadeGraph}
-use Rattle.tiler.specs.Graphs.{Graph, no_graph, generate_graph, GeneratesGraph}
+use Rattle.tiler.specs.Graphs.{Graph, no_graph, generate_graph, GeneratesGraph, result_of_graph}
 use Rattle.plot_file.specs.PlotFile.{Plot, no_plot, plot_in}
 use Rattle.plot_file.proofs.Theorems.{accepted_plot, accepted_fixed}
 use Rattle.host_words.specs.Layout.{board_in, board_words, result_in, result_words, plot_shape, AnswersWords, AnswersList}
@@ -163,10 +161,6 @@ module _ (width height : ℕ) (marks tiles boardsA countsA boardsB countsB answe
 
 -- ---- `cuttings_generate_graph`
 
--- the answer words as a result that is not refused
-abbrev pub made_in : List ℕ → MadeGraph
-made_in answer' = record { verdict = Verdicts.Accepted; graph = result_in (take 4 answer') }
-
 abbrev result_of : Graph → List ℕ
 result_of g = result_words (length g.nodes) (length g.edges) g.complete
 
@@ -199,29 +193,32 @@ module _ (width height : ℕ) (marks tiles nodes counts edges answer nodes' coun
 
   -- the four words are read as the result, and have the shape that the tiling by number wants
   pub result_read : (g : Graph) × (below ≡ given g) × ((result_in (take 4 answer')).nodes ≡ length g.nodes) × ((result_in (take 4 answer')).edges ≡ length g.edges)
-      × (complete_node (result_in (take 4 answer')).complete ≡ g.complete) × ((words : ℕ) → 1 ≤ words → tiling_shape (take 4 answer') 2 words ≡ 0)
+      × ((result_in (take 4 answer')).complete ≡ g.complete) × ((words : ℕ) → 1 ≤ words → tiling_shape (take 4 answer') 2 words ≡ 0)
   result_read = (
     graph,
     graph_parts.1,
     ap (λ (ws : List ℕ). (result_in ws).nodes) words_left ∙ result_nodes (length graph.nodes) (length graph.edges) graph.complete,
     ap (λ (ws : List ℕ). (result_in ws).edges) words_left ∙ result_edges_lem (length graph.nodes) (length graph.edges) graph.complete,
-    ap (λ (ws : List ℕ). complete_node (result_in ws).complete) words_left ∙ result_complete (length graph.nodes) (length graph.edges) graph.complete,
+    ap (λ (ws : List ℕ). (result_in ws).complete) words_left ∙ result_complete (length graph.nodes) (length graph.edges) graph.complete,
     λ words h.
         ap (λ (ws : List ℕ). tiling_shape ws 2 words) words_left
         ∙ sym (tiling_right (result_of graph) 2 words (result_length (length graph.nodes) (length graph.edges) graph.complete)
         (result_flag (length graph.nodes) (length graph.edges) graph.complete) refl h),
   )
 
+  -- the four words are the result of the graph
+  result_is : result_in (take 4 answer') ≡ result_of_graph graph
+  unfolding result_read graph_told
+  result_is =
+      ap₂ (λ (n e : ℕ). record { nodes = n; edges = e; complete = (result_in (take 4 answer')).complete }) result_read.2 result_read.3
+      ∙ ap (λ (o : Option ℕ). record { nodes = length graph.nodes; edges = length graph.edges; complete = o }) result_read.4
+
   -- what `generate_graph` answers and leaves
-  pub graph_below : GeneratesGraph (board_in width height marks) (tiles_in tiles) nodes counts edges nodes' counts' edges' (made_in answer')
-  unfolding refusal_of value_or
+  pub graph_below : GeneratesGraph (board_in width height marks) (tiles_in tiles) nodes counts edges nodes' counts' edges' (Ok (result_in (take 4 answer')))
+  unfolding map_answer value_or
   graph_below =
-      let e = result_read.1 in
       record {
-        verdict = sym (ap refusal_of e);
-        node_number = result_read.2 ∙ sym (ap (λ (a : Answer Graph). length (value_or no_graph a).nodes) e);
-        edge_number = result_read.3 ∙ sym (ap (λ (a : Answer Graph). length (value_or no_graph a).edges) e);
-        complete = result_read.4 ∙ sym (ap (λ (a : Answer Graph). (value_or no_graph a).complete) e);
+        answer = ap given result_is ∙ sym (ap (map_answer result_of_graph) graph_parts.1);
         nodes = told.nodes_left ∙ ap (λ (a : Answer Graph). words_for (value_or no_graph a).nodes (length nodes)) same;
         counts = told.counts_left ∙ ap (λ (a : Answer Graph). counts_for (value_or no_graph a).counts (length counts)) same;
         edges = told.edges_left ∙ ap (λ (a : Answer Graph). edges_for (value_or no_graph a).edges (length edges)) same;

@@ -1,9 +1,8 @@
 -- Laws of what stands in lent words and bytes, read again by another call: a board's ten words, the bytes of tiles, the four words of a graph's result, and a
 -- count's two words. Rests on cells' `WordLaws` and `ArrayLaws`, tiles' `StoredLaws`, board's `BoardLaws` and graph's `GraphLaws`. Assumes nothing.
-use Rattle.std.specs.Prelude.{◌≡◌, Bool, true, false, cond, List, [], ℕ, zero, suc, ◌+◌, ◌-◌, ◌*◌, ◌/◌, ◌%◌, ◌^◌, ◌≤◌, ◌<◌, eqb, take, drop}
+use Rattle.std.specs.Prelude.{◌≡◌, Bool, true, false, cond, List, [], ℕ, zero, suc, ◌+◌, ◌-◌, ◌*◌, ◌/◌, ◌%◌, ◌^◌, ◌≤◌, ◌<◌, eqb, take, drop, Option, None, Some}
 use Rattle.std.proofs.Math.Path.{refl, sym}
 use Rattle.std.proofs.Common.{ap, ◌∙◌, subst, lt_of_lt_of_le, arith, lit<, lit≤, get_or-take, get_or-drop, length-take-le, ne_eqb}
-use Rattle.std.proofs.Math.Option.{Option, none, some}
 use Rattle.std.proofs.Math.Decide.{dec_lt}
 use Rattle.std.proofs.Math.ListN.{length, get_or, get_or-eq_default}
 use Rattle.cells.specs.Set.{value, words_below, words_of}
@@ -21,7 +20,6 @@ use Rattle.board.specs.BoardLaws.{struct_of, board_struct, read_board_given}
 use Rattle.covers.specs.Counts.{at_node}
 use Rattle.path_count.specs.PathCounts.{count_limit}
 use Rattle.graph.proofs.GraphLaws.{take_padded}
-use Rattle.graph.specs.Graph.{complete_node}
 use Rattle.host_words.specs.Layout.{board_in, board_words, complete_in, result_in, has_node, result_words}
 use Rattle.host_tiles.specs.TileBytes.{tiles_in, bytes_for}
 use Rattle.host_tiles.specs.TileByteLaws.{byte_of, bytes_for_at}
@@ -172,19 +170,19 @@ module _ (nodes edges : ℕ) (complete : Option ℕ) where
   pub result_length : length (result_words nodes edges complete) ≡ 4
   result_length = result_four
 
-full_back : (complete : Option ℕ) → complete_node (complete_in (has_node complete) (at_node (λ v. v) complete)) ≡ complete
+full_back : (complete : Option ℕ) → complete_in (has_node complete) (at_node (λ v. v) complete) ≡ complete
 unfolding complete_in has_node at_node
-full_back none = refl
-full_back (some v) = refl
+full_back None = refl
+full_back (Some v) = refl
 
-pub result_complete : (nodes edges : ℕ) (complete : Option ℕ) → complete_node (result_in (result_words nodes edges complete)).complete ≡ complete
+pub result_complete : (nodes edges : ℕ) (complete : Option ℕ) → (result_in (result_words nodes edges complete)).complete ≡ complete
 unfolding result_in result_words
 result_complete nodes edges complete = full_back complete
 
 flag_small : (complete : Option ℕ) → has_node complete ≤ 1
 unfolding has_node
-flag_small none = omega arith
-flag_small (some v) = omega arith
+flag_small None = omega arith
+flag_small (Some v) = omega arith
 
 pub result_flag : (nodes edges : ℕ) (complete : Option ℕ) → get_or (result_words nodes edges complete) 2 0 ≤ 1
 unfolding result_words

@@ -1,13 +1,13 @@
 -- Laws of the exported functions of the archive: what a call with a least number of answer words leaves, by what it answers; when the reading calls return 0 and what is
 -- left after a refusal; and that what one call writes the others read. Rests on `Calls` and `CallLaws` of `host_records`, and on
 -- `Theorems`, `OutcomeLaws` and `BrokenLaws` of `archive`. Assumes nothing.
-use Rattle.std.specs.Prelude.{◌≡◌, ◌↔◌, ◌⊎◌, ℕ, ◌+◌, ◌-◌, ◌≤◌, ◌<◌, take}
+use Rattle.std.specs.Prelude.{◌≡◌, ◌↔◌, ◌⊎◌, ℕ, ◌+◌, ◌-◌, ◌≤◌, ◌<◌, take, None}
 use Rattle.std.proofs.Math.Path.{refl, sym, ap}
 use Rattle.std.proofs.Common.{◌∙◌, subst, inl, inr, ⊎_elim, arith, length-append, take_at}
 use mathlib.Core.List.{List, [], ◌∷◌, ◌++◌}
-use Rattle.std.proofs.Math.Option.{none}
 use Rattle.std.proofs.Math.Decide.{dec_lt}
-use Rattle.std.proofs.Math.ListN.{length, get_or, get_elem?, replicate}
+use Rattle.std.proofs.Math.ListN.{length, get_or, replicate}
+use Rattle.std.specs.List.{slice_get}
 use Rattle.cells.specs.Lists.{padded}
 use Rattle.cells.specs.ArrayLaws.{padded_room, padded_empty}
 use Rattle.archive.specs.declared.Record.{Record}
@@ -132,7 +132,7 @@ module _ (file : List ℕ) (place : ℕ) (answer answer' : List ℕ) (n : ℕ) (
   pub record_at_returns : (n ≡ 0)
       ↔ ((5 ≤ length answer) × (r : Record) × (record_at file place ≡ answered r) × (answer' ≡ record_words r ++ replicate (length answer - 5) 0))
   unfolding record_found record_at
-  record_at_returns = value_returns file (record_at file place) (picked_kind file (λ rs. get_elem? rs place)) record_words 5 (omega arith) (λ r. refl) answer answer' n left
+  record_at_returns = value_returns file (record_at file place) (picked_kind file (λ rs. slice_get rs place)) record_words 5 (omega arith) (λ r. refl) answer answer' n left
 
   -- and what is left after a refusal
   pub record_at_refused : 0 < n
@@ -140,7 +140,7 @@ module _ (file : List ℕ) (place : ℕ) (answer answer' : List ℕ) (n : ℕ) (
       ⊎ (((n ≡ 13) × (5 ≤ length answer) × (broken : ℕ) × (records_of file ≡ refused_at 13 broken) × (answer' ≡ broken ∷ replicate (length answer - 1) 0))
       ⊎ ((n ≡ 14) × (5 ≤ length answer) × (record_at file place ≡ refused_by 14) × (answer' ≡ replicate (length answer) 0)))
   unfolding record_found record_at
-  record_at_refused = value_refused file (record_at file place) (picked_kind file (λ rs. get_elem? rs place)) record_words 5 (omega arith) (λ r. refl) answer answer' n left
+  record_at_refused = value_refused file (record_at file place) (picked_kind file (λ rs. slice_get rs place)) record_words 5 (omega arith) (λ r. refl) answer answer' n left
 
 module _ (file : List ℕ) (id : ℕ) (answer answer' : List ℕ) (n : ℕ) (left : LeavesOutcome (current_found file id (length answer)) answer answer' n) where
   -- `cuttings_current_record` of a record, with five answer words,
@@ -152,7 +152,7 @@ module _ (file : List ℕ) (id : ℕ) (answer answer' : List ℕ) (n : ℕ) (lef
   pub current_record_returns : (n ≡ 0)
       ↔ ((5 ≤ length answer) × (r : Record) × (current_record file id ≡ answered r) × (answer' ≡ record_words r ++ replicate (length answer - 5) 0))
   unfolding current_found current_record
-  current_record_returns = value_returns file (current_record file id) (picked_kind file (current_among id none)) record_words 5 (omega arith) (λ r. refl) answer answer' n left
+  current_record_returns = value_returns file (current_record file id) (picked_kind file (current_among id None)) record_words 5 (omega arith) (λ r. refl) answer answer' n left
 
   -- and what is left after a refusal
   pub current_record_refused : 0 < n
@@ -160,7 +160,7 @@ module _ (file : List ℕ) (id : ℕ) (answer answer' : List ℕ) (n : ℕ) (lef
       ⊎ (((n ≡ 13) × (5 ≤ length answer) × (broken : ℕ) × (records_of file ≡ refused_at 13 broken) × (answer' ≡ broken ∷ replicate (length answer - 1) 0))
       ⊎ ((n ≡ 14) × (5 ≤ length answer) × (current_record file id ≡ refused_by 14) × (answer' ≡ replicate (length answer) 0)))
   unfolding current_found current_record
-  current_record_refused = value_refused file (current_record file id) (picked_kind file (current_among id none)) record_words 5 (omega arith) (λ r. refl) answer answer' n left
+  current_record_refused = value_refused file (current_record file id) (picked_kind file (current_among id None)) record_words 5 (omega arith) (λ r. refl) answer answer' n left
 
 -- ---- what one call writes the others read
 

@@ -21,7 +21,7 @@ use Rattle.rectangle.specs.Board.{Board, marks as marksOf, accept_board, free_co
 use Rattle.children.specs.Children.{children, children_of, place_tile, children_at, free_count_at}
 use Rattle.covers.specs.Counts.{Entry, counts, layer}
 use Rattle.graph.specs.declared.GraphResult.{GraphResult}
-use Rattle.graph.specs.Graph.{node_room, edge_room, complete_node, count_from_graph}
+use Rattle.graph.specs.Graph.{node_room, edge_room, count_from_graph}
 use Rattle.numbered_tilings.specs.Tilings.{bad_graph, node_list_in, tiling_by_number}
 use Rattle.tiler.specs.Graphs.{Graph, graph_of, judge_graph, generate_graph}
 use Rattle.layers.specs.LayerCounts.{too_large, judge_layer, judge_layers, count_tilings, layer_count_for}
@@ -119,7 +119,7 @@ pub tiling_refuses : (r : GraphResult) (node_words : ℕ) (counts edges : List �
 unfolding tiling_by_number
 tiling_refuses r node_words counts edges m room =
     refuses_cond Positive (bad_graph r node_words counts edges) _ _ (one 11 (lit< tt))
-    (refuses_cond Positive (ltb m (count_from_graph (complete_node r.complete) counts)) _ _
+    (refuses_cond Positive (ltb m (count_from_graph r.complete counts)) _ _
     (test (leb (length (node_list_in r counts edges m)) room) (node_list_in r counts edges m) 8 (lit< tt)) (one 12 (lit< tt)))
 
 pub orbit_refuses : (t : Tile) → Refuses Positive (map_answer orbit (read_tile t))

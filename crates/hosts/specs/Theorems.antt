@@ -16,7 +16,7 @@ use Rattle.board.specs.Board.{board_of, read_board}
 use Rattle.children.specs.Children.{place_tile}
 use Rattle.covers.specs.Counts.{Exactly}
 use Rattle.path_count.specs.PathCounts.{counts_for}
-use Rattle.graph.specs.Graph.{edges_for, layer_room, complete_node, count_from_graph, marked_pieces_in}
+use Rattle.graph.specs.Graph.{edges_for, layer_room, count_from_graph, marked_pieces_in}
 use Rattle.numbered_tilings.specs.Tilings.{node_list_in, tiling_by_number}
 use Rattle.tiler.specs.Graphs.{Graph, no_graph, generate_graph}
 use Rattle.layers.specs.LayerCounts.{count_tilings}
@@ -243,7 +243,7 @@ pub result_handed_on : (width height : ℕ) (marks tiles nodes counts edges answ
     → AnswersGraph (generated width height marks tiles (length nodes) (length counts) (length edges) (length answer)) nodes counts edges answer nodes' counts' edges' answer' 0
     → (g : Graph) × (generate_graph (board_in width height marks) (tiles_in tiles) (length nodes) (length counts) (length edges) ≡ given g)
     × ((result_in (take 4 answer')).nodes ≡ length g.nodes) × ((result_in (take 4 answer')).edges ≡ length g.edges)
-    × (complete_node (result_in (take 4 answer')).complete ≡ g.complete) × ((words : ℕ) → 1 ≤ words → tiling_shape (take 4 answer') 2 words ≡ 0)
+    × ((result_in (take 4 answer')).complete ≡ g.complete) × ((words : ℕ) → 1 ≤ words → tiling_shape (take 4 answer') 2 words ≡ 0)
 result_handed_on = HandedOn.result_read
 
 -- ---- 4. Demand 3 for a host, over the words that the calls leave
@@ -299,7 +299,7 @@ module _ (width height : ℕ) (marks tiles : List ℕ) (small : Small marks) (fr
       count_is_number_of_cuttings width height marks tiles small boardsA countsA boardsB countsB answer boardsA' countsA' boardsB' countsB' answer' count_told_lem free joined
 
   -- and so is the count of the graph's words, the count word of its full node.
-  pub both_counts : count_from_graph (complete_node (result_in (take 4 result')).complete) counts' ≡ count_told answer'
+  pub both_counts : count_from_graph (result_in (take 4 result')).complete counts' ≡ count_told answer'
   both_counts =
       Cutting.n_from_graph width height marks tiles small free joined boardsA countsA boardsB countsB answer boardsA' countsA' boardsB' countsB' answer' count_told_lem
       nodes counts edges result nodes' counts' edges' result' graph_told

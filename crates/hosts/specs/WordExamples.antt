@@ -1,8 +1,7 @@
 -- Examples: what the words and bytes of a host stand for, each at its place, and what is left in lent ones that held 7. Assumes nothing.
-use Rattle.std.specs.Prelude.{◌≡◌, refl, List, [], ◌∷◌, ◌++◌, map, ℕ, ◌+◌, ◌*◌, ◌^◌, length, get_or, replicate, take}
+use Rattle.std.specs.Prelude.{◌≡◌, refl, List, [], ◌∷◌, ◌++◌, map, ℕ, ◌+◌, ◌*◌, ◌^◌, length, get_or, replicate, take, None, Some}
 use Rattle.std.proofs.Common.{subst, lit<}
 use mathlib.Core.List.Memᴰ.{head as here}
-use Rattle.std.proofs.Math.Option.{none, some}
 use Rattle.cells.specs.declared.Cells.{Cells}
 use Rattle.cells.specs.Set.{words_below, number}
 use Rattle.cells.specs.Lists.{list_of, padded, words_for}
@@ -15,7 +14,6 @@ use Rattle.direction.specs.Direction.{step}
 use Rattle.children.specs.Children.{children}
 use Rattle.covers.specs.Counts.{at_node}
 use Rattle.single_tiling.specs.SingleTiling.{IsTiling, number_found, boards_found}
-use Rattle.graph.specs.declared.Complete.TheVariants as N
 use Rattle.graph.specs.Graph.{edges_for}
 use Rattle.path_count.specs.PathCounts.{counts_for}
 use Rattle.host_words.specs.Layout.{board_in, board_words, result_in, result_words, plot_shape, unless, AnswersList}
@@ -44,13 +42,13 @@ board_out = refl
 
 -- nodes, edges, 1 if there is a full node, full node; words that are not there are 0
 result_in_lem : result_in (5 ∷ 6 ∷ 1 ∷ 3 ∷ []) ∷ result_in (5 ∷ 6 ∷ 0 ∷ 3 ∷ []) ∷ result_in (5 ∷ 6 ∷ 1 ∷ []) ∷ result_in [] ∷ []
-    ≡ record { nodes = 5; edges = 6; complete = N.Node 3 } ∷ record { nodes = 5; edges = 6; complete = N.Nothing } ∷ record { nodes = 5; edges = 6; complete = N.Node 0 }
-    ∷ record { nodes = 0; edges = 0; complete = N.Nothing } ∷ []
+    ≡ record { nodes = 5; edges = 6; complete = Some 3 } ∷ record { nodes = 5; edges = 6; complete = None } ∷ record { nodes = 5; edges = 6; complete = Some 0 }
+    ∷ record { nodes = 0; edges = 0; complete = None } ∷ []
 unfolding result_in
 result_in_lem = refl
 
 -- the same words, with zeros for no full node
-result_out : (result_words 5 6 (some 3) ≡ 5 ∷ 6 ∷ 1 ∷ 3 ∷ []) × (result_words 5 6 none ≡ 5 ∷ 6 ∷ 0 ∷ 0 ∷ [])
+result_out : (result_words 5 6 (Some 3) ≡ 5 ∷ 6 ∷ 1 ∷ 3 ∷ []) × (result_words 5 6 None ≡ 5 ∷ 6 ∷ 0 ∷ 0 ∷ [])
 unfolding result_words
 result_out = (refl, refl)
 
@@ -138,7 +136,7 @@ right_bytes = 1 ∷ 3 ∷ replicate 31 0
 
 -- 4 words hold its child, one board a layer is enough to count it, 12 words hold the boards of one tiling and 11 do not
 wide_board : (placed 2 1 (replicate 8 0) right_bytes 4 1 ≡ given (3 ∷ [])) × (counted 2 1 (replicate 8 0) right_bytes 1 2 ≡ given 1)
-    × (generated 2 1 (replicate 8 0) right_bytes 8 2 2 4 ≡ given (record { nodes = 0 ∷ 3 ∷ []; counts = 1 ∷ 1 ∷ []; edges = (0, 1) ∷ []; complete = some 1 }))
+    × (generated 2 1 (replicate 8 0) right_bytes 8 2 2 4 ≡ given (record { nodes = 0 ∷ 3 ∷ []; counts = 1 ∷ 1 ∷ []; edges = (0, 1) ∷ []; complete = Some 1 }))
     × (searched 2 1 (replicate 8 0) right_bytes 12 1 ≡ given (two_by_one, right)) × (searched 2 1 (replicate 8 0) right_bytes 11 1 ≡ refused 8)
 unfolding placed counted generated searched step list_of number
 wide_board = (refl, refl, refl, refl, refl)
@@ -161,7 +159,7 @@ unfolding map_answer refusal_of value_or words_below padded
 count_left = record { answered = record { number = refl; words = refl }; zero_boards_a = refl; zero_counts_a = refl; zero_boards_b = refl; zero_counts_b = refl }
 
 -- a graph of three nodes, two counts and one edge: each in its own words, and the words of the result
-graph_left : AnswersGraph (given (record { nodes = 0 ∷ 1 ∷ 3 ∷ []; counts = 1 ∷ 7 ∷ []; edges = (0, 1) ∷ []; complete = some 1 })) (lent 13) (lent 4) (lent 3) (lent 5)
+graph_left : AnswersGraph (given (record { nodes = 0 ∷ 1 ∷ 3 ∷ []; counts = 1 ∷ 7 ∷ []; edges = (0, 1) ∷ []; complete = Some 1 })) (lent 13) (lent 4) (lent 3) (lent 5)
     (0 ∷ 0 ∷ 0 ∷ 0 ∷ 1 ∷ 0 ∷ 0 ∷ 0 ∷ 3 ∷ 0 ∷ 0 ∷ 0 ∷ 0 ∷ []) (1 ∷ 7 ∷ 0 ∷ 0 ∷ []) (0 ∷ 1 ∷ 0 ∷ []) (3 ∷ 1 ∷ 1 ∷ 1 ∷ 0 ∷ []) 0
 unfolding map_answer refusal_of value_or words_for counts_for edges_for result_words padded
 graph_left = record { answered = record { number = refl; words = refl }; nodes_left = refl; counts_left = refl; edges_left = refl }
@@ -191,7 +189,7 @@ two_tiling = record { last = 3; sequence = (refl, (here refl, refl)); full = ref
 single_left : AnswersSingle (given (two_by_one, right)) (lent 9) (lent 2) (0 ∷ 0 ∷ 0 ∷ 0 ∷ 3 ∷ 0 ∷ 0 ∷ 0 ∷ 0 ∷ []) (2 ∷ 0 ∷ []) 0
 unfolding map_answer refusal_of value_or number_found boards_found at_node words_for padded
 single_left = record {
-  found = some (0 ∷ 3 ∷ []);
+  found = Some (0 ∷ 3 ∷ []);
   tiling = λ p e. subst (λ (q : Board × List Path). IsTiling q.0 q.1 (0 ∷ 3 ∷ [])) (given_inj (two_by_one, right) p e) two_tiling;
   answered = record { number = refl; words = refl };
   out_left = refl;
@@ -200,4 +198,4 @@ single_left = record {
 -- zeros after a refusal
 single_refused : AnswersSingle (refused 8) (lent 3) (lent 2) (0 ∷ 0 ∷ 0 ∷ []) (0 ∷ 0 ∷ []) 8
 unfolding map_answer refusal_of value_or words_for padded
-single_refused = record { found = none; tiling = λ p e. absurd (refused_given 8 p e); answered = record { number = refl; words = refl }; out_left = refl }
+single_refused = record { found = None; tiling = λ p e. absurd (refused_given 8 p e); answered = record { number = refl; words = refl }; out_left = refl }

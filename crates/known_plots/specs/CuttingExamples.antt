@@ -1,7 +1,8 @@
 -- Examples: demand 3's conditions can be met, by 2 by 2 with dominoes, where its theorems are applied to what the three calls answer; and neither the
 -- condition on the board nor that on the tiles can be dropped. What stands in quotation marks is 01's or demand 3's. Rests on `Examples`, `KnownPlots`
 -- and tiler's `CuttingTheorems`. Assumes nothing.
-use Rattle.std.specs.Prelude.{◌≡◌, refl, ◌⊎◌, Bool, true, false, ℕ, zero, suc, ◌+◌, ◌*◌, ◌^◌, ◌≤◌, ◌<◌, eqb, length, replicate, take}
+use Rattle.std.specs.Prelude.{Ok, Result, Some, ◌≡◌, refl, ◌⊎◌, Bool, true, false, ℕ, zero, suc, ◌+◌, ◌*◌, ◌^◌, ◌≤◌, ◌<◌, eqb, length, replicate, take}
+use Rattle.refusal.specs.declared.Refusal.{Refusal}
 use Rattle.std.proofs.Common.{sym, ap, ◌∙◌, subst, inl, inr, arith, lit≤, lit<}
 use Rattle.std.proofs.Math.Bool.{So}
 use mathlib.Core.List.{List, [], ◌∷◌, map, Memᴰ as Mem}
@@ -9,8 +10,7 @@ use Rattle.cells.specs.Set.{number, Sound}
 use Rattle.cells.specs.Lists.{holds, words_for, padded}
 use Rattle.cells.specs.FirstsLaws.{mem_get_d}
 use Rattle.tiles.specs.declared.Tiles.{Tiles}
-use Rattle.refusal.specs.declared.Verdict.TheVariants as Verdicts
-use Rattle.refusal.specs.Refusal.{Answer, given, map_answer, bind_answer, value_or, refusal_of}
+use Rattle.refusal.specs.Refusal.{Answer, given, map_answer, bind_answer, value_or, answer_of}
 use Rattle.direction.specs.Direction.{step}
 use Rattle.tile.specs.Path.{Path, cell_count}
 use Rattle.tile.specs.EdgeTest.{edge_joined, edge_joined_iff}
@@ -21,16 +21,12 @@ use Rattle.rectangle.specs.Board.{Board, is_free, is_full, valid}
 use Rattle.board.specs.Board.{board_of, of_marks, new_board}
 use Rattle.covers.specs.Counts.{Exactly}
 use Rattle.covers.proofs.Theorems.{number_unique}
-use Rattle.graph.specs.declared.Complete.TheVariants as N
-use Rattle.numbered_tilings.specs.declared.Tiling.{Tiling}
-use Rattle.numbered_tilings.specs.declared.Tiling.TheVariants as T
 use Rattle.graph.specs.Graph.{layer_room, node_room, edge_room, plot_boards, plot_nodes, plot_edges, edges_for, marked_pieces_in}
 use Rattle.path_count.specs.declared.PathCount.{PathCount}
 use Rattle.path_count.specs.PathCounts.{count_value, count_room, counts_for}
 use Rattle.path_count.specs.Inner.{count_span}
-use Rattle.numbered_tilings.specs.Tilings.{node_list_in, tiling_by_number, tiling_answer, GivesTiling}
-use Rattle.layers.specs.declared.Count.TheVariants as C
-use Rattle.tiler.specs.declared.MadeGraph.{MadeGraph}
+use Rattle.numbered_tilings.specs.Tilings.{node_list_in, tiling_by_number, GivesTiling}
+use Rattle.graph.specs.declared.GraphResult.{GraphResult}
 use Rattle.expansion.specs.Plots.{accept_plot, IsCutting, HasFreeCell, AllEdgeJoined}
 use Rattle.layers.specs.LayerCounts.{layer_count_for, count_tilings, count_answer, CountsTilings}
 use Rattle.tiler.specs.Graphs.{Graph, graph_for, generate_graph, Makes, GeneratesGraph, count_of_graph}
@@ -73,17 +69,17 @@ abbrev two : PathCount
 two = record { word = 2 }
 
 -- with layers of two boards the count is 2
-counted : CountsTilings (rectangle 2 2) (tiles_of dominoes) (lent 8) (lent 2) (lent 8) (lent 2) (lent 8) (lent 2) (lent 8) (lent 2) (C.Number two)
+counted : CountsTilings (rectangle 2 2) (tiles_of dominoes) (lent 8) (lent 2) (lent 8) (lent 2) (lent 8) (lent 2) (lent 8) (lent 2) (Ok two)
 unfolding layer_room count_room count_value
 counted = record { answer = sym two_by_two_counted; zero_boards_a = refl; zero_counts_a = refl; zero_boards_b = refl; zero_counts_b = refl }
 
-told : count_answer (C.Number two) ≡ given 2
+told : count_answer (Ok two) ≡ given 2
 unfolding count_value
 told = refl
 
 -- with words for four nodes and four edges there is the graph `two_by_two`
-abbrev made : MadeGraph
-made = record { verdict = Verdicts.Accepted; graph = record { nodes = 4; edges = 4; complete = N.Node 3 } }
+abbrev graph : GraphResult
+graph = record { nodes = 4; edges = 4; complete = Some 3 }
 
 abbrev node_words : List ℕ
 node_words = 0 ∷ 0 ∷ 0 ∷ 0 ∷ 3 ∷ 0 ∷ 0 ∷ 0 ∷ 65537 ∷ 0 ∷ 0 ∷ 0 ∷ 196611 ∷ 0 ∷ 0 ∷ 0 ∷ []
@@ -94,17 +90,17 @@ count_words = 1 ∷ 1 ∷ 1 ∷ 2 ∷ []
 abbrev edge_words : List ℕ
 edge_words = 0 ∷ 1 ∷ 0 ∷ 2 ∷ 1 ∷ 3 ∷ 2 ∷ 3 ∷ []
 
-generated : GeneratesGraph (rectangle 2 2) (tiles_of dominoes) (lent 16) (lent 4) (lent 8) node_words count_words edge_words made
-unfolding refusal_of value_or words_for counts_for edges_for
+generated : GeneratesGraph (rectangle 2 2) (tiles_of dominoes) (lent 16) (lent 4) (lent 8) node_words count_words edge_words (Ok graph)
+unfolding map_answer value_or words_for counts_for edges_for
 generated =
-    subst (λ (a : Answer Graph). Makes a 16 4 8 node_words count_words edge_words made) (sym two_by_two_given)
-    record { verdict = refl; node_number = refl; edge_number = refl; complete = refl; nodes = refl; counts = refl; edges = refl }
+    subst (λ (a : Answer Graph). Makes a 16 4 8 node_words count_words edge_words (Ok graph)) (sym two_by_two_given)
+    record { answer = refl; nodes = refl; counts = refl; edges = refl }
 
 -- ---- the numbered call
 
 -- it leaves a list in an output of three words
 abbrev Numbered : ℕ → List ℕ → Type 0
-Numbered m list = GivesTiling made.graph node_words count_words edge_words m (lent 3) list (T.Length 3)
+Numbered m list = GivesTiling graph node_words count_words edge_words m (lent 3) list (Ok 3)
 
 -- "tiling 0: 0 1 3"
 call_0 : Numbered 0 (0 ∷ 1 ∷ 3 ∷ [])
@@ -118,7 +114,7 @@ call_1 = record { answer = refl; words = refl }
 
 -- three words are enough
 abbrev Long : ℕ → Type 0
-Long m = length (node_list_in made.graph count_words edge_words m) ≤ 3
+Long m = length (node_list_in graph count_words edge_words m) ≤ 3
 
 long_0 : Long 0
 unfolding node_list_in
@@ -157,17 +153,17 @@ Cuts = IsCutting (board_of (rectangle 2 2)) (paths_in (tiles_of dominoes))
 two_cuttings : Exactly 2 Cuts
 two_cuttings =
     number_of_cuttings (rectangle 2 2) no_marks_lem no_marks_lem (tiles_of dominoes) has_free_cell stored_joined
-    (lent 8) (lent 2) (lent 8) (lent 2) (lent 8) (lent 2) (lent 8) (lent 2) (C.Number two) counted
-    (lent 16) (lent 4) (lent 8) node_words count_words edge_words made generated 2 told refl
+    (lent 8) (lent 2) (lent 8) (lent 2) (lent 8) (lent 2) (lent 8) (lent 2) (Ok two) counted
+    (lent 16) (lent 4) (lent 8) node_words count_words edge_words (Ok graph) generated 2 told graph refl
 
 -- each number's call gives one,
 call_gives_cutting : (m : ℕ) → m < 2 → (list : List ℕ) → Long m → Numbered m list → Cuts (marked (take 3 list))
 unfolding value_or
 call_gives_cutting m below list long call =
     gives_a_cutting (rectangle 2 2) no_marks_lem no_marks_lem (tiles_of dominoes) has_free_cell stored_joined
-    (lent 8) (lent 2) (lent 8) (lent 2) (lent 8) (lent 2) (lent 8) (lent 2) (C.Number two) counted
-    (lent 16) (lent 4) (lent 8) node_words count_words edge_words made generated 2 told refl
-    m below (lent 3) list (T.Length 3) long call
+    (lent 8) (lent 2) (lent 8) (lent 2) (lent 8) (lent 2) (lent 8) (lent 2) (Ok two) counted
+    (lent 16) (lent 4) (lent 8) node_words count_words edge_words (Ok graph) generated 2 told graph refl
+    m below (lent 3) list (Ok 3) long call
 
 lying_cuts : Cuts lying
 lying_cuts = subst Cuts marked_0 (call_gives_cutting 0 (lit< tt) (0 ∷ 1 ∷ 3 ∷ []) long_0 call_0)
@@ -181,17 +177,17 @@ unfolding value_or
 lying_not_standing e =
     let z =
     different_cuttings (rectangle 2 2) no_marks_lem no_marks_lem (tiles_of dominoes) has_free_cell stored_joined
-    (lent 8) (lent 2) (lent 8) (lent 2) (lent 8) (lent 2) (lent 8) (lent 2) (C.Number two) counted
-    (lent 16) (lent 4) (lent 8) node_words count_words edge_words made generated 2 told refl
-    0 1 (lit< tt) (lit< tt) (lent 3) (0 ∷ 1 ∷ 3 ∷ []) (T.Length 3) (lent 3) (0 ∷ 2 ∷ 3 ∷ []) (T.Length 3) long_0 long_1 call_0 call_1
+    (lent 8) (lent 2) (lent 8) (lent 2) (lent 8) (lent 2) (lent 8) (lent 2) (Ok two) counted
+    (lent 16) (lent 4) (lent 8) node_words count_words edge_words (Ok graph) generated 2 told graph refl
+    0 1 (lit< tt) (lit< tt) (lent 3) (0 ∷ 1 ∷ 3 ∷ []) (Ok 3) (lent 3) (0 ∷ 2 ∷ 3 ∷ []) (Ok 3) long_0 long_1 call_0 call_1
     (marked_0 ∙ e ∙ sym marked_1) in
     absurd (omega arith)
 
 -- and there is no other: each has a number, and that number's call gives it
 abbrev GivenBy : (ℕ → Bool) → ℕ → Type 0
 GivenBy X m =
-    (out out' : List ℕ) (t : Tiling) → length (node_list_in made.graph count_words edge_words m) ≤ length out
-    → GivesTiling made.graph node_words count_words edge_words m out out' t → marked (take (value_or 0 (tiling_answer t)) out') ≡ X
+    (out out' : List ℕ) (t : Result ℕ Refusal) → length (node_list_in graph count_words edge_words m) ≤ length out
+    → GivesTiling graph node_words count_words edge_words m out out' t → marked (take (value_or 0 (answer_of t)) out') ≡ X
 
 lying_or_standing : (X : ℕ → Bool) → Cuts X → (X ≡ lying) ⊎ (X ≡ standing)
 unfolding value_or
@@ -200,12 +196,12 @@ lying_or_standing X cuts = go r.0 r.1 r.2
     r : (m : ℕ) × (m < 2) × GivenBy X m
     r =
         every_cutting_has_its_number (rectangle 2 2) no_marks_lem no_marks_lem (tiles_of dominoes) has_free_cell stored_joined
-        (lent 8) (lent 2) (lent 8) (lent 2) (lent 8) (lent 2) (lent 8) (lent 2) (C.Number two) counted
-        (lent 16) (lent 4) (lent 8) node_words count_words edge_words made generated 2 told refl X cuts
+        (lent 8) (lent 2) (lent 8) (lent 2) (lent 8) (lent 2) (lent 8) (lent 2) (Ok two) counted
+        (lent 16) (lent 4) (lent 8) node_words count_words edge_words (Ok graph) generated 2 told graph refl X cuts
 
     go : (m : ℕ) → m < 2 → GivenBy X m → (X ≡ lying) ⊎ (X ≡ standing)
-    go zero h k = inl (sym (k (lent 3) (0 ∷ 1 ∷ 3 ∷ []) (T.Length 3) long_0 call_0) ∙ marked_0)
-    go (suc zero) h k = inr (sym (k (lent 3) (0 ∷ 2 ∷ 3 ∷ []) (T.Length 3) long_1 call_1) ∙ marked_1)
+    go zero h k = inl (sym (k (lent 3) (0 ∷ 1 ∷ 3 ∷ []) (Ok 3) long_0 call_0) ∙ marked_0)
+    go (suc zero) h k = inr (sym (k (lent 3) (0 ∷ 2 ∷ 3 ∷ []) (Ok 3) long_1 call_1) ∙ marked_1)
     go (suc (suc m)) h k = absurd (omega arith)
 
 -- ---- "any board with a free cell" can't be dropped: a full board counts 0, but has one cutting, the empty set

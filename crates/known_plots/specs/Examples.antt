@@ -1,10 +1,9 @@
 -- Examples: small plots by the definitions, and one at which theorems are applied. Rests on tiler's `Theorems`. Assumes nothing.
-use Rattle.std.specs.Prelude.{◌≡◌, refl, true, false, List, [], ◌∷◌, ℕ, zero, suc, ◌-◌, ◌^◌, ◌≤◌, length}
+use Rattle.std.specs.Prelude.{◌≡◌, refl, true, false, List, [], ◌∷◌, ℕ, zero, suc, ◌-◌, ◌^◌, ◌≤◌, length, None, Some}
 use Rattle.std.proofs.Common.{sym, ap, ◌∙◌, subst, ⊎_elim, lit≤, lit<}
 use Rattle.std.proofs.Math.Bool.{So}
 use mathlib.Core.List.Memᴰ.{cases_cons}
 use mathlib.Core.List.Memᴰ.{not-nil}
-use Rattle.std.proofs.Math.Option.{none, some}
 use Rattle.cells.specs.declared.Cells.{Cells}
 use Rattle.cells.specs.Set.{number, Sound}
 use Rattle.refusal.specs.Refusal.{Answer, refused, given, map_answer, bind_answer}
@@ -41,7 +40,7 @@ two_by_two = record {
   nodes = 0 ∷ 3 ∷ 65537 ∷ 196611 ∷ [];
   counts = 1 ∷ 1 ∷ 1 ∷ 2 ∷ [];
   edges = (0, 1) ∷ (0, 2) ∷ (1, 3) ∷ (2, 3) ∷ [];
-  complete = some 3;
+  complete = Some 3;
 }
 
 pub two_by_two_graph : graph_for (board 2 2 0 0) dominoes (node_room 16 4) (edge_room 8) ≡ given two_by_two
@@ -91,12 +90,12 @@ pub full_start : layer_count_for (board 2 1 1 2) dominoes 1 ≡ given 0
 unfolding layer_count_for dominoes step
 full_start = refl
 
-pub full_start_graph : graph_for (board 2 1 1 2) dominoes (node_room 4 1) (edge_room 0) ≡ given record { nodes = 3 ∷ []; counts = 1 ∷ []; edges = []; complete = none }
+pub full_start_graph : graph_for (board 2 1 1 2) dominoes (node_room 4 1) (edge_room 0) ≡ given record { nodes = 3 ∷ []; counts = 1 ∷ []; edges = []; complete = None }
 unfolding graph_for node_room edge_room dominoes step
 full_start_graph = refl
 
 -- a node's marks are of both kinds
-fixed_mark : graph_for (board 3 1 1 0) dominoes (node_room 8 2) (edge_room 2) ≡ given record { nodes = 1 ∷ 7 ∷ []; counts = 1 ∷ 1 ∷ []; edges = (0, 1) ∷ []; complete = some 1 }
+fixed_mark : graph_for (board 3 1 1 0) dominoes (node_room 8 2) (edge_room 2) ≡ given record { nodes = 1 ∷ 7 ∷ []; counts = 1 ∷ 1 ∷ []; edges = (0, 1) ∷ []; complete = Some 1 }
 unfolding graph_for node_room edge_room dominoes step
 fixed_mark = refl
 
@@ -137,11 +136,11 @@ last_layer : judge_layers one_then_two 1 0 ∷ judge_layers one_then_two 1 1 ∷
 unfolding judge_layers one_then_two
 last_layer = refl
 
-edges_before_counts : judge_graph 2 0 (record { nodes = 0 ∷ 1 ∷ []; counts = 1 ∷ 2 ^ 64 ∷ []; edges = (0, 1) ∷ []; complete = none }) ≡ refused 10
+edges_before_counts : judge_graph 2 0 (record { nodes = 0 ∷ 1 ∷ []; counts = 1 ∷ 2 ^ 64 ∷ []; edges = (0, 1) ∷ []; complete = None }) ≡ refused 10
 unfolding judge_graph
 edges_before_counts = refl
 
-graph_count_too_large : judge_graph 2 1 (record { nodes = 0 ∷ 1 ∷ []; counts = 1 ∷ 2 ^ 64 ∷ []; edges = (0, 1) ∷ []; complete = none }) ≡ refused 9
+graph_count_too_large : judge_graph 2 1 (record { nodes = 0 ∷ 1 ∷ []; counts = 1 ∷ 2 ^ 64 ∷ []; edges = (0, 1) ∷ []; complete = None }) ≡ refused 9
 unfolding judge_graph
 graph_count_too_large = refl
 

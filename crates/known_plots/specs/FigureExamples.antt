@@ -1,7 +1,7 @@
 -- Examples of the figure called cuttings: what `count_cuttings` answers and leaves for a full board and for 2 by 2 dominoes, and what is refused; the conditions of its
 -- theorems can be met, and the tiles' can't be dropped. What stands in quotation marks is 02's, from its request 3. Rests on `CuttingExamples` and the crate
 -- cuttings' `Theorems`. Assumes nothing.
-use Rattle.std.specs.Prelude.{◌≡◌, refl, List, [], ◌∷◌, ℕ, replicate}
+use Rattle.std.specs.Prelude.{Err, Ok, ◌≡◌, refl, List, [], ◌∷◌, ℕ, replicate}
 use Rattle.std.proofs.Common.{sym, ap, ◌∙◌, arith, lit<}
 use Rattle.cells.specs.Set.{number, Sound}
 use Rattle.tiles.specs.declared.Tiles.{Tiles}
@@ -16,7 +16,6 @@ use Rattle.covers.proofs.NumberingLaws.{OneOfEach}
 use Rattle.graph.specs.Graph.{layer_room, plot_boards}
 use Rattle.path_count.specs.declared.PathCount.{PathCount}
 use Rattle.path_count.specs.PathCounts.{count_value}
-use Rattle.layers.specs.declared.Count.TheVariants as C
 use Rattle.layers.specs.LayerCounts.{count_tilings}
 use Rattle.expansion.specs.Plots.{accept_plot, IsCutting}
 use Rattle.cuttings.specs.Cuttings.{cuttings_of, count_cuttings, AnswersCuttings}
@@ -59,12 +58,12 @@ abbrev two : PathCount
 two = record { word = 2 }
 
 -- 4, 1, 5 and 2 words have room for one board; all of them are zero afterwards
-full_called : AnswersCuttings full_board (tiles_of dominoes) (lent 4) (lent 1) (lent 5) (lent 2) (replicate 4 0) (replicate 1 0) (replicate 5 0) (replicate 2 0) (C.Number one)
+full_called : AnswersCuttings full_board (tiles_of dominoes) (lent 4) (lent 1) (lent 5) (lent 2) (replicate 4 0) (replicate 1 0) (replicate 5 0) (replicate 2 0) (Ok one)
 unfolding layer_room count_value
 full_called = record { answer = sym figure_of_full; zero_boards_a = refl; zero_counts_a = refl; zero_boards_b = refl; zero_counts_b = refl }
 
 -- 3 words have room for none: the least room counts
-no_room_called : AnswersCuttings full_board (tiles_of dominoes) (lent 4) (lent 1) (lent 3) (lent 1) (replicate 4 0) (replicate 1 0) (replicate 3 0) (replicate 1 0) (C.Refused R.NoRoom)
+no_room_called : AnswersCuttings full_board (tiles_of dominoes) (lent 4) (lent 1) (lent 3) (lent 1) (replicate 4 0) (replicate 1 0) (replicate 3 0) (replicate 1 0) (Err R.NoRoom)
 unfolding layer_room
 no_room_called = record { answer = sym full_without_room; zero_boards_a = refl; zero_counts_a = refl; zero_boards_b = refl; zero_counts_b = refl }
 
@@ -72,7 +71,7 @@ no_room_called = record { answer = sym full_without_room; zero_boards_a = refl; 
 two_by_two_figure : count_cuttings (rectangle 2 2) (tiles_of dominoes) 2 ≡ given 2
 two_by_two_figure = free_is_layer_count (rectangle 2 2) (tiles_of dominoes) has_free_cell 2 ∙ two_by_two_counted
 
-two_by_two_called : AnswersCuttings (rectangle 2 2) (tiles_of dominoes) (lent 8) (lent 2) (lent 8) (lent 2) (replicate 8 0) (replicate 2 0) (replicate 8 0) (replicate 2 0) (C.Number two)
+two_by_two_called : AnswersCuttings (rectangle 2 2) (tiles_of dominoes) (lent 8) (lent 2) (lent 8) (lent 2) (replicate 8 0) (replicate 2 0) (replicate 8 0) (replicate 2 0) (Ok two)
 unfolding layer_room count_value
 two_by_two_called = record { answer = sym two_by_two_figure; zero_boards_a = refl; zero_counts_a = refl; zero_boards_b = refl; zero_counts_b = refl }
 
@@ -82,7 +81,7 @@ one_cutting : Exactly 1 (IsCutting (board_of full_board) (paths_in (tiles_of dom
 unfolding count_value
 one_cutting =
     call_counts_cuttings full_board (tiles_of dominoes) (small_set 1 (lit< tt)) (small_set 2 (lit< tt)) (lent 4) (lent 1) (lent 5) (lent 2) (replicate 4 0) (replicate 1 0) (replicate 5 0)
-    (replicate 2 0) (C.Number one) full_called stored_joined 1 refl
+    (replicate 2 0) (Ok one) full_called stored_joined 1 refl
 
 -- "A plot with no free cell ruins the product with its 0": 2 by 2 dominoes beside the full board have 2 pairs of cuttings
 two_pairs : Exactly 2 (CutsBoth (board_of (rectangle 2 2)) (paths_in (tiles_of dominoes)) (board_of full_board) (paths_in (tiles_of dominoes)))

@@ -1,17 +1,17 @@
 -- Examples: the first tiling of small boards and the refusals by the definitions, and calls at which theorems are applied. Rests on single_tiling's
 -- `Theorems`. Assumes nothing.
-use Rattle.std.specs.Prelude.{◌≡◌, refl, ◌↔◌, Bool, true, List, [], ◌∷◌, ℕ, ◌≤◌, length}
+use Rattle.std.specs.Prelude.{Err, Ok, Option, Result, ◌≡◌, refl, ◌↔◌, Bool, true, List, [], ◌∷◌, ℕ, ◌≤◌, length, None, Some}
+use Rattle.refusal.specs.declared.Refusal.{Refusal}
 use Rattle.std.proofs.Common.{sym, ap, ◌∙◌, subst, ⊎_elim, lit≤, lit<}
 use Rattle.std.proofs.Math.Bool.{So}
 use mathlib.Core.List.Memᴰ.{cases_cons}
 use mathlib.Core.List.Memᴰ.{eq_of_singleton}
 use mathlib.Core.List.Memᴰ.{head as here}
 use mathlib.Core.List.Memᴰ.{not-nil}
-use Rattle.std.proofs.Math.Option.{none, some}
 use Rattle.cells.specs.ListLaws.{sets_in}
 use Rattle.cells.specs.Lists.{words_for}
 use Rattle.cells.specs.Set.{number}
-use Rattle.refusal.specs.Refusal.{Answer, refused, given, map_answer, bind_answer, value_or}
+use Rattle.refusal.specs.Refusal.{Answer, refused, given, map_answer, bind_answer, value_or, answer_of}
 use Rattle.refusal.specs.declared.Refusal.TheVariants as R
 use Rattle.refusal.specs.RefusalLaws.{given_inj}
 use Rattle.direction.specs.Direction.{step}
@@ -29,9 +29,7 @@ use Rattle.children.specs.Children.{children}
 use Rattle.expansion.specs.Plots.{accept_plot, IsCutting, AllEdgeJoined}
 use Rattle.layers.specs.LayerCounts.{layer_count_for, count_tilings}
 use Rattle.known_plots.specs.Examples.{board, rectangle, no_marks_lem}
-use Rattle.single_tiling.specs.declared.SingleTiling.{SingleTiling}
-use Rattle.single_tiling.specs.declared.SingleTiling.TheVariants as S
-use Rattle.single_tiling.specs.SingleTiling.{IsTiling, read_search, boards_found, number_found, single_answer, GetsSingleTiling}
+use Rattle.single_tiling.specs.SingleTiling.{IsTiling, read_search, boards_found, number_found, GetsSingleTiling}
 use Rattle.single_tiling.specs.Inner.{single_of}
 use Rattle.single_tiling.specs.Theorems.{found_is_tiling, no_cells_answer_none, none_exactly_where_the_count_is_0, none_means_no_cutting}
 
@@ -103,11 +101,11 @@ unfolding read_search read_board bind_answer free_count number
 two_read = rw right_read
 
 -- what the answers of the code stand for
-answers : single_answer (S.Boards 2) ∷ single_answer S.Nothing ∷ single_answer (S.Refused R.BadTile) ∷ [] ≡ given (some 2) ∷ given none ∷ refused 5 ∷ []
+answers : answer_of {A = Option ℕ} (Ok (Some 2)) ∷ answer_of (Ok None) ∷ answer_of (Err R.BadTile) ∷ [] ≡ given (Some 2) ∷ given None ∷ refused 5 ∷ []
 answers = refl
 
 -- what was found, and how many boards: nothing, and three
-found : (boards_found none ≡ []) × (number_found none ≡ none) × (boards_found (some (0 ∷ 3 ∷ 7 ∷ [])) ≡ 0 ∷ 3 ∷ 7 ∷ []) × (number_found (some (0 ∷ 3 ∷ 7 ∷ [])) ≡ some 3)
+found : (boards_found None ≡ []) × (number_found None ≡ None) × (boards_found (Some (0 ∷ 3 ∷ 7 ∷ [])) ≡ 0 ∷ 3 ∷ 7 ∷ []) × (number_found (Some (0 ∷ 3 ∷ 7 ∷ [])) ≡ Some 3)
 unfolding boards_found number_found
 found = (refl, refl, refl, refl)
 
@@ -120,18 +118,18 @@ two_tiling : IsTiling (board 2 1 0 0) right (0 ∷ 3 ∷ [])
 unfolding children is_full marks step
 two_tiling = record { last = 3; sequence = (refl, (here refl, refl)); full = refl; pieces = lit< tt }
 
-two_call : GetsSingleTiling (rectangle 2 1) (tiles_of right) lent (words_for (0 ∷ 3 ∷ []) 12) (S.Boards 2)
+two_call : GetsSingleTiling (rectangle 2 1) (tiles_of right) lent (words_for (0 ∷ 3 ∷ []) 12) (Ok (Some 2))
 unfolding map_answer value_or boards_found number_found
 two_call = record {
-  found = some (0 ∷ 3 ∷ []);
+  found = Some (0 ∷ 3 ∷ []);
   tiling = λ p e. subst (λ (q : Board × List Path). IsTiling q.0 q.1 (0 ∷ 3 ∷ [])) (given_inj (board 2 1 0 0, right) p (sym two_read ∙ e)) two_tiling;
-  answer = ap (map_answer (λ (p : Board × List Path). some 2)) (sym two_read);
+  answer = ap (map_answer (λ (p : Board × List Path). Some 2)) (sym two_read);
   words = ap (λ (a : Answer (Board × List Path)). words_for (value_or [] (map_answer (λ p. 0 ∷ 3 ∷ []) a)) 12) (sym two_read);
 }
 
 two_found : (xs : List ℕ) × IsTiling (board 2 1 0 0) right xs × (length xs ≡ 2) × (sets_in (words_for (0 ∷ 3 ∷ []) 12) 2 ≡ xs) × (words_for (0 ∷ 3 ∷ []) 12 ≡ words_for xs 12)
 two_found =
-    found_is_tiling (rectangle 2 1) no_marks_lem no_marks_lem (tiles_of right) lent (words_for (0 ∷ 3 ∷ []) 12) (S.Boards 2) two_call (board 2 1 0 0, right) two_read 2 refl
+    found_is_tiling (rectangle 2 1) no_marks_lem no_marks_lem (tiles_of right) lent (words_for (0 ∷ 3 ∷ []) 12) (Ok (Some 2)) two_call (board 2 1 0 0, right) two_read 2 refl
 
 -- the layer count is 1: none would be answered only if it were 0
 equal_counts_lem : equal_counts right ≡ true
@@ -150,9 +148,9 @@ two_counted : count_tilings (rectangle 2 1) (tiles_of right) 1 ≡ given 1
 unfolding count_tilings layer_count_for bind_answer
 two_counted = ap (λ (a : Answer (Board × List Path)). bind_answer a (λ p. layer_count_for p.0 p.1 1)) two_plot ∙ two_layers_lem
 
-two_not_none : (single_answer (S.Boards 2) ≡ given none) ↔ ◌≡◌ {A = ℕ} 1 0
+two_not_none : (answer_of {A = Option ℕ} (Ok (Some 2)) ≡ given None) ↔ ◌≡◌ {A = ℕ} 1 0
 two_not_none =
-    none_exactly_where_the_count_is_0 (rectangle 2 1) no_marks_lem no_marks_lem (tiles_of right) lent (words_for (0 ∷ 3 ∷ []) 12) (S.Boards 2) two_call
+    none_exactly_where_the_count_is_0 (rectangle 2 1) no_marks_lem no_marks_lem (tiles_of right) lent (words_for (0 ∷ 3 ∷ []) 12) (Ok (Some 2)) two_call
     (board 2 1 0 0, right) two_read 1 1 two_counted
 
 -- the board has a free cell, and the cells of Right share an edge: none would mean that there is no cutting
@@ -164,9 +162,9 @@ corner_free : So (is_free (board_of (rectangle 2 1)) 0)
 unfolding is_free number
 corner_free = refl
 
-two_cut : (single_answer (S.Boards 2) ≡ given none) ↔ ((X : ℕ → Bool) → IsCutting (board_of (rectangle 2 1)) (paths_in (tiles_of right)) X → ⊥)
+two_cut : (answer_of {A = Option ℕ} (Ok (Some 2)) ≡ given None) ↔ ((X : ℕ → Bool) → IsCutting (board_of (rectangle 2 1)) (paths_in (tiles_of right)) X → ⊥)
 two_cut =
-    none_means_no_cutting (rectangle 2 1) no_marks_lem no_marks_lem (tiles_of right) lent (words_for (0 ∷ 3 ∷ []) 12) (S.Boards 2) two_call
+    none_means_no_cutting (rectangle 2 1) no_marks_lem no_marks_lem (tiles_of right) lent (words_for (0 ∷ 3 ∷ []) 12) (Ok (Some 2)) two_call
     (board 2 1 0 0, right) two_read (0, corner_free) (subst AllEdgeJoined (read_tiles_sound (tiles_of right) right right_read).2 right_joined)
 
 -- whatever a call with the 0 by 0 board and room for one board leaves, it answers none
@@ -174,6 +172,6 @@ none_read : read_search (rectangle 0 0) (tiles_of right) 1 ≡ given (board 0 0 
 unfolding read_search read_board bind_answer free_count number
 none_read = rw right_read
 
-none_answered : (new : List ℕ) (r : SingleTiling) → GetsSingleTiling (rectangle 0 0) (tiles_of right) (0 ∷ 0 ∷ 0 ∷ 0 ∷ []) new r → single_answer r ≡ given none
+none_answered : (new : List ℕ) (r : Result (Option ℕ) Refusal) → GetsSingleTiling (rectangle 0 0) (tiles_of right) (0 ∷ 0 ∷ 0 ∷ 0 ∷ []) new r → answer_of r ≡ given None
 none_answered new r call =
     no_cells_answer_none (rectangle 0 0) no_marks_lem no_marks_lem (tiles_of right) (0 ∷ 0 ∷ 0 ∷ 0 ∷ []) new r call (board 0 0 0 0, right) none_read refl

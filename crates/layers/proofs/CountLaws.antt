@@ -1,14 +1,14 @@
 -- What a layer count that is given says: board and tiles are not refused, it is the count of the definition, it is below the limit, and under demand 3's
 -- conditions it is the number of cuttings. Rests on expansion's laws and covers' `Theorems`. Assumes nothing.
-use Rattle.std.specs.Prelude.{◌≡◌, refl, Bool, true, false, cond, ℕ, zero, suc, ◌<◌, eqb, leb, length, get_or}
+use Rattle.std.specs.Prelude.{Result, ◌≡◌, refl, Bool, true, false, cond, ℕ, zero, suc, ◌<◌, eqb, leb, length, get_or, Option, None, Some}
+use Rattle.refusal.specs.declared.Refusal.{Refusal}
+use Rattle.path_count.specs.declared.PathCount.{PathCount}
 use Rattle.std.proofs.Math.Path.{sym}
 use Rattle.std.proofs.Common.{ap, ◌∙◌, subst, ⊎_elim, leb-false, lit<}
 use Rattle.std.proofs.lemmas.Bool.{false≢true}
-use mathlib.Core.List.Memᴰ.{append_cases}
+use mathlib.Core.List.Memᴰ.{append_cases, of_map}
 use mathlib.Core.List.Memᴰ.{map as mem-map}
-use mathlib.Core.List.Memᴰ.{of_map}
 use mathlib.Core.List.{List, Memᴰ as Mem}
-use Rattle.std.proofs.Math.Option.{Option, none, some}
 use Rattle.cells.specs.Set.{Sound}
 use Rattle.cells.specs.FirstsLaws.{any_true}
 use Rattle.refusal.specs.Refusal.{Answer, refused, given, map_answer}
@@ -32,7 +32,6 @@ use Rattle.expansion.proofs.SettingLaws.{same_children}
 use Rattle.expansion.proofs.CuttingLaws.{cuttings_numbered}
 use Rattle.expansion.proofs.AcceptedLaws.{from_read, accepted_laws, accepted_steps, start_accepted}
 use Rattle.expansion.proofs.ExpansionLaws.{below_at}
-use Rattle.layers.specs.declared.Count.{Count}
 use Rattle.layers.specs.LayerCounts.{too_large, judge_layer, judge_layers, layer_count_for, count_tilings, CountsTilings, CountsCuttings}
 use Rattle.layers.specs.Inner.{layers_answer}
 
@@ -72,7 +71,7 @@ module _ (b : RectangularBoard) (fixed : Sound b.fixed) (laid : Sound b.laid) (t
       subst (λ (k : ℕ). Exactly k (IsCutting (board_of b) (paths_in ts))) (sym r.1) (cutting_at (setting_of b ts) (start_of b), cuttings_numbered b fixed laid ts r.0 free joined)
 
   -- the same of the call
-  pub counts_cuttings : (boardsA countsA boardsB countsB boardsA' countsA' boardsB' countsB' : List ℕ) (count : Count)
+  pub counts_cuttings : (boardsA countsA boardsB countsB boardsA' countsA' boardsB' countsB' : List ℕ) (count : Result PathCount Refusal)
       → CountsTilings b ts boardsA countsA boardsB countsB boardsA' countsA' boardsB' countsB' count → CountsCuttings b ts count
   counts_cuttings boardsA countsA boardsB countsB boardsA' countsA' boardsB' countsB' count counted free joined n is =
       count_cuttings_lem free joined (layer_room (length boardsA) (length countsA) (length boardsB) (length countsB)) n (sym counted.answer ∙ is)
@@ -124,8 +123,8 @@ given_small S s room n e = go (full_node S.full (nodes_of S s))
     judged = let r = map_given (λ es. layer_count_of S s) (judge_layers (layer_of S s) room (S.free_count s)) n e in (r.0, r.1)
 
     go : (o : Option ℕ) → at_node (path_count_of S s) o < count_limit
-    go none = lit< tt
-    go (some v) = entry_small (entries_of S s) (judge_layers_small S s room (S.free_count s) judged.0 judged.1) v
+    go None = lit< tt
+    go (Some v) = entry_small (entries_of S s) (judge_layers_small S s room (S.free_count s) judged.0 judged.1) v
 
 pub layers_small : (b : RectangularBoard) → Sound b.fixed → Sound b.laid → (ts : Tiles) (room n : ℕ) → count_tilings b ts room ≡ given n → n < count_limit
 unfolding count_tilings

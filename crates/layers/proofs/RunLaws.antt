@@ -4,9 +4,8 @@ use Rattle.std.specs.Prelude.{◌≡◌, Bool, true, false, eqb, leb, length, ge
 use Rattle.std.proofs.Math.Path.{refl, ap}
 use Rattle.std.proofs.Common.{sym, ◌∙◌, subst, zero-add, add-zero, le-leb, ne_eqb, eq-eqb}
 use Rattle.std.proofs.Math.Bool.{cond}
-use mathlib.Core.List.Memᴰ.{eq_of_singleton}
+use mathlib.Core.List.Memᴰ.{eq_of_singleton, not-nil}
 use mathlib.Core.List.Memᴰ.{head as here}
-use mathlib.Core.List.Memᴰ.{not-nil}
 use mathlib.Core.List.Memᴰ.{tail as there}
 use mathlib.Core.List.{List, [], ◌∷◌, flat_map, Memᴰ as Mem}
 use Prim.Native.Nat.{ℕ, zero, suc, ◌+◌, ◌-◌, ◌<◌}

@@ -1,5 +1,6 @@
 -- Laws that the proofs of `from_layer` cite: what a layer in lent words has, what is right where it has grown, and the answer of each way out. Rests on `RunLaws`, expansion's
 -- `AcceptedLaws` and `LayerLaws`. Assumes nothing.
+use Rattle.std.specs.Prelude.{Err, None, Ok, Option, Result, Some}
 use mathlib.Core.Path.{◌≡◌, refl, sym, ap, ◌∙◌, subst}
 use mathlib.Core.Bool.{Bool, true, false, cond}
 use mathlib.Core.List.{List, ◌∷◌, map, Memᴰ as Mem}
@@ -21,10 +22,6 @@ use Rattle.board.specs.Board.{board_of}
 use Rattle.covers.specs.Setting.{Setting, EqualSteps}
 use Rattle.covers.specs.Counts.{Entry, boards, counts}
 use Rattle.path_count.specs.PathCounts.{count_in}
-use Rattle.layers.specs.declared.layer.Layer.{Layer}
-use Rattle.layers.specs.declared.layer.Layer.TheVariants as L
-use Rattle.layers.specs.declared.from_layer.Grown.{Grown}
-use Rattle.layers.specs.declared.from_layer.Grown.TheVariants as G
 use Rattle.expansion.specs.Boards.{From, setting, setting_of, Accepted}
 use Rattle.layers.specs.LayerCounts.{judge_layer}
 use Rattle.expansion.specs.Parts.{step_of}
@@ -89,20 +86,16 @@ module _ (b : RectangularBoard) (ts : Tiles) (bs cs : List ℕ) (n left : ℕ) (
         sym (count_short S (accepted_laws b ts A) (setting_full (board_of b) (paths_in ts)) size steps room k left es R some l)
 
     -- no piece can be laid on a board of the layer
-    pub run_last : (x : Answer ℕ) → left < size → x ≡ given (cond (eqb left 0) (get_or (list_of (count_in cs) n) 0 0) 0) → RightHere x
+    pub run_last : (x : ℕ) → left < size → x ≡ cond (eqb left 0) (get_or (list_of (count_in cs) n) 0 0) 0 → RightHere (given x)
     run_last x l e = go (ℕ_discrete left 0)
       where
-        go : Dec (left ≡ 0) → RightHere x
+        go : Dec (left ≡ 0) → RightHere (given x)
         go (yes z) k h =
-            e
-            ∙ ap (λ (t : Bool). given (cond t (get_or (list_of (count_in cs) n) 0 0) 0)) (eq-eqb left 0 z)
-            ∙ last_layer z k h
+            ap given (e ∙ ap (λ (t : Bool). cond t (get_or (list_of (count_in cs) n) 0 0) 0) (eq-eqb left 0 z)) ∙ last_layer z k h
         go (no z) k h =
-            e
-            ∙ ap (λ (t : Bool). given (cond t (get_or (list_of (count_in cs) n) 0 0) 0)) (ne_eqb left 0 z)
-            ∙ short_layer z l k h
+            ap given (e ∙ ap (λ (t : Bool). cond t (get_or (list_of (count_in cs) n) 0 0) 0) (ne_eqb left 0 z)) ∙ short_layer z l k h
 
-    module _ (fits : size ≤ left) (bs' cs' : List ℕ) (g : Layer) (H : HoldsLayer room bs' cs' g (next_of S es)) where
+    module _ (fits : size ≤ left) (bs' cs' : List ℕ) (g : Option (ℕ × Bool)) (H : HoldsLayer room bs' cs' g (next_of S es)) where
       next : (k : ℕ) → left ≤ k → count_from S room k es ≡ bind_answer (judge_layer room (next_of S es)) (count_from S room (k - 1))
       next k h =
           let some : 0 < left = omega (arith, size_pos) in
@@ -116,20 +109,20 @@ module _ (b : RectangularBoard) (ts : Tiles) (bs cs : List ℕ) (n left : ℕ) (
           ap (λ (x : Answer (List (Entry ℕ))). bind_answer x (count_from S room (k - 1))) (sym w) ∙ sym (next k h)
 
       -- its boards pass the room
-      pub once_no_room : g ≡ L.NoRoom → Grows S room left size es bs' cs' (G.Refused Refusals.NoRoom)
+      pub once_no_room : g ≡ None → Grows S room left size es bs' cs' (Err Refusals.NoRoom)
       unfolding Grows
-      once_no_room q = refuses 8 (held_no_room room bs' cs' (next_of S es) (subst (λ (x : Layer). HoldsLayer room bs' cs' x (next_of S es)) q H))
+      once_no_room q = refuses 8 (held_no_room room bs' cs' (next_of S es) (subst (λ (x : Option (ℕ × Bool)). HoldsLayer room bs' cs' x (next_of S es)) q H))
 
-      module _ (m : ℕ) (over : Bool) (q : g ≡ L.Boards m over) where
-        pub once_large : over ≡ true → Grows S room left size es bs' cs' (G.Refused Refusals.CountTooLarge)
+      module _ (m : ℕ) (over : Bool) (q : g ≡ Some (m, over)) where
+        pub once_large : over ≡ true → Grows S room left size es bs' cs' (Err Refusals.CountTooLarge)
         unfolding Grows
         once_large o =
             refuses 9
-            (held_large room bs' cs' (next_of S es) m (subst (λ (x : Layer). HoldsLayer room bs' cs' x (next_of S es)) (q ∙ ap (L.Boards m) o) H))
+            (held_large room bs' cs' (next_of S es) m (subst (λ (x : Option (ℕ × Bool)). HoldsLayer room bs' cs' x (next_of S es)) (q ∙ ap (λ (t : Bool). Some (m, t)) o) H))
 
         module _ (o : over ≡ false) where
-          held : HoldsLayer room bs' cs' (L.Boards m false) (next_of S es)
-          held = subst (λ (x : Layer). HoldsLayer room bs' cs' x (next_of S es)) (q ∙ ap (L.Boards m) o) H
+          held : HoldsLayer room bs' cs' (Some (m, false)) (next_of S es)
+          held = subst (λ (x : Option (ℕ × Bool)). HoldsLayer room bs' cs' x (next_of S es)) (q ∙ ap (λ (t : Bool). Some (m, t)) o) H
 
           entries : entries_in bs' cs' m ≡ next_of S es
           entries = (held_entries room bs' cs' (next_of S es) m held).2
@@ -145,40 +138,45 @@ module _ (b : RectangularBoard) (ts : Tiles) (bs cs : List ℕ) (n left : ℕ) (
               ∙ ap (λ (x : Answer (List (Entry ℕ))). bind_answer x (count_from S room (k - 1))) (sym (held_fits room bs' cs' (next_of S es) m held))
               ∙ sym (next k h)
 
-          pub once_boards : Grows S room left size es bs' cs' (G.Boards m (left - size))
+          pub once_boards : Grows S room left size es bs' cs' (Ok (m, left - size))
           unfolding Grows
           once_boards = (refl, ready, right_on)
 
--- ---- a layer that has grown: r is what is told of it
+-- ---- a layer that has grown
 
-module _ (S : Setting ℕ ℕ) (room left size : ℕ) (es : List (Entry ℕ)) (bs cs : List ℕ) (r : Grown) (grows : Grows S room left size es bs cs r) where
-  pub grown_refused : (q : Refusal) → r ≡ G.Refused q → Right S room left es (refused (refusal_number q))
+module _ (S : Setting ℕ ℕ) (room left size : ℕ) (es : List (Entry ℕ)) (bs cs : List ℕ) where
+  pub grown_refused : (q : Refusal) → Grows S room left size es bs cs (Err q) → Right S room left es (refused (refusal_number q))
   unfolding Grows
-  grown_refused q e = subst (Grows S room left size es bs cs) e grows
+  grown_refused q g = g
 
   -- whatever would have come behind it
-  pub once_refused : (q : Refusal) → r ≡ G.Refused q → (laid : ℕ) (bs' cs' : List ℕ) → Grows S room left laid es bs' cs' (G.Refused q)
+  pub once_refused : (q : Refusal) → Grows S room left size es bs cs (Err q) → (laid : ℕ) (bs' cs' : List ℕ) → Grows S room left laid es bs' cs' (Err q)
   unfolding Grows
-  once_refused q e laid bs' cs' = grown_refused q e
+  once_refused q g laid bs' cs' = g
 
-  module _ (m rest : ℕ) (e : r ≡ G.Boards m rest) where
-    told : Grows S room left size es bs cs (G.Boards m rest)
-    told = subst (Grows S room left size es bs cs) e grows
-
+  module _ (m rest : ℕ) (grown : Grows S room left size es bs cs (Ok (m, rest))) where
     pub grown_rest : rest ≡ left - size
     unfolding Grows
-    grown_rest = told.0
+    grown_rest = grown.0
 
     pub grown_ready : Ready S rest (entries_in bs cs m)
     unfolding Grows
-    grown_ready = told.1
+    grown_ready = grown.1
 
     pub grown_on : (x : Answer ℕ) → Right S room rest (entries_in bs cs m) x → Right S room left es x
     unfolding Grows
-    grown_on = told.2
+    grown_on = grown.2
 
     -- and grows again
-    pub grown_twice : (bs' cs' : List ℕ) (r' : Grown) → Grows S room rest size (entries_in bs cs m) bs' cs' r' → Grows S room left (size + size) es bs' cs' r'
+    pub grown_twice : (bs' cs' : List ℕ) (r : Result (ℕ × ℕ) Refusal) → Grows S room rest size (entries_in bs cs m) bs' cs' r → Grows S room left (size + size) es bs' cs' r
     unfolding Grows
-    grown_twice bs' cs' (G.Boards k d) g = (omega (arith, g.0, grown_rest), g.1, λ x h. grown_on x (g.2 x h))
-    grown_twice bs' cs' (G.Refused q) g = grown_on (refused (refusal_number q)) g
+    grown_twice bs' cs' (Ok (k, d)) g = (omega (arith, g.0, grown_rest), g.1, λ x h. grown_on x (g.2 x h))
+    grown_twice bs' cs' (Err q) g = grown_on (refused (refusal_number q)) g
+
+-- in the same room
+pub grows_in : (S : Setting ℕ ℕ) {room room' : ℕ} (left laid : ℕ) (es : List (Entry ℕ)) (bs cs : List ℕ) (r : Result (ℕ × ℕ) Refusal) → room' ≡ room
+    → Grows S room' left laid es bs cs r → Grows S room left laid es bs cs r
+grows_in S left laid es bs cs r q g = subst (λ (m : ℕ). Grows S m left laid es bs cs r) q g
+
+pub right_in : (S : Setting ℕ ℕ) {room room' : ℕ} (left : ℕ) (es : List (Entry ℕ)) (x : Answer ℕ) → room' ≡ room → Right S room' left es x → Right S room left es x
+right_in S left es x q h = subst (λ (m : ℕ). Right S m left es x) q h

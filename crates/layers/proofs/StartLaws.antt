@@ -1,5 +1,6 @@
 -- Laws that the proofs of `counting` and of `count_tilings` cite: the free cells of an accepted board, layer 0 in lent words, the answer of each way out,
 -- and the words that are cleared. Rests on `RunLaws`, expansion's `AcceptedLaws` and cells' `ListLaws`. Assumes nothing.
+use Rattle.std.specs.Prelude.{Ok, Result}
 use mathlib.Core.Path.{◌≡◌, sym, ap, ap₂, ◌∙◌, subst}
 use mathlib.Core.List.{List, [], ◌∷◌}
 use Prim.Native.Nat.{ℕ, ◌/◌, ◌^◌, ◌≤◌, ◌<◌}
@@ -9,22 +10,21 @@ use borrow.Author.Tests.{le-ltb, ne_eqb}
 use lib.Dec.{eqb, ltb, lit<}
 use lib.ListN.{length, get_or, replicate}
 use mathlib.Core.Bool.{Bool, So, false, cond}
-use Rattle.cells.specs.Set.{number}
+use Rattle.cells.specs.Set.{number, Sound}
+use Rattle.cells.specs.WordLaws.{number_lt}
 use Rattle.cells.specs.Lists.{list_from, list_of, set_at}
 use Rattle.cells.specs.Parts.{with_set, cleared_from}
 use Rattle.cells.specs.ArrayLaws.{list_of_ext, replicate_list_of}
 use Rattle.cells.specs.ListLaws.{set_at_same}
 use Rattle.tiles.specs.declared.Tiles.{Tiles}
 use Rattle.refusal.specs.declared.Refusal.{Refusal}
-use Rattle.refusal.specs.Refusal.{Answer, refused, given, map_answer, bind_answer, refusal_number}
-use Rattle.refusal.specs.RefusalLaws.{refused_given, given_inj}
+use Rattle.refusal.specs.Refusal.{Answer, refused, given, map_answer, bind_answer, answer_of}
+use Rattle.refusal.specs.RefusalLaws.{given_inj}
 use Rattle.tile.specs.Path.{Path}
 use Rattle.tiles.specs.Paths.{paths_in}
 use Rattle.board.specs.declared.RectangularBoard.{RectangularBoard}
-use Rattle.board.specs.declared.FreeCells.{FreeCells}
-use Rattle.board.specs.declared.FreeCells.TheVariants as F
 use Rattle.rectangle.specs.Board.{Board, valid, free_count}
-use Rattle.board.specs.Board.{board_of, read_board, free_cells_answer}
+use Rattle.board.specs.Board.{board_of, read_board}
 use Rattle.rectangle.proofs.BoardLaws.{marks_lt}
 use Rattle.board.specs.BoardLaws.{read_board_given}
 use Rattle.covers.specs.Setting.{Setting}
@@ -42,16 +42,13 @@ use Rattle.expansion.proofs.AcceptedLaws.{setting_full, accepted_laws, accepted_
 
 -- ---- `free_cells`, of an accepted board
 
-module _ (b : RectangularBoard) (ok : So (valid (board_of b))) (r : FreeCells) (e : free_cells_answer r ≡ map_answer free_count (read_board b)) where
-  free_answer : free_cells_answer r ≡ given (free_count (board_of b))
+module _ (b : RectangularBoard) (ok : So (valid (board_of b))) (r : Result ℕ Refusal) (e : answer_of r ≡ map_answer free_count (read_board b)) where
+  pub free_answer : answer_of r ≡ given (free_count (board_of b))
   unfolding map_answer
   free_answer = e ∙ ap (map_answer free_count) (read_board_given b ok)
 
-  pub free_number : (n : ℕ) → r ≡ F.Number n → n ≡ free_count (board_of b)
-  free_number n q = given_inj n (free_count (board_of b)) (sym (ap free_cells_answer q) ∙ free_answer)
-
-  pub free_refused : (q : Refusal) → r ≡ F.Refused q → ⊥
-  free_refused q s = refused_given (refusal_number q) (free_count (board_of b)) (sym (ap free_cells_answer s) ∙ free_answer)
+  pub free_number : (n : ℕ) → r ≡ Ok n → n ≡ free_count (board_of b)
+  free_number n q = given_inj n (free_count (board_of b)) (sym (ap answer_of q) ∙ free_answer)
 
 -- ---- layer 0 in lent words
 
@@ -74,10 +71,16 @@ start_no_room S s room R e z = sym (ap (layers_answer S s) (sym e ∙ z) ∙ lay
 pub positive : (n : ℕ) → (n ≡ 0 → ⊥) → 0 < n
 positive n h = omega arith
 
-module _ (b : RectangularBoard) (ts : Tiles) (A : Accepted b ts) (fixed_lt : number b.fixed < 2 ^ 256) (laid_lt : number b.laid < 2 ^ 256)
+module _ (b : RectangularBoard) (ts : Tiles) (A : Accepted b ts) (fixed : Sound b.fixed) (laid : Sound b.laid)
     (free : ℕ) (is_free : free ≡ free_count (board_of b)) (room R : ℕ) (is : room ≡ R) (some : room ≡ 0 → ⊥) where
   abbrev S : Setting ℕ ℕ
   S = setting_of b ts
+
+  fixed_lt : number b.fixed < 2 ^ 256
+  fixed_lt = number_lt b.fixed fixed
+
+  laid_lt : number b.laid < 2 ^ 256
+  laid_lt = number_lt b.laid laid
 
   start_free : S.free_count (start_of b) ≡ free
   start_free = accepted_free b ts A fixed_lt laid_lt ∙ sym is_free

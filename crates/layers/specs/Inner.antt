@@ -1,6 +1,7 @@
 -- Definitions for the contracts of private functions: what the lent words hold while a layer grows, and what is answered from a layer on. No contract of a
 -- function that can be called from outside cites one. Assumes nothing.
-use Rattle.std.specs.Prelude.{◌≡◌, false, cond, ℕ, zero, suc, ◌+◌, ◌-◌, ◌*◌, ◌≤◌, eqb, leb, length}
+use Rattle.std.specs.Prelude.{Err, None, Ok, Option, Result, Some, Bool, ◌≡◌, false, cond, ℕ, zero, suc, ◌+◌, ◌-◌, ◌≤◌, eqb, leb, length}
+use Rattle.refusal.specs.declared.Refusal.{Refusal}
 use mathlib.Core.List.{List, [], ◌∷◌, Memᴰ as Mem}
 use Rattle.cells.specs.FirstsLaws.{Once}
 use Rattle.cells.specs.Lists.{list_of, set_at}
@@ -8,15 +9,9 @@ use Rattle.refusal.specs.Refusal.{Answer, refused, given, map_answer, bind_answe
 use Rattle.covers.specs.Setting.{Setting, child_boards, layer_of, layer_count_of}
 use Rattle.covers.specs.Counts.{Entry, boards, counts, full_count, shares, gather, layer, layer_count}
 use Rattle.covers.specs.Inner.{add_paths}
-use Rattle.path_count.specs.PathCounts.{count_room, count_in}
-use Rattle.tiles.specs.Paths.{paths_in}
-use Rattle.expansion.specs.Boards.{setting_of, Accepted}
-use Rattle.expansion.specs.Parts.{step_of}
-use Rattle.layers.specs.declared.layer.Layer.{Layer}
-use Rattle.layers.specs.declared.layer.Layer.TheVariants as L
-use Rattle.layers.specs.declared.from_layer.Setup.{Setup}
-use Rattle.layers.specs.declared.from_layer.Grown.{Grown}
-use Rattle.layers.specs.declared.from_layer.Grown.TheVariants as G
+use Rattle.path_count.specs.PathCounts.{count_in}
+use Rattle.expansion.specs.declared.plot.AcceptedPlot.{AcceptedPlot}
+use Rattle.expansion.specs.Boards.{setting_of}
 use Rattle.layers.specs.LayerCounts.{too_large, judge_layer, judge_layers}
 
 -- ---- a layer in lent words
@@ -27,35 +22,18 @@ unfolding set_at list_of
 entries_in bs cs n = list_of (λ i. (set_at bs i, count_in cs i)) n
 
 -- how many boards a layer has, and whether a count is too large; no room where its boards pass it
-unfoldable pub layer_state : ℕ → List (Entry ℕ) → Layer
+unfoldable pub layer_state : ℕ → List (Entry ℕ) → Option (ℕ × Bool)
 unfolding too_large
-layer_state room es = cond (leb (length es) room) (L.Boards (length es) (too_large (counts es))) L.NoRoom
-
--- the boards that a state tells
-abbrev pub boards_in : Layer → ℕ
-boards_in (L.Boards n over) = n
-boards_in L.NoRoom = 0
+layer_state room es = cond (leb (length es) room) (Some (length es, too_large (counts es))) None
 
 -- the words and the state of a layer that has become es: its boards while they have room, its counts while none is too large
-pub record HoldsLayer (room : ℕ) (bs cs : List ℕ) (layer : Layer) (es : List (Entry ℕ)) : Type 0 where
+pub record HoldsLayer (room : ℕ) (bs cs : List ℕ) (layer : Option (ℕ × Bool)) (es : List (Entry ℕ)) : Type 0 where
   pub state : layer ≡ layer_state room es
   pub boards : length es ≤ room → list_of (set_at bs) (length es) ≡ boards es
   pub counts : length es ≤ room → too_large (counts es) ≡ false → list_of (count_in cs) (length es) ≡ counts es
 
--- what an addition to a layer does, whatever the layer was: its boards stay within the room, and words and state are those of what is made of it
-abbrev pub AddsToLayer : ℕ → List ℕ → List ℕ → Layer → List ℕ → List ℕ → Layer → (List (Entry ℕ) → List (Entry ℕ)) → Type 0
-AddsToLayer room bs cs layer bs' cs' r add =
-    (boards_in r ≤ room) × ((es : List (Entry ℕ)) → HoldsLayer room bs cs layer es → HoldsLayer room bs' cs' r (add es))
-
--- the words hold so many boards and counts
-abbrev pub LayerLent : ℕ → List ℕ → List ℕ → Type 0
-LayerLent room bs cs = (4 * room ≤ length bs) × (room ≤ count_room (length cs))
-
--- a start and tiles that are not refused, with the cells that each piece covers, and their setting
-abbrev pub Tested : Setup → Type 0
-Tested p = Accepted p.board p.tiles × (p.size ≡ step_of (paths_in p.tiles))
-
-abbrev pub setting_in : Setup → Setting ℕ ℕ
+-- the setting of a start and tiles that have been tested
+abbrev pub setting_in : AcceptedPlot → Setting ℕ ℕ
 setting_in p = setting_of p.board p.tiles
 
 -- k paths more for each board of a list, in order
@@ -92,8 +70,8 @@ pub record Ready (S : Setting ℕ ℕ) (left : ℕ) (es : List (Entry ℕ)) : Ty
 
 -- a layer es has grown, by pieces of so many cells in all: the layer in the words is ready, and what is right from it on is right from es on; or the
 -- refusal is
-unfoldable pub Grows : Setting ℕ ℕ → ℕ → ℕ → ℕ → List (Entry ℕ) → List ℕ → List ℕ → Grown → Type 0
+unfoldable pub Grows : Setting ℕ ℕ → ℕ → ℕ → ℕ → List (Entry ℕ) → List ℕ → List ℕ → Result (ℕ × ℕ) Refusal → Type 0
 unfolding entries_in count_from
-Grows S room left laid es bs cs (G.Boards m rest) =
+Grows S room left laid es bs cs (Ok (m, rest)) =
     (rest ≡ left - laid) × Ready S rest (entries_in bs cs m) × ((x : Answer ℕ) → Right S room rest (entries_in bs cs m) x → Right S room left es x)
-Grows S room left laid es bs cs (G.Refused q) = Right S room left es (refused (refusal_number q))
+Grows S room left laid es bs cs (Err q) = Right S room left es (refused (refusal_number q))

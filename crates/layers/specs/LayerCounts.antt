@@ -1,6 +1,8 @@
 -- Definitions: what `count_tilings` answers and leaves in the lent words, for every input, and what demand 3 says of it. Layers and path counts are those
 -- of `covers`, by the children of a board. What stands in quotation marks is 01's, from its section on the layer count. Assumes nothing.
-use Rattle.std.specs.Prelude.{◌≡◌, Bool, cond, List, ℕ, zero, suc, eqb, leb, length, replicate}
+use Rattle.std.specs.Prelude.{Err, Ok, Result, ◌≡◌, Bool, cond, List, ℕ, zero, suc, eqb, leb, length, replicate}
+use Rattle.refusal.specs.declared.Refusal.{Refusal}
+use Rattle.path_count.specs.declared.PathCount.{PathCount}
 use Rattle.cells.specs.Lists.{any}
 use Rattle.tiles.specs.declared.Tiles.{Tiles}
 use Rattle.refusal.specs.Refusal.{Answer, refused, given, map_answer, bind_answer, refusal_number}
@@ -14,8 +16,6 @@ use Rattle.covers.specs.Counts.{Exactly, Entry, counts, layer, layer_count}
 use Rattle.path_count.specs.PathCounts.{count_limit, count_value}
 use Rattle.graph.specs.Graph.{layer_room}
 use Rattle.expansion.specs.Plots.{accept_plot, IsCutting, HasFreeCell, AllEdgeJoined}
-use Rattle.layers.specs.declared.Count.{Count}
-use Rattle.layers.specs.declared.Count.TheVariants as C
 
 -- whether one of some path counts "is 2^64 or more"
 unfoldable pub too_large : List ℕ → Bool
@@ -49,12 +49,12 @@ unfolding accept_plot bind_answer layer_count_for
 count_tilings b ts room = bind_answer (accept_plot b ts) (λ p. layer_count_for p.0 p.1 room)
 
 -- what `count_tilings` answers: a number, or a refusal
-abbrev pub count_answer : Count → Answer ℕ
-count_answer (C.Number n) = given (count_value n)
-count_answer (C.Refused r) = refused (refusal_number r)
+abbrev pub count_answer : Result PathCount Refusal → Answer ℕ
+count_answer (Ok n) = given (count_value n)
+count_answer (Err r) = refused (refusal_number r)
 
 -- what a call that counts in lent layers answers and leaves: "Lent layers and their count words are all zero on every return"
-pub record LeavesCount (a : Answer ℕ) (boardsA countsA boardsB countsB boardsA' countsA' boardsB' countsB' : List ℕ) (r : Count) : Type 0 where
+pub record LeavesCount (a : Answer ℕ) (boardsA countsA boardsB countsB boardsA' countsA' boardsB' countsB' : List ℕ) (r : Result PathCount Refusal) : Type 0 where
   pub answer : count_answer r ≡ a
   pub zero_boards_a : boardsA' ≡ replicate (length boardsA) 0
   pub zero_counts_a : countsA' ≡ replicate (length countsA) 0
@@ -62,11 +62,11 @@ pub record LeavesCount (a : Answer ℕ) (boardsA countsA boardsB countsB boardsA
   pub zero_counts_b : countsB' ≡ replicate (length countsB) 0
 
 -- `count_tilings`
-abbrev pub CountsTilings : RectangularBoard → Tiles → List ℕ → List ℕ → List ℕ → List ℕ → List ℕ → List ℕ → List ℕ → List ℕ → Count → Type 0
+abbrev pub CountsTilings : RectangularBoard → Tiles → List ℕ → List ℕ → List ℕ → List ℕ → List ℕ → List ℕ → List ℕ → List ℕ → Result PathCount Refusal → Type 0
 CountsTilings b ts boardsA countsA boardsB countsB =
     LeavesCount (count_tilings b ts (layer_room (length boardsA) (length countsA) (length boardsB) (length countsB))) boardsA countsA boardsB countsB
 
 -- demand 3 of `count_tilings`: a count that is given is the number of cuttings
-abbrev pub CountsCuttings : RectangularBoard → Tiles → Count → Type 0
+abbrev pub CountsCuttings : RectangularBoard → Tiles → Result PathCount Refusal → Type 0
 CountsCuttings b ts r =
     HasFreeCell (board_of b) → AllEdgeJoined (paths_in ts) → (n : ℕ) → count_answer r ≡ given n → Exactly n (IsCutting (board_of b) (paths_in ts))

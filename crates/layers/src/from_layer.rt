@@ -1,155 +1,96 @@
 // The count from a layer on, over two lent layers, which change places from layer to layer: a round
-// grows the second from the first and the first from the second. Private helpers; they ask that board
-// and tiles have been tested, and that the rooms are lent.
+// grows the second from the first and the first from the second. Private helpers.
 ghost use Rattle.std.specs.Prelude.{◌≡◌, cond, ◌+◌, ◌≤◌, ◌<◌, eqb, get_or};
 ghost use Rattle.cells.specs.Lists.{list_of};
-ghost use Rattle.refusal.specs.Refusal.{given};
-ghost use Rattle.path_count.specs.PathCounts.{count_in};
+ghost use Rattle.path_count.specs.PathCounts.{count_in, count_value};
 ghost use Rattle.layers.specs.LayerCounts.{count_answer};
-ghost use Rattle.layers.specs.Inner.{entries_in, LayerLent, Tested, setting_in, Right, Ready, Grows};
+ghost use Rattle.layers.specs.Inner.{setting_in, Right, Ready, Grows};
+ghost use Rattle.layers.specs.Layers.{SameWords, entries_of, grown_to};
 
 use crate::layer::Layer;
-use crate::{Count, layer};
-use board::RectangularBoard;
+use expansion::AcceptedPlot;
 use path_count::PathCount;
 use refusal::Refusal;
-use tiles::Tiles;
 
-// A start and tiles that have been tested, the number of cells that each piece covers, and the room of
-// a layer.
-#[derive(Clone, Copy, Drop)]
-pub struct Setup {
-    pub board: RectangularBoard,
-    pub tiles: Tiles,
-    pub size: usize,
-    pub room: usize,
-}
-
-// How many boards a layer has that has grown, and how many free cells each of them has; or the
-// refusal of a layer.
-#[derive(Clone, Copy, Drop)]
-enum Grown {
-    Boards(usize, usize),
-    Refused(Refusal),
-}
-
-// The count of a layer of n boards on which no piece can be laid: that of its one board if no cell
-// is left free, 0 if some are or if there is no board.
-fn last_count(counts: &[u64], n: usize, left: usize) -> Count
-    ensures { count_answer result ≡ given (cond (eqb left 0) (get_or (list_of (count_in counts.now) n) 0 0) 0) }
+// The count of a layer on which no piece can be laid: that of its one board if no cell is left free, 0
+// if some are or if there is no board.
+fn last_count(layer: &Layer<'_>, left: usize) -> PathCount
+    ensures { count_value result ≡ cond (eqb left 0) (get_or (list_of (count_in layer.now.counts.now) layer.now.len) 0 0) 0 }
 {
-    if 0 < left {
-        return Count::Number(PathCount::of_words(0, 0));
+    if 0 < left || layer.len == 0 {
+        return PathCount::of_words(0, 0);
     }
-    if n == 0 {
-        return Count::Number(PathCount::of_words(0, 0));
-    }
-    Count::Number(path_count::get(counts, 0))
+    layer.paths(0)
 }
 
-// The layer behind a layer of n boards, each of which has left free cells.
+// The layer behind a layer, each board of which has left free cells; how many its boards have.
 fn grow_once(
-    plot: Setup,
-    boards: &[u64],
-    counts: &[u64],
-    next_boards: &mut [u64],
-    next_counts: &mut [u64],
-    n: usize,
+    plot: AcceptedPlot,
+    layer: &Layer<'_>,
+    next: &mut Layer<'_>,
     left: usize,
-) -> Grown
-    requires { Tested plot × LayerLent plot.room next_boards.old next_counts.old × Ready (setting_in plot) left (entries_in boards.now counts.now n) × (plot.size ≤ left) }
-    ensures { Grows (setting_in plot) plot.room left plot.size (entries_in boards.now counts.now n) next_boards.new next_counts.new result }
+) -> Result<usize, Refusal>
+    requires { Ready (setting_in plot) left (entries_of layer.now) × (plot.size ≤ left) }
+    ensures same { SameWords next.old next.new }
+    ensures grows { Grows (setting_in plot) next.old.room left plot.size (entries_of layer.now) next.new.boards.now next.new.counts.now (grown_to result next.new) }
 {
-    let layer = layer::grow(
-        plot.board,
-        plot.tiles,
-        boards,
-        counts,
-        n,
-        next_boards,
-        next_counts,
-        plot.room,
-    );
-    let Layer::Boards(m, over) = layer else {
-        return Grown::Refused(Refusal::NoRoom);
+    let Some(()) = next.grow(plot, layer) else {
+        return Err(Refusal::NoRoom);
     };
-    if over {
-        return Grown::Refused(Refusal::CountTooLarge);
+    if next.over {
+        return Err(Refusal::CountTooLarge);
     }
-    Grown::Boards(m, left - plot.size)
+    Ok(left - plot.size)
 }
 
-// The second layer behind a layer of n boards, in its place; the one between stands in the next
-// words.
+// The second layer behind a layer, in its place; the one between stands in the next.
 fn grow_twice(
-    plot: Setup,
-    boards: &mut [u64],
-    counts: &mut [u64],
-    next_boards: &mut [u64],
-    next_counts: &mut [u64],
-    n: usize,
+    plot: AcceptedPlot,
+    layer: &mut Layer<'_>,
+    next: &mut Layer<'_>,
     left: usize,
-) -> Grown
-    requires { Tested plot × LayerLent plot.room boards.old counts.old × LayerLent plot.room next_boards.old next_counts.old × Ready (setting_in plot) left (entries_in boards.old counts.old n) × (plot.size + plot.size ≤ left) }
-    ensures { Grows (setting_in plot) plot.room left (plot.size + plot.size) (entries_in boards.old counts.old n) boards.new counts.new result }
+) -> Result<usize, Refusal>
+    requires { Ready (setting_in plot) left (entries_of layer.old) × (plot.size + plot.size ≤ left) × (layer.old.room ≡ next.old.room) }
+    ensures same { SameWords layer.old layer.new × SameWords next.old next.new }
+    ensures grows { Grows (setting_in plot) next.old.room left (plot.size + plot.size) (entries_of layer.old) layer.new.boards.now layer.new.counts.now (grown_to result layer.new) }
 {
-    let first = grow_once(plot, boards, counts, next_boards, next_counts, n, left);
-    match first {
-        Grown::Boards(m, rest) => {
-            grow_once(plot, next_boards, next_counts, boards, counts, m, rest)
-        }
-        Grown::Refused(refusal) => Grown::Refused(refusal),
-    }
+    let rest = grow_once(plot, layer, next, left)?;
+    grow_once(plot, next, layer, rest)
 }
 
-// The count from a layer of n boards on, behind which there is at most one more.
+// The count from a layer on, behind which there is at most one more.
 fn finish(
-    plot: Setup,
-    boards: &[u64],
-    counts: &[u64],
-    next_boards: &mut [u64],
-    next_counts: &mut [u64],
-    n: usize,
+    plot: AcceptedPlot,
+    layer: &Layer<'_>,
+    next: &mut Layer<'_>,
     left: usize,
-) -> Count
-    requires { Tested plot × LayerLent plot.room next_boards.old next_counts.old × Ready (setting_in plot) left (entries_in boards.now counts.now n) × (left < plot.size + plot.size) }
-    ensures { Right (setting_in plot) plot.room left (entries_in boards.now counts.now n) (count_answer result) }
+) -> Result<PathCount, Refusal>
+    requires { Ready (setting_in plot) left (entries_of layer.now) × (left < plot.size + plot.size) }
+    ensures same { SameWords next.old next.new }
+    ensures answer { Right (setting_in plot) next.old.room left (entries_of layer.now) (count_answer result) }
 {
     if left < plot.size {
-        return last_count(counts, n, left);
+        return Ok(last_count(layer, left));
     }
-    let grown = grow_once(plot, boards, counts, next_boards, next_counts, n, left);
-    match grown {
-        Grown::Boards(m, rest) => last_count(next_counts, m, rest),
-        Grown::Refused(refusal) => Count::Refused(refusal),
-    }
+    let rest = grow_once(plot, layer, next, left)?;
+    Ok(last_count(next, rest))
 }
 
-// The count from a layer of n boards on, each of which has left free cells.
+// The count from a layer on, each board of which has left free cells.
 pub fn run(
-    plot: Setup,
-    boards: &mut [u64],
-    counts: &mut [u64],
-    next_boards: &mut [u64],
-    next_counts: &mut [u64],
-    n: usize,
+    plot: AcceptedPlot,
+    layer: &mut Layer<'_>,
+    next: &mut Layer<'_>,
     left: usize,
-) -> Count
-    requires { Tested plot × LayerLent plot.room boards.old counts.old × LayerLent plot.room next_boards.old next_counts.old × Ready (setting_in plot) left (entries_in boards.old counts.old n) }
-    ensures { Right (setting_in plot) plot.room left (entries_in boards.old counts.old n) (count_answer result) }
+) -> Result<PathCount, Refusal>
+    requires { Ready (setting_in plot) left (entries_of layer.old) × (layer.old.room ≡ next.old.room) }
+    ensures same { SameWords layer.old layer.new × SameWords next.old next.new }
+    ensures answer { Right (setting_in plot) next.old.room left (entries_of layer.old) (count_answer result) }
 {
-    let mut here = n;
     let mut free = left;
     // while two more layers can be laid
     while plot.size <= free / 2 {
-        let grown = grow_twice(plot, boards, counts, next_boards, next_counts, here, free);
-        match grown {
-            Grown::Boards(m, rest) => {
-                here = m;
-                free = rest;
-            }
-            Grown::Refused(refusal) => return Count::Refused(refusal),
-        }
+        free = grow_twice(plot, layer, next, free)?;
     }
-    finish(plot, boards, counts, next_boards, next_counts, here, free)
+    finish(plot, layer, next, free)
 }

@@ -18,13 +18,6 @@ mod counting;
 mod from_layer;
 mod layer;
 
-// The path count of the full board, or a refusal.
-#[derive(Clone, Copy, Drop)]
-pub enum Count {
-    Number(PathCount),
-    Refused(Refusal),
-}
-
 // The number of child sequences that reach the full board, layer by layer. Two layers are lent, each
 // as boards, four words a board, and counts; all their words are zero afterwards. The room is the
 // least number of boards that the four slices hold, at most 16,777,216. Refusals: 4, 6, 5, 7; then,
@@ -38,7 +31,7 @@ pub fn count_tilings(
     counts_a: &mut [u64],
     boards_b: &mut [u64],
     counts_b: &mut [u64],
-) -> Count
+) -> Result<PathCount, Refusal>
     ensures answer { CountsTilings board tiles boards_a.old counts_a.old boards_b.old counts_b.old boards_a.new counts_a.new boards_b.new counts_b.new result }
     ensures cuttings { CountsCuttings board tiles result }
 {

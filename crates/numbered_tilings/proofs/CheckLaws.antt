@@ -17,7 +17,7 @@ use Rattle.covers.specs.Inner.{share}
 use Rattle.covers.proofs.WalkLaws.{share_same, share_other, sum_parents_of}
 use Rattle.path_count.specs.PathCounts.{count_limit, count_in}
 use Rattle.graph.specs.declared.GraphResult.{GraphResult}
-use Rattle.graph.specs.Graph.{node_room, edge_room, edge_at, complete_node}
+use Rattle.graph.specs.Graph.{node_room, edge_room, edge_at}
 use Rattle.graph.proofs.RoomLaws.{edge_room_lem}
 use Rattle.graph.proofs.GraphLaws.{edges_in_lent}
 use Rattle.numbered_tilings.specs.Tilings.{is_past, bad_edge, sound_count, bad_count, bad_graph}
@@ -86,12 +86,12 @@ module _ (counts edges : List ℕ) (v : ℕ) where
     sum_added next g = let more = sum_more (share (count_in counts) v) (edge_at edges) i in omega arith
 
     -- a sum that is too large is no count's
-    pub sum_passes : count_in counts v < count_limit → (count : ℕ) → 1 ≤ v → i < count → count_limit ≤ sum + s
+    pub sum_passes : (r : ℕ) → r ≡ count_in counts v → r < count_limit → (count : ℕ) → 1 ≤ v → i < count → count_limit ≤ sum + s
         → true ≡ bad_count (list_of (edge_at edges) count) (count_in counts) v
-    sum_passes fits count h k w =
+    sum_passes r q fits count h k w =
         let more = sum_more (share (count_in counts) v) (edge_at edges) i in
         let grows = sum_grows (share (count_in counts) v) (edge_at edges) (i + 1) count (omega arith) in
-        sym (bad_sum count h ∙ ap not (ne_eqb (count_in counts v) (sum_to count) (λ q. omega arith)))
+        sym (bad_sum count h ∙ ap not (ne_eqb (count_in counts v) (sum_to count) (λ d. omega arith)))
 
 -- ---- the first node
 
@@ -127,7 +127,7 @@ module _ (r : GraphResult) (nodes : ℕ) (counts edges : List ℕ) where
       module _ (within : r.edges ≤ edges_room) where
         -- the edges that the result tells are lent, so three causes are left
         causes_left : bad_graph r nodes counts edges
-            ≡ (is_past r.nodes (complete_node r.complete)
+            ≡ (is_past r.nodes r.complete
             || any (bad_edge r.nodes) (list_of (edge_at edges) r.edges)
             || any (bad_count (list_of (edge_at edges) r.edges) (count_in counts)) (list_of (λ v. v) r.nodes))
         unfolding bad_graph
@@ -139,10 +139,10 @@ module _ (r : GraphResult) (nodes : ℕ) (counts edges : List ℕ) where
               edges_in_lent edges r.edges (edges_lent_lem (length edges) r.edges edges_room is-edges-room within),
             )
 
-        pub full_past_lem : is_past r.nodes (complete_node r.complete) ≡ true → true ≡ bad_graph r nodes counts edges
+        pub full_past_lem : is_past r.nodes r.complete ≡ true → true ≡ bad_graph r nodes counts edges
         full_past_lem e = sym (causes_left ∙ rw e)
 
-        module _ (below : is_past r.nodes (complete_node r.complete) ≡ false) where
+        module _ (below : is_past r.nodes r.complete ≡ false) where
           pub edge_bad : any (bad_edge r.nodes) (list_of (edge_at edges) r.edges) ≡ true → true ≡ bad_graph r nodes counts edges
           edge_bad e = sym (causes_left ∙ rw (below, e))
 

@@ -1,12 +1,13 @@
 -- Laws of the tiling by number: what a graph that is not refused by 11 has, and what the answer says. Rests on `Tilings` and covers' laws of the walk.
 -- Assumes nothing.
-use Rattle.std.specs.Prelude.{◌≡◌, ◌↔◌, Bool, not, cond, ◌||◌, eqb, take}
+use Rattle.refusal.specs.declared.Refusal.{Refusal}
+use Rattle.std.specs.Prelude.{◌≡◌, ◌↔◌, Bool, not, cond, ◌||◌, eqb, take, Result, Option, None, Some}
 use Rattle.std.proofs.Math.Path.{refl}
 use Rattle.std.proofs.Common.{sym, ap, ◌∙◌, subst, arith, pow_pos}
 use Rattle.std.proofs.Math.Bool.{true, false}
 use Rattle.std.proofs.lemmas.Bool.{false≢true}
 use mathlib.Core.List.{List, [], Memᴰ as Mem}
-use Rattle.std.proofs.Math.Option.{Option, none, some, none-ne-some, some-injective}
+use Rattle.cells.specs.OptionLaws.{none-ne-some, some-injective}
 use Prim.Native.Nat.{ℕ, zero, suc, ◌-◌, ◌≤◌, ◌<◌, min}
 use Rattle.std.proofs.Math.Decide.{dec_lt}
 use borrow.Author.Tests.{leb-true, leb-false, lt-leb, le-leb, ltb-true, ltb-false, lt-ltb, le-ltb, eqb-true, eqb-false, eq-eqb, ne_eqb, not-false}
@@ -16,7 +17,7 @@ use Rattle.cells.specs.WordLaws.{Small}
 use Rattle.cells.specs.Lists.{any, list_of, padded}
 use Rattle.cells.specs.FirstsLaws.{any_true, any_some}
 use Rattle.cells.specs.MemberLaws.{mem_list_of}
-use Rattle.refusal.specs.Refusal.{Answer, refused, given, map_answer, value_or}
+use Rattle.refusal.specs.Refusal.{Answer, refused, given, map_answer, value_or, answer_of}
 use Rattle.refusal.specs.RefusalLaws.{refused_given, given_inj}
 use Rattle.covers.specs.Setting.{SumRule}
 use Rattle.covers.specs.Counts.{Chain, sum_of, parents_of, node_list_to, at_node}
@@ -24,17 +25,16 @@ use Rattle.covers.proofs.WalkLaws.{tiling_chain}
 use Rattle.path_count.specs.PathCounts.{count_limit, count_in}
 use Rattle.path_count.specs.PathCountLaws.{count_in_small}
 use Rattle.graph.specs.declared.GraphResult.{GraphResult}
-use Rattle.graph.specs.Graph.{node_room, edge_room, edges_in, complete_node, count_from_graph}
+use Rattle.graph.specs.Graph.{node_room, edge_room, edges_in, count_from_graph}
 use Rattle.graph.proofs.GraphLaws.{take_padded}
-use Rattle.numbered_tilings.specs.declared.Tiling.{Tiling}
-use Rattle.numbered_tilings.specs.Tilings.{is_past, bad_edge, sound_count, bad_count, bad_graph, node_list_in, tiling_by_number, tiling_answer, GivesTiling, GivesChain}
+use Rattle.numbered_tilings.specs.Tilings.{is_past, bad_edge, sound_count, bad_count, bad_graph, node_list_in, tiling_by_number, GivesTiling, GivesChain}
 
 -- none of the causes of refusal 11 stands
 pub record SoundGraph (r : GraphResult) (node_words : ℕ) (counts edges : List ℕ) : Type 0 where
   pub some_nodes : 0 < r.nodes
   pub nodes_lent : r.nodes ≤ node_room node_words (length counts)
   pub edges_lent : r.edges ≤ edge_room (length edges)
-  pub full_below : (v : ℕ) → complete_node r.complete ≡ some v → v < r.nodes
+  pub full_below : (v : ℕ) → r.complete ≡ Some v → v < r.nodes
   pub sums : SumRule r.nodes (edges_in edges r.edges) (count_in counts)
 
 -- ---- the causes of refusal 11, one by one
@@ -59,10 +59,10 @@ module _ {A : Type 0} (p : A → Bool) (xs : List A) where
       go true f = let r = any_some p xs f in absurd (false≢true (sym (h r.0 r.1) ∙ r.2))
       go false f = f
 
-full_below_lem : (n : ℕ) (complete : Option ℕ) → (is_past n complete ≡ false) ↔ ((v : ℕ) → complete ≡ some v → v < n)
+full_below_lem : (n : ℕ) (complete : Option ℕ) → (is_past n complete ≡ false) ↔ ((v : ℕ) → complete ≡ Some v → v < n)
 unfolding is_past
-full_below_lem n none = (λ e v q. absurd (none-ne-some v q), λ h. refl)
-full_below_lem n (some u) = (λ e v q. let l = leb-false n u e in let s = some-injective u v q in omega arith, λ h. lt-leb n u (h u refl))
+full_below_lem n None = (λ e v q. absurd (none-ne-some v q), λ h. refl)
+full_below_lem n (Some u) = (λ e v q. let l = leb-false n u e in let s = some-injective u v q in omega arith, λ h. lt-leb n u (h u refl))
 
 edge_rises : (n : ℕ) (e : ℕ × ℕ) → (bad_edge n e ≡ false) ↔ ((e.0 < e.1) × (e.1 < n))
 unfolding bad_edge
@@ -122,7 +122,7 @@ module _ (r : GraphResult) (node_words : ℕ) (counts edges : List ℕ) where
   edges_pass = ltb (edge_room (length edges)) r.edges
 
   abbrev full_past : Bool
-  full_past = is_past r.nodes (complete_node r.complete)
+  full_past = is_past r.nodes r.complete
 
   abbrev some_edge_bad : Bool
   some_edge_bad = any (bad_edge r.nodes) (edges_in edges r.edges)
@@ -143,7 +143,7 @@ module _ (r : GraphResult) (node_words : ℕ) (counts edges : List ℕ) where
         some_nodes = some-nodes;
         nodes_lent = ltb-false (node_room node_words (length counts)) r.nodes b.1;
         edges_lent = ltb-false (edge_room (length edges)) r.edges c.1;
-        full_below = (full_below_lem r.nodes (complete_node r.complete)).0 d.1;
+        full_below = (full_below_lem r.nodes r.complete).0 d.1;
         sums = rule_holds r.nodes (edges_in edges r.edges) (count_in counts) e.1 f.1 some-nodes;
       }
 
@@ -154,7 +154,7 @@ module _ (r : GraphResult) (node_words : ℕ) (counts edges : List ℕ) where
         ne_eqb r.nodes 0 (λ e. omega (arith, s.some_nodes)),
         le-ltb (node_room node_words (length counts)) r.nodes s.nodes_lent,
         le-ltb (edge_room (length edges)) r.edges s.edges_lent,
-        (full_below_lem r.nodes (complete_node r.complete)).1 s.full_below,
+        (full_below_lem r.nodes r.complete).1 s.full_below,
         edges_rise r.nodes (edges_in edges r.edges) (count_in counts) s.sums,
       )
       (counts_sound r.nodes (edges_in edges r.edges) (count_in counts) s.sums)
@@ -163,42 +163,42 @@ module _ (r : GraphResult) (node_words : ℕ) (counts edges : List ℕ) where
 
 module _ (r : GraphResult) (node_words : ℕ) (counts edges : List ℕ) (m room : ℕ) where
   -- where no cause of refusal stands, the node list is given
-  pub tiling_given : bad_graph r node_words counts edges ≡ false → m < count_from_graph (complete_node r.complete) counts
+  pub tiling_given : bad_graph r node_words counts edges ≡ false → m < count_from_graph r.complete counts
       → length (node_list_in r counts edges m) ≤ room → tiling_by_number r node_words counts edges m room ≡ given (node_list_in r counts edges m)
   unfolding tiling_by_number
   tiling_given sound below long =
-      rw (sound, lt-ltb m (count_from_graph (complete_node r.complete) counts) below, le-leb (length (node_list_in r counts edges m)) room long)
+      rw (sound, lt-ltb m (count_from_graph r.complete counts) below, le-leb (length (node_list_in r counts edges m)) room long)
 
   -- m is not below the graph count: it is refused, by 11 or 12
-  pub tiling_none : count_from_graph (complete_node r.complete) counts ≤ m
+  pub tiling_none : count_from_graph r.complete counts ≤ m
       → tiling_by_number r node_words counts edges m room ≡ cond (bad_graph r node_words counts edges) (refused 11) (refused 12)
   unfolding tiling_by_number
-  tiling_none h = rw (le-ltb m (count_from_graph (complete_node r.complete) counts) h)
+  tiling_none h = rw (le-ltb m (count_from_graph r.complete counts) h)
 
   -- and only there is a length told
   pub told_tiling : (size : ℕ) → map_answer length (tiling_by_number r node_words counts edges m room) ≡ given size
-      → (bad_graph r node_words counts edges ≡ false) × (m < count_from_graph (complete_node r.complete) counts)
+      → (bad_graph r node_words counts edges ≡ false) × (m < count_from_graph r.complete counts)
       × (length (node_list_in r counts edges m) ≤ room) × (length (node_list_in r counts edges m) ≡ size)
   unfolding tiling_by_number map_answer
   told_tiling size e =
-      go (bad_graph r node_words counts edges) refl (ltb m (count_from_graph (complete_node r.complete) counts)) refl (leb (length (node_list_in r counts edges m)) room) refl e
+      go (bad_graph r node_words counts edges) refl (ltb m (count_from_graph r.complete counts)) refl (leb (length (node_list_in r counts edges m)) room) refl e
     where
-      go : (s : Bool) → bad_graph r node_words counts edges ≡ s → (t : Bool) → ltb m (count_from_graph (complete_node r.complete) counts) ≡ t
+      go : (s : Bool) → bad_graph r node_words counts edges ≡ s → (t : Bool) → ltb m (count_from_graph r.complete counts) ≡ t
           → (u : Bool) → leb (length (node_list_in r counts edges m)) room ≡ u
           → map_answer length (cond s (refused 11) (cond t (cond u (given (node_list_in r counts edges m)) (refused 8)) (refused 12))) ≡ given size
-          → (bad_graph r node_words counts edges ≡ false) × (m < count_from_graph (complete_node r.complete) counts)
+          → (bad_graph r node_words counts edges ≡ false) × (m < count_from_graph r.complete counts)
           × (length (node_list_in r counts edges m) ≤ room) × (length (node_list_in r counts edges m) ≡ size)
       go true p t q u w h = absurd (refused_given 11 size h)
       go false p false q u w h = absurd (refused_given 12 size h)
       go false p true q false w h = absurd (refused_given 8 size h)
       go false p true q true w h =
-          (p, ltb-true m (count_from_graph (complete_node r.complete) counts) q, leb-true (length (node_list_in r counts edges m)) room w, given_inj (length (node_list_in r counts edges m)) size h)
+          (p, ltb-true m (count_from_graph r.complete counts) q, leb-true (length (node_list_in r counts edges m)) room w, given_inj (length (node_list_in r counts edges m)) size h)
 
 -- a graph count is below the limit
 pub graph_count_fits : (complete : Option ℕ) (counts : List ℕ) → Small counts → count_from_graph complete counts < count_limit
 unfolding count_from_graph at_node
-graph_count_fits none counts small = pow_pos 64
-graph_count_fits (some v) counts small = count_in_small counts small v
+graph_count_fits None counts small = pow_pos 64
+graph_count_fits (Some v) counts small = count_in_small counts small v
 
 -- and so a number that is too large for a count is refused as the largest count is
 pub number_capped : (r : GraphResult) (node_words : ℕ) (counts edges : List ℕ) (m room : ℕ) → Small counts
@@ -208,14 +208,14 @@ number_capped r node_words counts edges m room small = go (dec_lt m count_limit)
     go : Dec (m < count_limit) → tiling_by_number r node_words counts edges (min m (count_limit - 1)) room ≡ tiling_by_number r node_words counts edges m room
     go (yes h) = let e : min m (count_limit - 1) ≡ m = omega arith in ap (λ (k : ℕ). tiling_by_number r node_words counts edges k room) e
     go (no h) =
-        tiling_none r node_words counts edges (min m (count_limit - 1)) room (omega (arith, graph_count_fits (complete_node r.complete) counts small))
-        ∙ sym (tiling_none r node_words counts edges m room (omega (arith, graph_count_fits (complete_node r.complete) counts small)))
+        tiling_none r node_words counts edges (min m (count_limit - 1)) room (omega (arith, graph_count_fits r.complete counts small))
+        ∙ sym (tiling_none r node_words counts edges m room (omega (arith, graph_count_fits r.complete counts small)))
 
 -- the list is read from the output
-pub list_read : (r : GraphResult) (nodes counts edges : List ℕ) (m : ℕ) (out out' : List ℕ) (t : Tiling) → GivesTiling r nodes counts edges m out out' t
-    → bad_graph r (length nodes) counts edges ≡ false → m < count_from_graph (complete_node r.complete) counts
+pub list_read : (r : GraphResult) (nodes counts edges : List ℕ) (m : ℕ) (out out' : List ℕ) (t : Result ℕ Refusal) → GivesTiling r nodes counts edges m out out' t
+    → bad_graph r (length nodes) counts edges ≡ false → m < count_from_graph r.complete counts
     → length (node_list_in r counts edges m) ≤ length out
-    → (tiling_answer t ≡ given (length (node_list_in r counts edges m))) × (take (length (node_list_in r counts edges m)) out' ≡ node_list_in r counts edges m)
+    → (answer_of t ≡ given (length (node_list_in r counts edges m))) × (take (length (node_list_in r counts edges m)) out' ≡ node_list_in r counts edges m)
 unfolding map_answer value_or
 list_read r nodes counts edges m out out' t g sound below long =
     let e = tiling_given r (length nodes) counts edges m (length out) sound below long in (
@@ -225,19 +225,19 @@ list_read r nodes counts edges m out out' t g sound below long =
     )
 
 -- where a list is given, it is a chain of stored edges from node 0 to the full node
-pub given_chain : (r : GraphResult) (nodes counts edges : List ℕ) (m : ℕ) (out out' : List ℕ) (t : Tiling) → GivesTiling r nodes counts edges m out out' t
+pub given_chain : (r : GraphResult) (nodes counts edges : List ℕ) (m : ℕ) (out out' : List ℕ) (t : Result ℕ Refusal) → GivesTiling r nodes counts edges m out out' t
     → GivesChain r edges out' t
 unfolding map_answer count_from_graph at_node node_list_in
 given_chain r nodes counts edges m out out' t g k e =
     let w = told_tiling r (length nodes) counts edges m (length out) k (sym g.answer ∙ e) in
     let list = list_read r nodes counts edges m out out' t g w.0 w.1 w.2 in
-    let c = chain (complete_node r.complete) refl (not_bad_sound r (length nodes) counts edges w.0) w.1 in
+    let c = chain r.complete refl (not_bad_sound r (length nodes) counts edges w.0) w.1 in
     (c.0, c.1, subst (Chain (λ p c. Mem (p, c) (edges_in edges r.edges)) 0 c.0) (sym (ap (λ (n : ℕ). take n out') (sym w.3) ∙ list.1)) c.2)
   where
-    chain : (o : Option ℕ) → complete_node r.complete ≡ o → SoundGraph r (length nodes) counts edges → m < at_node (count_in counts) o
-        → (v : ℕ) × (complete_node r.complete ≡ some v) × Chain (λ p c. Mem (p, c) (edges_in edges r.edges)) 0 v (node_list_in r counts edges m)
-    chain none q S l = absurd (omega arith)
-    chain (some v) q S l = (
+    chain : (o : Option ℕ) → r.complete ≡ o → SoundGraph r (length nodes) counts edges → m < at_node (count_in counts) o
+        → (v : ℕ) × (r.complete ≡ Some v) × Chain (λ p c. Mem (p, c) (edges_in edges r.edges)) 0 v (node_list_in r counts edges m)
+    chain None q S l = absurd (omega arith)
+    chain (Some v) q S l = (
       v,
       q,
       subst (λ (o : Option ℕ). Chain (λ p c. Mem (p, c) (edges_in edges r.edges)) 0 v (node_list_to (edges_in edges r.edges) (count_in counts) (at_node (λ v. v) o) m)) (sym q)

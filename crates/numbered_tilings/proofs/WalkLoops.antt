@@ -3,7 +3,7 @@
 use mathlib.Core.Path.{◌≡◌, refl, sym, ap, ◌∙◌, subst}
 use mathlib.Core.Bool.{Bool, true, false, cond}
 use mathlib.Core.List.{List, [], ◌∷◌, ◌++◌}
-use mathlib.Core.Option.{Option, none, some}
+use Rattle.std.specs.Prelude.{Option, None, Some, Result, Ok, Err, unwrap_or}
 use Prim.Native.Nat.{ℕ, zero, suc, ◌+◌, ◌-◌, ◌*◌, ◌≤◌, ◌<◌}
 use native.Mathlib.Nat.{sub-zero}
 use native.Mathlib.Numerals.{add-one}
@@ -16,7 +16,7 @@ use lib.Seq.{get_or-append_seam, get_or-set_same, get_or-set_other}
 use Rattle.cells.specs.Lists.{list_from, list_of, padded}
 use Rattle.cells.specs.Parts.{cleared_from}
 use Rattle.cells.specs.ArrayLaws.{get_d_snoc}
-use Rattle.refusal.specs.Refusal.{Answer, refused, given, map_answer, value_or}
+use Rattle.refusal.specs.Refusal.{Answer, refused, given, map_answer, value_or, answer_of}
 use Rattle.refusal.specs.RefusalLaws.{refused_value}
 use Rattle.refusal.specs.declared.Refusal.{Refusal}
 use Rattle.covers.specs.Counts.{parents_of, turn, node_list_to, at_node}
@@ -25,13 +25,11 @@ use Rattle.covers.specs.Inner.{share}
 use Rattle.covers.proofs.WalkLaws.{turn_pass, turn_hit, walk_first, tiling_next, back_in}
 use Rattle.path_count.specs.PathCounts.{count_in}
 use Rattle.graph.specs.declared.GraphResult.{GraphResult}
-use Rattle.numbered_tilings.specs.declared.Tiling.{Tiling}
-use Rattle.numbered_tilings.specs.declared.Tiling.TheVariants as T
 use Rattle.graph.proofs.RoomLaws.{edge_room_lem}
-use Rattle.graph.specs.Graph.{edge_at, edges_in, complete_node, count_from_graph}
+use Rattle.graph.specs.Graph.{edge_at, edges_in, count_from_graph}
 use Rattle.graph.proofs.GraphLaws.{edges_in_lent, cleared_numbers}
 use Rattle.numbered_tilings.specs.Inner.{walked, Walkable}
-use Rattle.numbered_tilings.specs.Tilings.{bad_graph, node_list_in, tiling_by_number, tiling_answer, GivesTiling, GivesChain}
+use Rattle.numbered_tilings.specs.Tilings.{bad_graph, node_list_in, tiling_by_number, GivesTiling, GivesChain}
 use Rattle.numbered_tilings.proofs.TilingLaws.{SoundGraph, not_bad_sound, tiling_given, told_tiling, given_chain}
 
 -- ---- the turn among the edges from i on, of n
@@ -201,21 +199,27 @@ module _ (n : ℕ) (es : List (ℕ × ℕ)) (count : ℕ → ℕ) (S : SumRule n
             first : node_list_to es count v left ≡ 0 ∷ []
             first = tiling_first v left z
 
-            none : k ≡ at → k ≡ 0
-            none q = omega (arith, h.place, ap length first)
+            zeroth : k ≡ at → k ≡ 0
+            zeroth q = omega (arith, h.place, ap length first)
 
             go : Dec (k ≡ at) → get_or (set out at 0) k 0 ≡ get_or (node_list_to es count last m) k 0
             go (yes q) =
                 ap (λ (x : ℕ). get_or (set out at 0) x 0) q
                 ∙ get_or-set_same out at 0 0 place_lent
-                ∙ sym (h.front k (omega arith) ∙ ap (λ (ns : List ℕ). get_or ns k 0) first ∙ ap (λ (x : ℕ). get_or (0 ∷ []) x 0) (none q))
+                ∙ sym (h.front k (omega arith) ∙ ap (λ (ns : List ℕ). get_or ns k 0) first ∙ ap (λ (x : ℕ). get_or (0 ∷ []) x 0) (zeroth q))
             go (no q) = get_or-set_other out at k 0 0 q ∙ h.behind k (omega (arith, h.place, ap length first)) l
 
 -- ---- the answer
 
+-- the node at which a list ends: the full board's, 0 with none
+last_node : (complete : Option ℕ) → unwrap_or complete 0 ≡ at_node (λ v. v) complete
+unfolding at_node
+last_node None = refl
+last_node (Some v) = refl
+
 module _ (r : GraphResult) (node_words : ℕ) (counts edges : List ℕ) (m : ℕ) where
   abbrev full : Option ℕ
-  full = complete_node r.complete
+  full = r.complete
 
   -- the answer to be told, for an output of so many words
   abbrev answer : ℕ → Answer ℕ
@@ -229,7 +233,7 @@ module _ (r : GraphResult) (node_words : ℕ) (counts edges : List ℕ) (m : ℕ
     sound_graph : SoundGraph r node_words counts edges
     sound_graph = not_bad_sound r node_words counts edges sound
 
-    edges_lent_lem : 2 * r.edges ≤ length edges
+    pub edges_lent_lem : 2 * r.edges ≤ length edges
     edges_lent_lem = edge_room_lem r.edges (length edges) sound_graph.edges_lent
 
     edges_all : edges_in edges r.edges ≡ list_of (edge_at edges) r.edges
@@ -240,12 +244,15 @@ module _ (r : GraphResult) (node_words : ℕ) (counts edges : List ℕ) (m : ℕ
       unfolding tiling_by_number map_answer
       answers_none room h = rw (sound, le-ltb m (count_from_graph full counts) (omega (arith, t)))
 
-      module _ (h : m < count) (last : ℕ) (e : last ≡ at_node (λ v. v) full) where
+      module _ (h : m < count) (last : ℕ) (told : last ≡ unwrap_or full 0) where
+        e : last ≡ at_node (λ v. v) full
+        e = told ∙ last_node full
+
         at_full : (o : Option ℕ) → full ≡ o → m < at_node (count_in counts) o
             → (at_node (λ v. v) o < r.nodes) × (m < count_in counts (at_node (λ v. v) o))
         unfolding at_node
-        at_full none q l = absurd (omega arith)
-        at_full (some v) q l = (sound_graph.full_below v q, l)
+        at_full None q l = absurd (omega arith)
+        at_full (Some v) q l = (sound_graph.full_below v q, l)
 
         pub walkable : Walkable counts edges r.edges r.nodes last m
         unfolding count_from_graph
@@ -275,29 +282,29 @@ module _ (r : GraphResult) (node_words : ℕ) (counts edges : List ℕ) (m : ℕ
           answers_given q = ap given long ∙ sym (ap (map_answer length) (tiling_given r node_words counts edges m room sound (omega (arith, t)) (omega (arith, long))))
 
 -- what the list is follows from the answer and the words
-with_chain : (r : GraphResult) (nodes counts edges : List ℕ) (m : ℕ) (out out' : List ℕ) (t : Tiling) → GivesTiling r nodes counts edges m out out' t
+with_chain : (r : GraphResult) (nodes counts edges : List ℕ) (m : ℕ) (out out' : List ℕ) (t : Result ℕ Refusal) → GivesTiling r nodes counts edges m out out' t
     → GivesTiling r nodes counts edges m out out' t × GivesChain r edges out' t
 with_chain r nodes counts edges m out out' t g = (g, given_chain r nodes counts edges m out out' t g)
 
 -- ---- `tiling_by_number`: so many nodes are told, or a refusal
 
-module _ (r : GraphResult) (nodes counts edges : List ℕ) (m : ℕ) (old : List ℕ) (t : Tiling)
-    (told : tiling_answer t ≡ answer r (length nodes) counts edges m (length old)) where
-  pub gives_none : (q : Refusal) → t ≡ T.Refused q → (new : List ℕ) → new ≡ cleared_from 0 old → GivesTiling r nodes counts edges m old new t × GivesChain r edges new t
+module _ (r : GraphResult) (nodes counts edges : List ℕ) (m : ℕ) (old : List ℕ) (t : Result ℕ Refusal)
+    (told : answer_of t ≡ answer r (length nodes) counts edges m (length old)) where
+  pub gives_none : (q : Refusal) → t ≡ Err q → (new : List ℕ) → new ≡ cleared_from 0 old → GivesTiling r nodes counts edges m old new t × GivesChain r edges new t
   gives_none q e new f =
-      let none = refused_value length (tiling_by_number r (length nodes) counts edges m (length old)) _ [] (sym (ap tiling_answer e) ∙ told) in
-      with_chain r nodes counts edges m old new t record { answer = told; words = rw none (f ∙ cleared_numbers old [] (omega arith) (λ k a. absurd (omega arith))) }
+      let empty = refused_value length (tiling_by_number r (length nodes) counts edges m (length old)) _ [] (sym (ap answer_of e) ∙ told) in
+      with_chain r nodes counts edges m old new t record { answer = told; words = rw empty (f ∙ cleared_numbers old [] (omega arith) (λ k a. absurd (omega arith))) }
 
-  module _ (size : ℕ) (e : t ≡ T.Length size) where
-    tests : (bad_graph r (length nodes) counts edges ≡ false) × (m < count_from_graph (complete_node r.complete) counts)
+  module _ (size : ℕ) (e : t ≡ Ok size) where
+    tests : (bad_graph r (length nodes) counts edges ≡ false) × (m < count_from_graph r.complete counts)
         × (length (node_list_in r counts edges m) ≤ length old) × (length (node_list_in r counts edges m) ≡ size)
-    tests = told_tiling r (length nodes) counts edges m (length old) size (sym told ∙ ap tiling_answer e)
+    tests = told_tiling r (length nodes) counts edges m (length old) size (sym told ∙ ap answer_of e)
 
     value : value_or [] (tiling_by_number r (length nodes) counts edges m (length old)) ≡ node_list_in r counts edges m
     unfolding value_or
     value = ap (value_or []) (tiling_given r (length nodes) counts edges m (length old) tests.0 tests.1 tests.2)
 
-    module _ (last : ℕ) (f : last ≡ at_node (λ v. v) (complete_node r.complete)) where
+    module _ (last : ℕ) (f : last ≡ unwrap_or r.complete 0) where
       abbrev list : List ℕ
       list = walked counts edges r.edges last m
 
@@ -315,10 +322,10 @@ module _ (r : GraphResult) (nodes counts edges : List ℕ) (m : ℕ) (old : List
       told_writable = (walkable r (length nodes) counts edges m tests.0 _ refl tests.1 last f, told_long, told_room)
 
       pub gives_list : (mid new : List ℕ) → length mid ≡ length old → ((k : ℕ) → k < size → get_or mid k 0 ≡ get_or list k 0)
-          → new ≡ cleared_from size mid → GivesTiling r nodes counts edges m old new (T.Length size) × GivesChain r edges new (T.Length size)
+          → new ≡ cleared_from size mid → GivesTiling r nodes counts edges m old new (Ok size) × GivesChain r edges new (Ok size)
       gives_list mid new l h g =
-          with_chain r nodes counts edges m old new (T.Length size) record {
-            answer = sym (ap tiling_answer e) ∙ told;
+          with_chain r nodes counts edges m old new (Ok size) record {
+            answer = sym (ap answer_of e) ∙ told;
             words =
                 g
                 ∙ ap (λ (k : ℕ). cleared_from k mid) told_long

@@ -1,23 +1,21 @@
 -- Definitions: the tiling by number of any graph words and any result. What stands in quotation marks is 01's, from its section Tiling by number; the
 -- walk itself is `node_list_to` of covers' `Counts`. Assumes nothing.
-use Rattle.std.specs.Prelude.{◌≡◌, Bool, false, not, cond, ◌||◌, ℕ, zero, suc, eqb, ltb, leb, length, take}
+use Rattle.refusal.specs.declared.Refusal.{Refusal}
+use Rattle.std.specs.Prelude.{◌≡◌, Bool, false, not, cond, ◌||◌, ℕ, zero, suc, eqb, ltb, leb, length, take, Result, Option, None, Some}
 use mathlib.Core.List.{List, Memᴰ as Mem}
-use Rattle.std.proofs.Math.Option.{Option, none, some}
 use Rattle.cells.specs.Lists.{any, list_of, padded}
-use Rattle.refusal.specs.Refusal.{Answer, refused, given, refusal_number, Leaves}
+use Rattle.refusal.specs.Refusal.{Answer, refused, given, Leaves, answer_of}
 use Rattle.covers.specs.Counts.{Chain, sum_of, parents_of, node_list_to, at_node, node_list}
 use Rattle.path_count.specs.PathCounts.{count_in}
 use Rattle.graph.specs.declared.GraphResult.{GraphResult}
-use Rattle.graph.specs.Graph.{node_room, edge_room, edges_in, complete_node, count_from_graph}
-use Rattle.numbered_tilings.specs.declared.Tiling.{Tiling}
-use Rattle.numbered_tilings.specs.declared.Tiling.TheVariants as T
+use Rattle.graph.specs.Graph.{node_room, edge_room, edges_in, count_from_graph}
 
 -- ---- refusal 11
 
 -- "its full node is not below the nodes"
 unfoldable pub is_past : ℕ → Option ℕ → Bool
-is_past n none = false
-is_past n (some v) = leb n v
+is_past n None = false
+is_past n (Some v) = leb n v
 
 -- "an edge's parent is not below its child, a child is not below the nodes"
 unfoldable pub bad_edge : ℕ → ℕ × ℕ → Bool
@@ -42,7 +40,7 @@ bad_graph r node_words counts edges =
     eqb r.nodes 0
     || ltb (node_room node_words (length counts)) r.nodes
     || ltb (edge_room (length edges)) r.edges
-    || is_past r.nodes (complete_node r.complete)
+    || is_past r.nodes r.complete
     || any (bad_edge r.nodes) (edges_in edges r.edges)
     || any (bad_count (edges_in edges r.edges) (count_in counts)) (list_of (λ v. v) r.nodes)
 
@@ -51,7 +49,7 @@ bad_graph r node_words counts edges =
 -- "the node list from 0 on" with the number m, of the edges and the counts in lent words and the full node of a result
 unfoldable pub node_list_in : GraphResult → List ℕ → List ℕ → ℕ → List ℕ
 unfolding node_list_to edges_in at_node count_in
-node_list_in r counts edges m = node_list (edges_in edges r.edges) (count_in counts) (complete_node r.complete) m
+node_list_in r counts edges m = node_list (edges_in edges r.edges) (count_in counts) r.complete m
 
 -- the node list with the number m, for an output of so many words: refusal 11; "12, no full node" (the graph count is then 0) "or m not below its
 -- count; 8, output shorter than the list"
@@ -59,21 +57,16 @@ unfoldable pub tiling_by_number : GraphResult → ℕ → List ℕ → List ℕ 
 unfolding bad_graph count_from_graph node_list_in
 tiling_by_number r node_words counts edges m room =
     cond (bad_graph r node_words counts edges) (refused 11)
-    (cond (ltb m (count_from_graph (complete_node r.complete) counts))
+    (cond (ltb m (count_from_graph r.complete counts))
     (cond (leb (length (node_list_in r counts edges m)) room) (given (node_list_in r counts edges m)) (refused 8))
     (refused 12))
 
--- what `tiling_by_number` answers: the length of the list, or a refusal
-abbrev pub tiling_answer : Tiling → Answer ℕ
-tiling_answer (T.Length n) = given n
-tiling_answer (T.Refused r) = refused (refusal_number r)
-
 -- `tiling_by_number`: the list's length comes back; the output holds the list, "one word a node", zeros behind, or zeros after a refusal
-abbrev pub GivesTiling : GraphResult → List ℕ → List ℕ → List ℕ → ℕ → List ℕ → List ℕ → Tiling → Type 0
-GivesTiling r nodes counts edges m out out' t = Leaves padded (tiling_by_number r (length nodes) counts edges m (length out)) (tiling_answer t) out out'
+abbrev pub GivesTiling : GraphResult → List ℕ → List ℕ → List ℕ → ℕ → List ℕ → List ℕ → Result ℕ Refusal → Type 0
+GivesTiling r nodes counts edges m out out' t = Leaves padded (tiling_by_number r (length nodes) counts edges m (length out)) (answer_of t) out out'
 
 -- what the list is, where one is given: each node a child of the one before over a stored edge, from node 0 to the full node
-abbrev pub GivesChain : GraphResult → List ℕ → List ℕ → Tiling → Type 0
+abbrev pub GivesChain : GraphResult → List ℕ → List ℕ → Result ℕ Refusal → Type 0
 GivesChain r edges out' t =
-    (k : ℕ) → tiling_answer t ≡ given k
-    → (v : ℕ) × (complete_node r.complete ≡ some v) × Chain (λ p c. Mem (p, c) (edges_in edges r.edges)) 0 v (take k out')
+    (k : ℕ) → answer_of t ≡ given k
+    → (v : ℕ) × (r.complete ≡ Some v) × Chain (λ p c. Mem (p, c) (edges_in edges r.edges)) 0 v (take k out')

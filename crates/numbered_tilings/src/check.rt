@@ -1,118 +1,78 @@
 // The check behind refusal 11: whether a result and graph words have one of its causes. The plain form,
-// a sum for each node. Private helpers, of which the walk uses those that read edges; some ask that the
-// edges are lent.
-ghost use Rattle.std.specs.Prelude.{◌≡◌, ◌+◌, ◌*◌, ◌≤◌, length};
+// a sum for each node. Private helpers.
+#![tactic(auto, unfolding(crate::specs::Tilings::is_past))]
+
+ghost use Rattle.std.specs.Prelude.{◌≡◌, ◌≤◌, ◌<◌};
 ghost use Rattle.cells.specs.Lists.{any, list_of};
-ghost use Rattle.covers.specs.Inner.{share};
-ghost use Rattle.path_count.specs.PathCounts.{count_value, count_in};
-ghost use Rattle.graph.specs.Graph.{edge_at, complete_node};
+ghost use Rattle.path_count.specs.PathCounts.{count_in};
+ghost use Rattle.graph.specs.Graph.{edge_at};
 ghost use Rattle.numbered_tilings.specs.Tilings.{is_past, bad_edge, bad_count, bad_graph};
 
-use graph::{Complete, GraphResult, rooms};
-use path_count::{PathCount, Sum};
-
-// The parent of edge i.
-pub fn parent_at(edges: &[u64], i: usize) -> usize
-    requires { 2 * i + 2 ≤ length edges.now }
-    ensures { result ≡ (edge_at edges.now i).0 }
-{
-    edges[2 * i] as usize
-}
-
-// The child of edge i.
-fn child_at(edges: &[u64], i: usize) -> usize
-    requires { 2 * i + 2 ≤ length edges.now }
-    ensures { result ≡ (edge_at edges.now i).1 }
-{
-    edges[2 * i + 1] as usize
-}
-
-// What edge i adds to the count of node v: its parent's count if it leads to v.
-pub fn share_at(counts: &[u64], edges: &[u64], i: usize, v: usize) -> PathCount
-    requires { 2 * i + 2 ≤ length edges.now }
-    ensures { count_value result ≡ share (count_in counts.now) v (edge_at edges.now i) }
-{
-    if child_at(edges, i) == v {
-        return path_count::get(counts, parent_at(edges, i));
-    }
-    PathCount::of_words(0, 0)
-}
+use crate::words::GraphWords;
+use graph::{GraphResult, rooms};
+use path_count::PathCount;
 
 // Whether the full node is not below the nodes.
-fn is_past(complete: Complete, n: usize) -> bool
-    ensures { result ≡ is_past n (complete_node complete) }
+fn is_past(complete: Option<usize>, n: usize) -> bool
+    ensures { result ≡ is_past n complete }
 {
-    let Complete::Node(v) = complete else {
-        return false;
-    };
-    n <= v
+    complete.is_some_and(|v| n <= v)
 }
 
-// Whether edge i does not lead from a node to a later one of n.
-fn is_bad_edge(edges: &[u64], i: usize, n: usize) -> bool
-    requires { 2 * i + 2 ≤ length edges.now }
-    ensures { result ≡ bad_edge n (edge_at edges.now i) }
+// Whether edge i does not lead from a node to a later one.
+fn is_bad_edge(words: GraphWords, i: usize) -> bool
+    requires { i < words.graph.edges }
+    ensures { result ≡ bad_edge words.entry.graph.nodes (edge_at words.entry.edges.now i) }
 {
-    let child = child_at(edges, i);
-    if child <= parent_at(edges, i) {
-        return true;
-    }
-    n <= child
+    let child = words.child(i);
+    child <= words.parent(i) || words.graph.nodes <= child
 }
 
-fn has_bad_edge(edges: &[u64], count: usize, n: usize) -> bool
-    requires { 2 * count ≤ length edges.now }
-    ensures { result ≡ any (bad_edge n) (list_of (edge_at edges.now) count) }
+fn has_bad_edge(words: GraphWords) -> bool
+    ensures { result ≡ any (bad_edge words.entry.graph.nodes) (list_of (edge_at words.entry.edges.now) words.entry.graph.edges) }
 {
-    let mut i = 0;
-    while i < count {
-        if is_bad_edge(edges, i, n) {
+    for i in 0..words.graph.edges {
+        if is_bad_edge(words, i) {
             return true;
         }
-        i += 1;
     }
     false
 }
 
 // Whether the count of node v, which is not node 0, is not the exact sum of its parents' counts over the
 // edges into it. A sum that is too large is no count's.
-fn is_bad_sum(counts: &[u64], edges: &[u64], count: usize, v: usize) -> bool
-    requires { (2 * count ≤ length edges.now) × (1 ≤ v) }
-    ensures { result ≡ bad_count (list_of (edge_at edges.now) count) (count_in counts.now) v }
+fn is_bad_sum(words: GraphWords, v: usize) -> bool
+    requires { 1 ≤ v }
+    ensures { result ≡ bad_count (list_of (edge_at words.entry.edges.now) words.entry.graph.edges) (count_in words.entry.counts.now) v }
 {
+    let count = path_count::get(words.counts, v);
     let mut sum = PathCount::of_words(0, 0);
-    let mut i = 0;
-    while i < count {
-        let next = sum.plus(share_at(counts, edges, i, v));
-        let Sum::Is(more) = next else {
+    for i in 0..words.graph.edges {
+        let Some(more) = sum.plus(words.share(i, v)) else {
             return true; // no count is as large
         };
         sum = more;
-        i += 1;
     }
-    !path_count::get(counts, v).equal(sum)
+    !count.equal(sum)
 }
 
-fn is_bad_count(counts: &[u64], edges: &[u64], count: usize, v: usize) -> bool
-    requires { 2 * count ≤ length edges.now }
-    ensures { result ≡ bad_count (list_of (edge_at edges.now) count) (count_in counts.now) v }
+fn is_bad_count(words: GraphWords, v: usize) -> bool
+    ensures { result ≡ bad_count (list_of (edge_at words.entry.edges.now) words.entry.graph.edges) (count_in words.entry.counts.now) v }
 {
     if v == 0 {
-        return !path_count::get(counts, v).equal(PathCount::of_words(1, 0));
+        !path_count::get(words.counts, v).equal(PathCount::of_words(1, 0))
+    } else {
+        is_bad_sum(words, v)
     }
-    is_bad_sum(counts, edges, count, v)
 }
 
-fn has_bad_count(counts: &[u64], edges: &[u64], count: usize, n: usize) -> bool
-    requires { 2 * count ≤ length edges.now }
-    ensures { result ≡ any (bad_count (list_of (edge_at edges.now) count) (count_in counts.now)) (list_of (λ v. v) n) }
+fn has_bad_count(words: GraphWords) -> bool
+    ensures { result ≡ any (bad_count (list_of (edge_at words.entry.edges.now) words.entry.graph.edges) (count_in words.entry.counts.now)) (list_of (λ v. v) words.entry.graph.nodes) }
 {
-    let mut v = 0;
-    while v < n {
-        if is_bad_count(counts, edges, count, v) {
+    for v in 0..words.graph.nodes {
+        if is_bad_count(words, v) {
             return true;
         }
-        v += 1;
     }
     false
 }
@@ -122,22 +82,17 @@ pub fn is_bad_graph(graph: GraphResult, nodes: usize, counts: &[u64], edges: &[u
     ensures { result ≡ bad_graph graph nodes counts.now edges.now }
 {
     let n = graph.nodes;
-    let count = graph.edges;
-    let complete = graph.complete;
-    if n == 0 {
+    if n == 0
+        || rooms::node_room(nodes, counts.len()) < n
+        || rooms::edge_room(edges.len()) < graph.edges
+        || is_past(graph.complete, n)
+    {
         return true;
     }
-    if rooms::node_room(nodes, counts.len()) < n {
-        return true;
-    }
-    if rooms::edge_room(edges.len()) < count {
-        return true;
-    }
-    if is_past(complete, n) {
-        return true;
-    }
-    if has_bad_edge(edges, count, n) {
-        return true;
-    }
-    has_bad_count(counts, edges, count, n)
+    let words = GraphWords {
+        graph,
+        counts,
+        edges,
+    };
+    has_bad_edge(words) || has_bad_count(words)
 }

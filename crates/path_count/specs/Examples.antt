@@ -1,7 +1,5 @@
 -- Examples of the definitions, by computation.
-use Rattle.std.specs.Prelude.{◌≡◌, ◌^◌, [], ◌∷◌, refl}
-use Rattle.std.proofs.Math.Option.{none, some}
-use Rattle.path_count.specs.declared.Sum.TheVariants as S
+use Rattle.std.specs.Prelude.{◌≡◌, ◌^◌, [], ◌∷◌, refl, None, Some}
 use Rattle.path_count.specs.PathCounts.{count_limit, count_value, count_room, count_in, counts_for}
 use Rattle.path_count.specs.Parts.{sum_answer, with_count}
 use Rattle.path_count.specs.Inner.{count_words}
@@ -9,7 +7,7 @@ use Rattle.path_count.specs.Inner.{count_words}
 limit : count_limit ≡ 18446744073709551616
 limit = refl
 
-sums : (count_value (record { word = 7 }) ≡ 7) × (sum_answer (S.Is (record { word = 7 })) ≡ some 7) × (sum_answer S.TooLarge ≡ none)
+sums : (count_value (record { word = 7 }) ≡ 7) × (sum_answer (Some (record { word = 7 })) ≡ Some 7) × (sum_answer None ≡ None)
 unfolding sum_answer
 sums = (refl, refl, refl)
 

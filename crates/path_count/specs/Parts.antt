@@ -1,15 +1,13 @@
 -- Definitions: what `plus` and `add` answer and leave, which serve the crates above. No contract of a call outside this crate cites them. Assumes nothing.
-use Rattle.std.specs.Prelude.{◌≡◌, ℕ, ◌+◌, Bool, cond, List, nat_le, slice_set}
-use Rattle.std.proofs.Math.Option.{Option, none, some}
-use Rattle.path_count.specs.declared.Sum.{Sum}
+use Rattle.path_count.specs.declared.PathCount.{PathCount}
+use Rattle.std.specs.Prelude.{◌≡◌, ℕ, ◌+◌, Bool, cond, List, nat_le, slice_set, Option, None, Some}
 use Rattle.path_count.specs.PathCounts.{count_limit, count_value, count_in}
-use Rattle.path_count.specs.declared.Sum.TheVariants as S
 
 -- what `plus` answers: the sum, or none where it is too large
-unfoldable pub sum_answer : Sum → Option ℕ
+unfoldable pub sum_answer : Option PathCount → Option ℕ
 unfolding count_value
-sum_answer (S.Is c) = some (count_value c)
-sum_answer S.TooLarge = none
+sum_answer (Some c) = Some (count_value c)
+sum_answer None = None
 
 -- the words with n for count i; as they were where it is not lent, since a list has no other element behind its end
 unfoldable pub with_count : List ℕ → ℕ → ℕ → List ℕ

@@ -1,9 +1,9 @@
 -- Laws of path counts: a count is below the limit; what is stored in words is read back; words that hold the counts of a function or of a list; and
 -- what a sum tells. Laws and proofs of other crates cite these and unfold nothing (but see `PathCounts`). Rests on `PathCounts` and `cells`. Assumes nothing.
-use Rattle.std.specs.Prelude.{◌≡◌, ℕ, ◌+◌, ◌-◌, ◌*◌, ◌/◌, ◌%◌, ◌^◌, ◌<◌, ◌≤◌, min, Bool, true, false, cond, leb, List, [], ◌∷◌, ◌++◌, length, ◌==◌, ◌≢◌, nat_le, nat_lt, slice_index, slice_set}
+use Rattle.std.specs.Prelude.{◌≡◌, ℕ, ◌+◌, ◌-◌, ◌*◌, ◌/◌, ◌%◌, ◌^◌, ◌<◌, ◌≤◌, min, Bool, true, false, cond, leb, List, [], ◌∷◌, ◌++◌, length, ◌==◌, ◌≢◌, nat_le, nat_lt, slice_index, slice_set, Option, None, Some}
 use Rattle.std.proofs.Math.Path.{refl}
 use Rattle.std.proofs.Common.{sym, ap, ap₂, ◌∙◌, arith}
-use Rattle.std.proofs.Math.Option.{none, some, none-ne-some, some-injective}
+use Rattle.cells.specs.OptionLaws.{none-ne-some, some-injective}
 use Rattle.std.proofs.Math.Decide.{ℕ_discrete, dec_lt}
 use borrow.Author.Tests.{leb-true, leb-false, eq-eqb, ne_eqb, le-ltb}
 use Rattle.std.proofs.Math.ListN.{length-set, get_or-eq_default}
@@ -13,8 +13,6 @@ use Rattle.cells.specs.Lists.{list_of}
 use Rattle.cells.specs.Parts.{cleared_from}
 use Rattle.cells.specs.ArrayLaws.{length_list_of, get_d_list_of, list_of_ext, list_of_eta, list_of_snoc}
 use Rattle.path_count.specs.declared.PathCount.{PathCount}
-use Rattle.path_count.specs.declared.Sum.{Sum}
-use Rattle.path_count.specs.declared.Sum.TheVariants as S
 use Rattle.path_count.specs.PathCounts.{count_limit, count_value, count_room, count_in, counts_for}
 use Rattle.path_count.specs.Parts.{sum_answer, with_count, AddsCount}
 use Rattle.path_count.specs.Inner.{count_span, count_words}
@@ -43,20 +41,20 @@ word_count n h x e = omega arith
 
 -- ---- a sum
 
-module _ (r : Sum) (n : ℕ) (e : sum_answer r ≡ cond (nat_le count_limit n) none (some n)) where
-  pub sum_is : (c : PathCount) → r ≡ S.Is c → (count_value c ≡ n) × (n < count_limit)
+module _ (r : Option PathCount) (n : ℕ) (e : sum_answer r ≡ cond (nat_le count_limit n) None (Some n)) where
+  pub sum_is : (c : PathCount) → r ≡ Some c → (count_value c ≡ n) × (n < count_limit)
   unfolding sum_answer
   sum_is c q = go (nat_le count_limit n) refl (sym (ap sum_answer q) ∙ e)
     where
-      go : (t : Bool) → nat_le count_limit n ≡ t → some (count_value c) ≡ cond t none (some n) → (count_value c ≡ n) × (n < count_limit)
+      go : (t : Bool) → nat_le count_limit n ≡ t → Some (count_value c) ≡ cond t None (Some n) → (count_value c ≡ n) × (n < count_limit)
       go true p f = absurd (none-ne-some (count_value c) (sym f))
       go false p f = (some-injective (count_value c) n f, leb-false count_limit n p)
 
-  pub sum_large : r ≡ S.TooLarge → count_limit ≤ n
+  pub sum_large : r ≡ None → count_limit ≤ n
   unfolding sum_answer
   sum_large q = go (nat_le count_limit n) refl (sym (ap sum_answer q) ∙ e)
     where
-      go : (t : Bool) → nat_le count_limit n ≡ t → none ≡ cond t none (some n) → count_limit ≤ n
+      go : (t : Bool) → nat_le count_limit n ≡ t → None ≡ cond t None (Some n) → count_limit ≤ n
       go true p f = leb-true count_limit n p
       go false p f = absurd (none-ne-some n f)
 

@@ -2,23 +2,16 @@
 // writing of a count is here: other crates know the number that a count is (`count_value`) and the number
 // that stands in the words (`count_in`), never the words themselves. Nothing is asked of a caller: a count
 // that is not lent reads as 0 and is not stored.
-#![tactic(auto)]
+#![tactic(auto, unfolding(crate::specs::PathCounts::count_value, crate::specs::PathCounts::count_in, crate::specs::PathCounts::count_room, crate::specs::Parts::with_count, crate::specs::Parts::sum_answer))]
 
 ghost use Rattle.std.specs.Prelude.{◌≡◌, ◌+◌, ◌-◌, ◌*◌, ◌/◌, ◌%◌, ◌^◌, min, if◌then◌else◌, ◌==◌, nat_le, nat_lt};
-ghost use Rattle.std.proofs.Math.Option.{none, some};
 ghost use Rattle.path_count.specs.PathCounts.{count_limit, count_value, count_room, count_in};
 ghost use Rattle.path_count.specs.Parts.{sum_answer, with_count, AddsCount};
 
 // A path count: a number below the limit, 2^64.
-#[derive(Clone, Copy, Drop)]
+#[derive(Clone, Copy, PartialEq, Eq, PartialOrd, Ord, Drop)]
 pub struct PathCount {
     pub word: u64,
-}
-
-#[derive(Clone, Copy, Drop)]
-pub enum Sum {
-    Is(PathCount),
-    TooLarge,
 }
 
 impl PathCount {
@@ -26,12 +19,9 @@ impl PathCount {
     pub fn of_words(low: u64, high: u64) -> PathCount
         ensures { count_value result ≡ min (low + 2 ^ 64 * high) (count_limit - 1) }
     {
-        if high != 0 {
-            return PathCount {
-                word: 18_446_744_073_709_551_615,
-            };
+        PathCount {
+            word: if high == 0 { low } else { u64::MAX },
         }
-        PathCount { word: low }
     }
 
     // The lowest word of the number.
@@ -51,35 +41,29 @@ impl PathCount {
     pub fn equal(self, other: PathCount) -> bool
         ensures { result ≡ (count_value self == count_value other) }
     {
-        self.word == other.word
+        self == other
     }
 
     pub fn less(self, other: PathCount) -> bool
         ensures { result ≡ nat_lt (count_value self) (count_value other) }
     {
-        self.word < other.word
+        self < other
     }
 
     // The exact sum, unless it is too large for a count.
-    pub fn plus(self, other: PathCount) -> Sum
-        ensures { sum_answer result ≡ (if nat_le count_limit (count_value self + count_value other) then none else some (count_value self + count_value other)) }
+    pub fn plus(self, other: PathCount) -> Option<PathCount>
+        ensures { sum_answer result ≡ (if nat_le count_limit (count_value self + count_value other) then None else Some (count_value self + count_value other)) }
     {
-        let word = std::num::wrapping_add_u64(self.word, other.word);
-        if word < self.word {
-            return Sum::TooLarge;
-        }
-        Sum::Is(PathCount { word })
+        let word = self.word.checked_add(other.word)?;
+        Some(PathCount { word })
     }
 
     // The difference, 0 where the other number is larger.
     pub fn minus(self, other: PathCount) -> PathCount
         ensures { count_value result ≡ count_value self - count_value other }
     {
-        if self.word < other.word {
-            return PathCount { word: 0 };
-        }
         PathCount {
-            word: self.word - other.word,
+            word: self.word.saturating_sub(other.word),
         }
     }
 }
@@ -95,10 +79,9 @@ pub fn room(words: usize) -> usize
 pub fn get(words: &[u64], i: usize) -> PathCount
     ensures { count_value result ≡ count_in words.now i }
 {
-    if i < words.len() {
-        return PathCount { word: words[i] };
+    PathCount {
+        word: words.get(i).copied().unwrap_or(0),
     }
-    PathCount { word: 0 }
 }
 
 // The words with another count i.
@@ -114,10 +97,9 @@ pub fn put(words: &mut [u64], i: usize, count: PathCount)
 pub fn add(words: &mut [u64], i: usize, count: PathCount) -> bool
     ensures { AddsCount words.old i (count_value count) words.new result }
 {
-    let sum = get(words, i).plus(count);
-    let Sum::Is(more) = sum else {
+    let Some(sum) = get(words, i).plus(count) else {
         return true;
     };
-    put(words, i, more);
+    put(words, i, sum);
     false
 }

@@ -1,9 +1,8 @@
 -- The definitions compute: 01's example file, small files for each refusal at each kind of place, plots with holes, and holes as records. Assumes nothing.
-use Rattle.std.specs.Prelude.{◌≡◌, refl, true, false, ℕ, ◌+◌, ◌*◌, ◌^◌, replicate}
+use Rattle.std.specs.Prelude.{Err, Ok, ◌≡◌, refl, true, false, ℕ, ◌+◌, ◌*◌, ◌^◌, replicate}
 use mathlib.Core.List.{List, [], ◌∷◌, ◌++◌, map, flat_map}
 use Rattle.refusal.specs.Refusal.{refused, given, refusal_of, value_or}
 use Rattle.refusal.specs.declared.Refusal.TheVariants as R
-use Rattle.refusal.specs.declared.Verdict.TheVariants as Verdicts
 use Rattle.cells.specs.declared.Cells.{Cells}
 use Rattle.cells.specs.Set.{number}
 use Rattle.board.specs.Board.{of_marks}
@@ -217,20 +216,20 @@ abbrev none : Cells
 none = record { w0 = 0; w1 = 0; w2 = 0; w3 = 0 }
 
 -- board and tiles, and no refusal
-read : ReadsPlot (plot_in (behind (ascii "TI" ++ 0 ∷ ascii "EN"))) (record { verdict = Verdicts.Accepted; board = of_marks 1 1 none none; tiles = tiles_of ([] ∷ []) })
+read : ReadsPlot (plot_in (behind (ascii "TI" ++ 0 ∷ ascii "EN"))) (record { verdict = Ok tt; board = of_marks 1 1 none none; tiles = tiles_of ([] ∷ []) })
 unfolding plot_in refusal_of value_or number
 read = record { verdict = refl; board = refl; tiles = refl }
 
 -- "A refusal hands back a 0 by 0 board and no tiles"
-read_refused : ReadsPlot (plot_in (behind (ascii "EN" ++ 0 ∷ []))) (record { verdict = Verdicts.Refused R.Misplaced; board = of_marks 0 0 none none; tiles = tiles_of [] })
+read_refused : ReadsPlot (plot_in (behind (ascii "EN" ++ 0 ∷ []))) (record { verdict = Err R.Misplaced; board = of_marks 0 0 none none; tiles = tiles_of [] })
 unfolding plot_in refusal_of value_or number
 read_refused = record { verdict = refl; board = refl; tiles = refl }
 
 -- the cell of a hole is fixed; and "15 when a cell is outside the board"
-read_hole : ReadsPlot (plot_in (behind (ho 0 0 ++ ascii "EN"))) (record { verdict = Verdicts.Accepted; board = of_marks 1 1 (record { w0 = 1; w1 = 0; w2 = 0; w3 = 0 }) none; tiles = tiles_of [] })
+read_hole : ReadsPlot (plot_in (behind (ho 0 0 ++ ascii "EN"))) (record { verdict = Ok tt; board = of_marks 1 1 (record { w0 = 1; w1 = 0; w2 = 0; w3 = 0 }) none; tiles = tiles_of [] })
 unfolding plot_in refusal_of value_or number
 read_hole = record { verdict = refl; board = refl; tiles = refl }
 
-read_bad_hole : ReadsPlot (plot_in (behind (ho 1 0 ++ ascii "EN"))) (record { verdict = Verdicts.Refused R.BadHole; board = of_marks 0 0 none none; tiles = tiles_of [] })
+read_bad_hole : ReadsPlot (plot_in (behind (ho 1 0 ++ ascii "EN"))) (record { verdict = Err R.BadHole; board = of_marks 0 0 none none; tiles = tiles_of [] })
 unfolding plot_in refusal_of value_or number
 read_bad_hole = record { verdict = refl; board = refl; tiles = refl }

@@ -1,62 +1,51 @@
--- Laws of reading at a place of a file: what its mark, a board's body, a hole's body and a tile's body are, by the bytes that the code looks at; what a
+-- Laws of reading some bytes: what their mark, a board's body, a hole's body and a tile's body are, by the bytes that the code looks at; what a
 -- record is, by its place; what the first record and the later ones are, by their marks and bodies; and how the records go on. Rests on `PlotFile` and `RecordLaws`. Assumes nothing.
 use Rattle.std.proofs.Math.Path.{◌≡◌, refl, sym, ap}
-use Rattle.std.proofs.Common.{◌∙◌, length-append, drop_of_length-le, drop-cons}
-use Rattle.std.specs.Prelude.{Bool, false, ◌&&◌, ℕ, zero, suc, ◌+◌, ◌-◌, ◌≤◌, ◌<◌, eqb, take}
+use Rattle.std.proofs.Common.{◌∙◌, length-append}
+use Rattle.std.proofs.lemmas.List.{take_rest}
+use mathlib.Core.Logic.{⊎_elim}
+use Rattle.std.specs.Prelude.{false, ◌⊎◌, ℕ, zero, suc, ◌+◌, ◌-◌, ◌≤◌, ◌<◌, take, slice_range}
 use Rattle.std.proofs.Math.Bool.{true}
 use mathlib.Core.List.{List, [], ◌∷◌, ◌++◌}
 use native.Mathlib.Omega.{arith}
 use borrow.Author.Tests.{eq-eqb, ne_eqb, le-leb, lt-leb}
 use Rattle.std.proofs.Math.ListN.{length, get_or, drop, length-drop}
-use Rattle.std.proofs.Math.Seq.{drop-drop}
-use Rattle.refusal.specs.Refusal.{Answer, refused, given, map_answer, bind_answer}
+use Rattle.std.specs.Prelude.{◌≢◌, Result, Ok, Err, IsErrAnd}
+use Rattle.std.specs.Borrow.{Bor}
+use Rattle.refusal.specs.declared.Refusal.{Refusal}
+use Rattle.refusal.specs.Refusal.{Answer, refused, given, map_answer, bind_answer, refusal_number, answer_of}
 use Rattle.tile.specs.Path.{Path, read_path}
 use Rattle.rectangle.specs.Board.{Board}
 use Rattle.board.specs.Board.{with_hole}
 use Rattle.plot_file.specs.declared.marks.Mark.{Mark}
 use Rattle.plot_file.specs.declared.marks.Mark.TheVariants.{RB, LB, TB, HO, TI, OR, EN}
-use Rattle.plot_file.specs.PlotFile.{all_marks, Plot, letters, spells, mark_among, read_mark, read_pair, read_body, more, ended, board_body, first_record, hole_body, add_tiles, tile_body, end_body, later_body, later_record, onward, records}
-use Rattle.plot_file.specs.Inner.{is_board, board_for, tiles_for, start_at, record_at}
-use Rattle.plot_file.proofs.RecordLaws.{read_mark_is, length_letters, records_step}
+use Rattle.plot_file.specs.declared.plots.Step.{Step as StepTaken}
+use Rattle.plot_file.specs.PlotFile.{all_marks, Plot, mark_among, read_mark, read_pair, read_body, more, ended, board_body, first_record, hole_body, add_tiles, tile_body, end_body, later_body, later_record, onward, records}
+use Rattle.plot_file.specs.Inner.{marked_answer, is_board, board_for, tiles_for, start_at, Reads, record_at}
+use Rattle.plot_file.proofs.RecordLaws.{records_step}
 
--- ---- a mark among others
+-- ---- the bytes that a record begins with
 
--- the first byte tells, or leaves it to the second
-module _ (a first : ℕ) (t : Bool) where
-  pub first_same : a ≡ first → t ≡ (eqb a first && t)
-  first_same e = rw (eq-eqb a first e)
+-- the slice of some bytes from a place on, as the code takes it
+abbrev pub behind : List ℕ → ℕ → List ℕ
+behind bytes at = take (length bytes - at) (drop at bytes)
 
-  pub first_other : (a ≡ first → ⊥) → false ≡ (eqb a first && t)
-  first_other e = rw (ne_eqb a first e)
+one_more : (bytes : List ℕ) → 1 ≤ length bytes → bytes ≡ get_or bytes 0 0 ∷ drop 1 bytes
+one_more [] h = absurd (omega arith)
+one_more (a ∷ rest) h = refl
 
-module _ (mark : Mark) (marks : List Mark) (a b : ℕ) where
-  pub mark_here : spells mark a b ≡ true → given mark ≡ mark_among (mark ∷ marks) a b
-  unfolding mark_among
-  mark_here e = rw e
+two_more : (bytes : List ℕ) → 2 ≤ length bytes → bytes ≡ get_or bytes 0 0 ∷ get_or bytes 1 0 ∷ drop 2 bytes
+two_more [] h = absurd (omega arith)
+two_more (a ∷ []) h = absurd (omega arith)
+two_more (a ∷ b ∷ rest) h = refl
 
-  pub mark_later : (x : Answer Mark) → spells mark a b ≡ false → x ≡ mark_among marks a b → x ≡ mark_among (mark ∷ marks) a b
-  unfolding mark_among
-  mark_later x e q = rw e q
+module _ (bytes : List ℕ) where
+  -- one byte and the others, two and the others
+  one_byte : 1 ≤ length bytes → bytes ≡ get_or bytes 0 0 ∷ behind bytes 1
+  one_byte h = one_more bytes h ∙ ap (λ (l : List ℕ). get_or bytes 0 0 ∷ l) (sym (take_rest bytes 1))
 
-pub mark_none : (a b : ℕ) → refused 2 ≡ mark_among [] a b
-unfolding mark_among
-mark_none a b = refl
-
--- ---- bytes at a place
-
-module _ (file : List ℕ) (at : ℕ) where
-  -- the bytes from a place on: one and the others, two and the others
-  one_byte : at < length file → drop at file ≡ get_or file at 0 ∷ drop (at + 1) file
-  one_byte h = let e : suc at ≡ at + 1 = omega arith in drop-cons file at 0 h ∙ ap (λ (n : ℕ). get_or file at 0 ∷ drop n file) e
-
-  two_bytes : at + 2 ≤ length file → drop at file ≡ get_or file at 0 ∷ get_or file (at + 1) 0 ∷ drop (at + 2) file
-  two_bytes h =
-      let e : suc (at + 1) ≡ at + 2 = omega arith in
-      one_byte (omega arith)
-      ∙ ap (λ (l : List ℕ). get_or file at 0 ∷ l) (drop-cons file (at + 1) 0 (omega arith) ∙ ap (λ (n : ℕ). get_or file (at + 1) 0 ∷ drop n file) e)
-
-  few_bytes : length file - at < 2 → length (drop at file) < 2
-  few_bytes h = omega (arith, length-drop at file)
+  two_bytes : 2 ≤ length bytes → bytes ≡ get_or bytes 0 0 ∷ get_or bytes 1 0 ∷ behind bytes 2
+  two_bytes h = two_more bytes h ∙ ap (λ (l : List ℕ). get_or bytes 0 0 ∷ get_or bytes 1 0 ∷ l) (sym (take_rest bytes 2))
 
 read_mark_few : (bytes : List ℕ) → length bytes < 2 → read_mark bytes ≡ refused 1
 unfolding read_mark
@@ -72,20 +61,26 @@ read_pair_few make (a ∷ b ∷ rest) h = absurd (omega arith)
 
 -- ---- marks
 
-module _ (file : List ℕ) (at : ℕ) where
-  pub read_mark_cut : length file - at < 2 → refused 1 ≡ read_mark (drop at file)
-  read_mark_cut h = sym (read_mark_few (drop at file) (few_bytes file at h))
+module _ (bytes : List ℕ) where
+  pub read_mark_cut : length bytes < 2 → refused 1 ≡ read_mark bytes
+  read_mark_cut h = sym (read_mark_few bytes h)
 
-  pub read_mark_at : at ≤ length file → 2 ≤ length file - at → (a : Answer Mark) → a ≡ mark_among all_marks (get_or file at 0) (get_or file (at + 1) 0)
-      → map_answer (λ mark. (mark, drop (at + 2) file)) a ≡ read_mark (drop at file)
-  unfolding read_mark
-  read_mark_at h k a e = ap (map_answer (λ mark. (mark, drop (at + 2) file))) e ∙ sym (ap read_mark (two_bytes file at (omega arith)))
+  module _ (h : 2 ≤ length bytes) (r : Result Mark Refusal) (e : answer_of r ≡ mark_among all_marks (get_or bytes 0 0) (get_or bytes 1 0)) where
+    mark_is : (x : Result Mark Refusal) → r ≡ x → map_answer (λ mark. (mark, behind bytes 2)) (answer_of x) ≡ read_mark bytes
+    unfolding read_mark
+    mark_is x is =
+        ap (λ (x : Result Mark Refusal). map_answer (λ mark. (mark, behind bytes 2)) (answer_of x)) (sym is)
+        ∙ ap (map_answer (λ mark. (mark, behind bytes 2))) e
+        ∙ sym (ap read_mark (two_bytes bytes h))
 
-  -- a mark that was read has two bytes
-  pub read_mark_behind : (mark : Mark) (rest : List ℕ) → at ≤ length file → read_mark (drop at file) ≡ given (mark, rest) → at + 2 ≤ length file
-  read_mark_behind mark rest h e =
-      let l = ap length (read_mark_is (drop at file) mark rest e) in
-      omega (arith, length-drop at file, length-append (letters mark) rest, length_letters mark)
+    pub read_mark_not : (q : Refusal) → r ≡ Err q → (x : Result (Mark × Bor (List ℕ)) Refusal) → IsErrAnd x (λ e. e ≡ q) → marked_answer x ≡ read_mark bytes
+    unfolding map_answer
+    read_mark_not q is (Ok m) i = absurd i
+    read_mark_not q is (Err f) i = ap (λ (x : Refusal). refused (refusal_number x)) i ∙ mark_is (Err q) is
+
+    pub read_mark_at : (mark : Mark) → r ≡ Ok mark → (rest : Bor (List ℕ)) → rest.now ≡ behind bytes 2 → marked_answer (Ok (mark, rest)) ≡ read_mark bytes
+    unfolding map_answer
+    read_mark_at mark is rest l = ap (λ (l : List ℕ). given (mark, l)) l ∙ mark_is (Ok mark) is
 
 -- ---- boards
 
@@ -109,13 +104,14 @@ board_body_other TI bytes e = refl
 board_body_other OR bytes e = refl
 board_body_other EN bytes e = refl
 
-module _ (mark : Mark) (file : List ℕ) (at : ℕ) (is : is_board mark ≡ true) where
-  pub board_body_cut : length file - at < 2 → board_body mark (drop at file) ≡ refused 1
-  board_body_cut h = board_body_pair mark (drop at file) is ∙ read_pair_few (board_for mark) (drop at file) (few_bytes file at h)
+module _ (mark : Mark) (bytes : List ℕ) (is : is_board mark ≡ true) where
+  pub board_body_cut : length bytes < 2 → board_body mark bytes ≡ refused 1
+  board_body_cut h = board_body_pair mark bytes is ∙ read_pair_few (board_for mark) bytes h
 
-  pub board_body_at : at + 2 ≤ length file → board_body mark (drop at file) ≡ map_answer (λ board. (board, drop (at + 2) file)) (board_for mark (get_or file at 0) (get_or file (at + 1) 0))
+  pub board_body_at : 2 ≤ length bytes
+      → board_body mark bytes ≡ map_answer (λ board. (board, behind bytes 2)) (board_for mark (get_or bytes 0 0) (get_or bytes 1 0))
   unfolding read_pair
-  board_body_at h = board_body_pair mark (drop at file) is ∙ ap (read_pair (board_for mark)) (two_bytes file at h)
+  board_body_at h = board_body_pair mark bytes is ∙ ap (read_pair (board_for mark)) (two_bytes bytes h)
 
 -- ---- holes
 
@@ -130,53 +126,60 @@ hole_body_first plot bytes e =
     rw (eq-eqb (length plot.tiles) 0 (ap length e))
     (ap (λ (l : List Path). map_answer (λ r. more (record { board = r.0; tiles = l }) r.1) (read_pair (with_hole plot.board) bytes)) e)
 
-module _ (plot : Plot) (file : List ℕ) (at : ℕ) (none : plot.tiles ≡ []) where
-  pub hole_body_cut : length file - at < 2 → hole_body plot (drop at file) ≡ refused 1
+module _ (plot : Plot) (bytes : List ℕ) (none : plot.tiles ≡ []) where
+  pub hole_body_cut : length bytes < 2 → hole_body plot bytes ≡ refused 1
   unfolding map_answer
-  hole_body_cut h =
-      hole_body_first plot (drop at file) none ∙ ap (map_answer start_at) (read_pair_few (with_hole plot.board) (drop at file) (few_bytes file at h))
+  hole_body_cut h = hole_body_first plot bytes none ∙ ap (map_answer start_at) (read_pair_few (with_hole plot.board) bytes h)
 
-  pub hole_body_at : at + 2 ≤ length file
-      → hole_body plot (drop at file) ≡ map_answer start_at (map_answer (λ board. (board, drop (at + 2) file)) (with_hole plot.board (get_or file at 0) (get_or file (at + 1) 0)))
+  pub hole_body_at : 2 ≤ length bytes
+      → hole_body plot bytes ≡ map_answer start_at (map_answer (λ board. (board, behind bytes 2)) (with_hole plot.board (get_or bytes 0 0) (get_or bytes 1 0)))
   unfolding read_pair
   hole_body_at h =
-      hole_body_first plot (drop at file) none ∙ ap (λ (l : List ℕ). map_answer start_at (read_pair (with_hole plot.board) l)) (two_bytes file at h)
+      hole_body_first plot bytes none ∙ ap (λ (l : List ℕ). map_answer start_at (read_pair (with_hole plot.board) l)) (two_bytes bytes h)
 
 -- ---- tiles
 
-module _ (file : List ℕ) (at : ℕ) where
-  pub read_body_none : length file ≤ at → read_body (drop at file) ≡ refused 1
+module _ (bytes : List ℕ) where
+  pub read_body_none : length bytes < 1 → read_body bytes ≡ refused 1
   unfolding read_body
-  read_body_none h = ap read_body (drop_of_length-le file h)
+  read_body_none h = ap read_body (length_none bytes h)
+    where
+      length_none : (l : List ℕ) → length l < 1 → l ≡ []
+      length_none [] h = refl
+      length_none (a ∷ l) h = absurd (omega arith)
 
-  module _ (in-file : at < length file) where
-    pub read_body_long : 32 < get_or file at 0 → read_body (drop at file) ≡ refused 5
-    unfolding read_body
-    read_body_long h = rw (one_byte file at in-file, lt-leb (get_or file at 0) 32 h)
+  -- a length byte is there
+  module _ (some : 1 ≤ length bytes) (k : ℕ) (is : k ≡ get_or bytes 0 0) where
+    body_is : bytes ≡ k ∷ behind bytes 1
+    body_is = one_byte bytes some ∙ ap (λ (n : ℕ). n ∷ behind bytes 1) (sym is)
 
-    pub read_body_cut : get_or file at 0 ≤ 32 → length file - (at + 1) < get_or file at 0 → read_body (drop at file) ≡ refused 1
+    pub read_body_long : 32 < k → read_body bytes ≡ refused 5
     unfolding read_body
-    read_body_cut h k =
-        let l : length (drop (at + 1) file) < get_or file at 0 = omega (arith, length-drop (at + 1) file) in
-        rw (one_byte file at in-file, le-leb (get_or file at 0) 32 h, lt-leb (get_or file at 0) (length (drop (at + 1) file)) l)
+    read_body_long h = ap read_body body_is ∙ rw (lt-leb k 32 h)
 
-    pub read_body_at : get_or file at 0 ≤ 32 → get_or file at 0 ≤ length file - (at + 1)
-        → read_body (drop at file) ≡ map_answer (λ path. (path, drop (at + 1 + get_or file at 0) file)) (read_path (take (at + 1 + get_or file at 0 - (at + 1)) (drop (at + 1) file)))
-    unfolding read_body
-    read_body_at h k =
-        let l : get_or file at 0 ≤ length (drop (at + 1) file) = omega (arith, length-drop (at + 1) file) in
-        let n : at + 1 + get_or file at 0 - (at + 1) ≡ get_or file at 0 = omega arith in
-        rw (one_byte file at in-file, le-leb (get_or file at 0) 32 h, le-leb (get_or file at 0) (length (drop (at + 1) file)) l, n, drop-drop (get_or file at 0) (at + 1) file)
+    module _ (few : k ≤ 32) where
+      pub read_body_cut : (k < 0) ⊎ (length (behind bytes 1) < k) → read_body bytes ≡ refused 1
+      unfolding read_body
+      read_body_cut h =
+          let l : length (behind bytes 1) < k = ⊎_elim (λ e. absurd (omega arith)) (λ e. e) h in
+          ap read_body body_is ∙ rw (le-leb k 32 few, lt-leb k (length (behind bytes 1)) l)
+
+      pub read_body_at : k ≤ length (behind bytes 1) → (codes : List ℕ) → codes ≡ slice_range (behind bytes 1) 0 k
+          → read_body bytes ≡ map_answer (λ path. (path, behind (behind bytes 1) k)) (read_path codes)
+      unfolding read_body
+      read_body_at h codes e =
+          let n : k - 0 ≡ k = omega arith in
+          ap read_body body_is ∙ rw (le-leb k 32 few, le-leb k (length (behind bytes 1)) h, e, n, take_rest (behind bytes 1) k)
 
 -- ---- records, by their places
 
 module _ (plot : Plot) (file : List ℕ) where
-  pub record_at_first : (at : ℕ) → at ≡ 0 → record_at at plot (drop at file) ≡ first_record file
-  record_at_first at e = ap (λ (i : ℕ). record_at i plot (drop i file)) e
+  pub record_first : (at : ℕ) → at ≡ 0 → (r : Result StepTaken Refusal) → Reads (first_record (behind file at)) r → Reads (record_at at plot (drop at file)) r
+  record_first at e r read = read ∙ ap first_record (take_rest file at) ∙ rw e refl
 
-  pub record_at_later : (at : ℕ) → 0 < at → record_at at plot (drop at file) ≡ later_record plot (drop at file)
-  record_at_later zero h = absurd (omega arith)
-  record_at_later (suc at) h = refl
+  pub record_later : (at : ℕ) → at ≢ 0 → (r : Result StepTaken Refusal) → Reads (later_record plot (behind file at)) r → Reads (record_at at plot (drop at file)) r
+  record_later zero h r read = absurd (h refl)
+  record_later (suc at) h r read = read ∙ ap (later_record plot) (take_rest file (suc at))
 
 -- ---- records, by their marks and bodies
 
@@ -209,18 +212,12 @@ module _ (bytes : List ℕ) where
 
 -- a later record, by its mark
 module _ (mark : Mark) (plot : Plot) (bytes : List ℕ) where
-  pub later_body_board : is_board mark ≡ true → later_body mark plot bytes ≡ refused 3
+  pub later_body_board : (mark ≡ RB) ⊎ (mark ≡ LB) ⊎ (mark ≡ TB) → later_body mark plot bytes ≡ refused 3
   unfolding later_body
-  later_body_board e = go mark e
+  later_body_board e = ⊎_elim at (⊎_elim at at) e
     where
-      go : (m : Mark) → is_board m ≡ true → later_body m plot bytes ≡ refused 3
-      go RB q = refl
-      go LB q = refl
-      go TB q = refl
-      go HO q = let z : ◌≡◌ {A = ℕ} 0 1 = cc in absurd (omega arith)
-      go TI q = let z : ◌≡◌ {A = ℕ} 0 1 = cc in absurd (omega arith)
-      go OR q = let z : ◌≡◌ {A = ℕ} 0 1 = cc in absurd (omega arith)
-      go EN q = let z : ◌≡◌ {A = ℕ} 0 1 = cc in absurd (omega arith)
+      at : {m : Mark} → mark ≡ m → later_body mark plot bytes ≡ later_body m plot bytes
+      at e = ap (λ (m : Mark). later_body m plot bytes) e
 
   pub later_body_hole : mark ≡ HO → later_body mark plot bytes ≡ hole_body plot bytes
   unfolding later_body
@@ -238,14 +235,16 @@ module _ (mark : Mark) (plot : Plot) (bytes : List ℕ) where
   unfolding later_body
   later_body_end e = ap (λ (m : Mark). later_body m plot bytes) e
 
-module _ (plot : Plot) (file : List ℕ) (at : ℕ) where
-  pub end_body_end : length file ≤ at → end_body plot (drop at file) ≡ given (ended plot)
+module _ (plot : Plot) where
+  pub end_body_end : (bytes : List ℕ) → length bytes ≡ 0 → end_body plot bytes ≡ given (ended plot)
   unfolding end_body
-  end_body_end h = ap (end_body plot) (drop_of_length-le file h)
+  end_body_end [] h = refl
+  end_body_end (byte ∷ bytes) h = absurd (omega arith)
 
-  pub end_body_more : at < length file → end_body plot (drop at file) ≡ refused 3
+  pub end_body_more : (bytes : List ℕ) → length bytes ≢ 0 → end_body plot bytes ≡ refused 3
   unfolding end_body
-  end_body_more h = ap (end_body plot) (one_byte file at h)
+  end_body_more [] h = absurd (h refl)
+  end_body_more (byte ∷ bytes) h = refl
 
 pub add_tiles_given : (plot : Plot) (paths : List Path) → length plot.tiles + length paths ≤ 64 → add_tiles plot paths ≡ given record { board = plot.board; tiles = plot.tiles ++ paths }
 unfolding add_tiles

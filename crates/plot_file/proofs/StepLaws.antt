@@ -1,268 +1,164 @@
--- Laws of what the code hands on: a verdict and what was made, read as an answer; a mark, a tile's body and a record that were read; the
--- way through the file; and the plot at the end. Rests on `Inner`, `ReadLaws`, `TilesLaws` and the laws of stored tiles. Assumes nothing.
+-- Laws of what the code hands on: a mark, a tile's body and a record that were read; and the way through the file. Rests on `Inner`,
+-- `ReadLaws`, `TilesLaws` and the laws of stored tiles. Assumes nothing.
 use mathlib.Core.Path.{◌≡◌, refl, sym, ap, ◌∙◌, subst}
-use mathlib.Core.Logic.{⊎_elim}
-use mathlib.Core.Bool.{Bool, true, false, So, cond}
-use mathlib.Core.List.{List, [], ◌++◌}
-use Prim.Native.Nat.{ℕ, zero, suc, ◌+◌, ◌*◌, ◌≤◌, ◌<◌}
+use mathlib.Core.Bool.{Bool, So}
+use mathlib.Core.List.{List, [], ◌∷◌, ◌++◌}
+use Prim.Native.Nat.{ℕ, zero, suc, ◌+◌, ◌≤◌, ◌<◌}
 use native.Mathlib.Omega.{arith}
-use lib.ListN.{length, get_or, drop}
-use Rattle.cells.specs.Set.{from_bits, set_of}
+use lib.ListN.{length, drop}
+use Rattle.std.specs.Prelude.{Option, Some, None, Result, Ok, Err, IfOk, IsErrAnd}
+use Rattle.cells.specs.declared.Cells.{Cells}
+use Rattle.cells.specs.Set.{number, value}
+use Rattle.tile.specs.declared.Tile.{Tile}
 use Rattle.tiles.specs.declared.Tiles.{Tiles}
-use Rattle.tile.specs.declared.MadeTile.{MadeTile}
+use Rattle.std.specs.Borrow.{Bor}
+use Rattle.std.proofs.Math.Seq.{drop-drop, drop-append_seam}
+use Rattle.std.specs.Prelude.{◌-◌}
+use mathlib.Core.Logic.{⊎_elim}
+use lib.ListN.{length-append, length-drop}
 use Rattle.refusal.specs.declared.Refusal.{Refusal}
-use Rattle.refusal.specs.declared.Refusal.TheVariants as R
-use Rattle.refusal.specs.declared.Verdict.{Verdict}
-use Rattle.refusal.specs.declared.Verdict.TheVariants as Verdicts
-use Rattle.refusal.specs.Refusal.{Answer, refused, given, map_answer, refusal_number, refusal_of, value_or, verdict_number}
-use Rattle.refusal.specs.RefusalLaws.{refusal_number_pos, map_map}
+use Rattle.refusal.specs.Refusal.{Answer, refused, given, map_answer, refusal_number, answer_of}
+use Rattle.refusal.specs.RefusalLaws.{map_given, map_refused}
 use Rattle.tile.specs.Path.{Path, codes_ok, path_in, read_path, tile_of, MakesTile}
 use Rattle.tiles.specs.Paths.{paths_in, tiles_of}
-use Rattle.tile.specs.StoredLaws.{path_in_tile_of, clean_tile_of, read_path_is, read_path_refused}
+use Rattle.tile.specs.StoredLaws.{path_in_tile_of, clean_tile_of, read_path_is}
 use Rattle.tile.specs.Inner.{CleanTile}
 use Rattle.board.specs.declared.RectangularBoard.{RectangularBoard}
-use Rattle.board.specs.declared.MadeBoard.{MadeBoard}
-use Rattle.rectangle.specs.Board.{Board, no_board, size_ok, inside, below}
-use Rattle.board.specs.Board.{board_of, shape_mark, shaped, new_board, l_board, t_board, with_hole, MakesBoard}
-use Rattle.board.specs.HoleLaws.{with_hole_refused}
+use Rattle.rectangle.specs.Board.{Board, no_board}
+use Rattle.board.specs.Board.{board_of, of_marks, MakesBoard}
 use Rattle.plot_file.specs.declared.marks.Mark.{Mark}
-use Rattle.plot_file.specs.declared.marks.Mark.TheVariants.{RB, LB, TB, HO, TI, OR, EN}
-use Rattle.plot_file.specs.declared.MadePlot.{MadePlot}
-use Rattle.plot_file.specs.declared.marks.Marked.{Marked}
-use Rattle.plot_file.specs.declared.marks.Marked.TheVariants as M
-use Rattle.plot_file.specs.declared.bodies.Body.{Body}
-use Rattle.plot_file.specs.declared.records.Plot.{Plot as PlotSoFar}
-use Rattle.plot_file.specs.declared.records.Next.{Next}
-use Rattle.plot_file.specs.declared.records.Next.TheVariants as N
-use Rattle.plot_file.specs.declared.records.Step.{Step as StepTaken}
-use Rattle.plot_file.specs.PlotFile.{Plot, no_plot, read_mark, read_body, board_body, hole_body, add_tiles, tile_body, Step, more, ended, onward, records, plot_in, ReadsPlot}
-use Rattle.plot_file.specs.Inner.{answer_of, marked_answer, is_board, board_for, tiles_for, ReadsBody, plot_of, Kept, next_answer, Ahead, Reads, board_only, start_at, StepsTo, record_at}
-use Rattle.plot_file.proofs.RecordLaws.{read_body_is}
-use Rattle.plot_file.proofs.ReadLaws.{read_mark_behind, board_body_at, hole_body_at, tile_body_read, add_tiles_given, add_tiles_many, records_on}
-use Rattle.plot_file.proofs.TilesLaws.{count_is, no_paths, none_clean, none_paths, for_paths}
-
--- ---- answers
-
--- a verdict with an answer's number, and its value, are that answer: no refusal has number 0
-told : {A : Type 0} (a : Answer A) (v : Verdict) (d x : A) → ((n : ℕ) → a ≡ refused n → 0 < n) → verdict_number v ≡ refusal_of a → x ≡ value_or d a → answer_of v x ≡ a
-unfolding refusal_of value_or
-told (refused n) Verdicts.Accepted d x pos e q = absurd (omega (arith, pos n refl))
-told (refused n) (Verdicts.Refused r) d x pos e q = ap refused e
-told (given y) Verdicts.Accepted d x pos e q = ap given q
-told (given y) (Verdicts.Refused r) d x pos e q = absurd (omega (arith, refusal_number_pos r))
-
-map_answer_of : {A B : Type 0} (f : A → B) (v : Verdict) (x : A) → map_answer f (answer_of v x) ≡ answer_of v (f x)
-unfolding map_answer
-map_answer_of f Verdicts.Accepted x = refl
-map_answer_of f (Verdicts.Refused r) x = refl
+use Rattle.plot_file.specs.declared.plots.Plot.{Plot as PlotSoFar}
+use Rattle.plot_file.specs.declared.plots.Step.{Step as StepTaken}
+use Rattle.plot_file.specs.PlotFile.{Plot, no_plot, read_mark, read_body, add_tiles, tile_body, Step, more, ended, onward, records, plot_in}
+use Rattle.plot_file.specs.Inner.{marked_answer, tiles_for, ReadsBody, plot_of, step_to, step_in, Reads, start_at, record_at}
+use Rattle.plot_file.proofs.RecordLaws.{read_body_is, TileRead, HoleRead, later_record_left, length_tile_bytes, length_hole_bytes}
+use Rattle.plot_file.proofs.FirstRecordLaws.{first_record_given}
+use Rattle.plot_file.specs.Records.{BoardRecord, rb, lb, tb, board_bytes, tile_bytes, hole_bytes}
+use Rattle.plot_file.proofs.ReadLaws.{tile_body_read, tile_body_refused, add_tiles_given, add_tiles_many, records_on}
+use Rattle.plot_file.proofs.TilesLaws.{count_is, none_paths, for_paths}
 
 -- ---- marks
 
-module _ (file : List ℕ) (at : ℕ) (m : Marked) (e : marked_answer file at m ≡ read_mark (drop at file)) where
-  pub marked_is : (mark : Mark) → m ≡ M.Is mark → read_mark (drop at file) ≡ given (mark, drop (at + 2) file)
+module _ (bytes : List ℕ) (m : Result (Mark × Bor (List ℕ)) Refusal) (e : marked_answer m ≡ read_mark bytes) where
+  pub marked_is : (mark : Mark) (rest : Bor (List ℕ)) → m ≡ Ok (mark, rest) → read_mark bytes ≡ given (mark, rest.now)
   unfolding map_answer
-  marked_is mark q = sym e ∙ ap (marked_answer file at) q
+  marked_is mark rest q = sym e ∙ ap marked_answer q
 
-  pub marked_refused : (r : Refusal) → m ≡ M.Refused r → read_mark (drop at file) ≡ refused (refusal_number r)
+  pub marked_refused : (r : Refusal) → m ≡ Err r → read_mark bytes ≡ refused (refusal_number r)
   unfolding map_answer
-  marked_refused r q = sym e ∙ ap (marked_answer file at) q
-
-  pub marked_behind : (mark : Mark) → at ≤ length file → m ≡ M.Is mark → at + 2 ≤ length file
-  marked_behind mark h q = read_mark_behind file at mark (drop (at + 2) file) h (marked_is mark q)
-
--- ---- boards
-
-shaped_pos : (w h rows low high n : ℕ) → shaped w h rows low high ≡ refused n → 0 < n
-unfolding shaped
-shaped_pos w h rows low high n e = go (size_ok w h) e
-  where
-    go : (t : Bool) → cond {A = Answer Board} t (given record { width = w; height = h; fixed = set_of (shape_mark w h rows low high); laid = 0 }) (refused 4) ≡ refused n → 0 < n
-    go true q = let z : ◌≡◌ {A = ℕ} 0 1 = cc in absurd (omega arith)
-    go false q = let z : 4 ≡ n = cc in omega arith
-
-board_for_pos : (mark : Mark) (a b n : ℕ) → board_for mark a b ≡ refused n → 0 < n
-unfolding new_board l_board t_board
-board_for_pos RB a b n e = shaped_pos a b 0 0 0 n e
-board_for_pos LB a b n e = shaped_pos (a * b) (2 * b) b 0 b n e
-board_for_pos TB a b n e = shaped_pos ((2 * a + 1) * b) (2 * b) b (a * b) ((a + 1) * b) n e
-board_for_pos HO a b n e = shaped_pos a b 0 0 0 n e
-board_for_pos TI a b n e = shaped_pos a b 0 0 0 n e
-board_for_pos OR a b n e = shaped_pos a b 0 0 0 n e
-board_for_pos EN a b n e = shaped_pos a b 0 0 0 n e
-
-with_hole_pos : (board : Board) (row column n : ℕ) → with_hole board row column ≡ refused n → 0 < n
-with_hole_pos board row column n e = ⊎_elim (λ q. omega arith) (λ q. omega arith) (with_hole_refused board row column n e)
-
--- 0 by 0 is the board with no cell
-new_board_none : value_or no_board (new_board 0 0) ≡ no_board
-unfolding new_board shaped size_ok set_of shape_mark inside below from_bits value_or
-new_board_none = refl
+  marked_refused r q = sym e ∙ ap marked_answer q
 
 -- ---- bodies of tiles
 
-module _ (file : List ℕ) (at : ℕ) (a : Answer (Path × List ℕ)) where
-  pub body_refused : (q : Refusal) (r : Body) → at ≤ length file → a ≡ refused (refusal_number q) → (r.verdict ≡ Verdicts.Refused q) × (r.tile ≡ tile_of []) × (r.end ≡ at) → ReadsBody file at a r
-  body_refused q r h e (v, t, s) =
-      record {
-        answer = ap (λ (w : Verdict). answer_of w (path_in r.tile, drop r.end file)) v ∙ sym e;
-        tile = subst CleanTile (sym t) (clean_tile_of [] (omega arith));
-        low = omega arith;
-        high = omega arith;
-      }
+module _ (a : Answer (Path × List ℕ)) where
+  pub body_refused : (q : Refusal) (r : Result (Tile × Bor (List ℕ)) Refusal) → IsErrAnd r (λ e. e ≡ q) → a ≡ refused (refusal_number q) → ReadsBody a r
+  unfolding map_answer
+  body_refused q (Ok b) i e = absurd i
+  body_refused q (Err f) i e = record { answer = ap (λ (x : Refusal). refused (refusal_number x)) i ∙ sym e; clean = tt }
 
-  module _ (codes : List ℕ) (made : MadeTile) (m : MakesTile (read_path codes) made) where
-    path_short : length (value_or [] (read_path codes)) ≤ 32
-    unfolding value_or
-    path_short = go (read_path codes) refl
-      where
-        go : (b : Answer Path) → read_path codes ≡ b → length (value_or [] b) ≤ 32
-        go (refused n) e = omega arith
-        go (given p) e = let is = read_path_is codes p e in subst (λ (q : Path). length q ≤ 32) (sym is.0) is.1
+  module _ (codes rest : List ℕ) (e : a ≡ map_answer (λ path. (path, rest)) (read_path codes)) (made : Result Tile Refusal) (m : MakesTile (read_path codes) made) where
+    pub body_not : (q : Refusal) → made ≡ Err q → a ≡ refused (refusal_number q)
+    unfolding map_answer
+    body_not q is =
+        let m = sym m ∙ ap answer_of is in e ∙ ap (map_answer (λ path. (path, rest))) ((map_refused tile_of (read_path codes) (refusal_number q)).0 m)
 
-    path_pos : (n : ℕ) → read_path codes ≡ refused n → 0 < n
-    path_pos n e = let f = read_path_refused codes n e in omega arith
-
-    pub body_made : (end : ℕ) → at ≤ end → end ≤ length file → a ≡ map_answer (λ path. (path, drop end file)) (read_path codes)
-        → ReadsBody file at a (record { verdict = made.verdict; tile = made.tile; end = end })
-    body_made end h k e =
-        let path : path_in made.tile ≡ value_or [] (read_path codes) = ap path_in m.tile ∙ path_in_tile_of (value_or [] (read_path codes)) path_short in
-        let is = told (read_path codes) made.verdict [] (path_in made.tile) path_pos m.verdict path in
+    pub body_made : (tile : Tile) → made ≡ Ok tile → (left : Bor (List ℕ)) → left.now ≡ rest → ReadsBody a (Ok (tile, left))
+    unfolding map_answer
+    body_made tile is left l =
+        let p = map_given tile_of (read_path codes) tile (sym m ∙ ap answer_of is) in
+        let short : length p.0 ≤ 32 = let is = read_path_is codes p.0 p.1 in subst (λ (q : Path). length q ≤ 32) (sym is.0) is.1 in
+        let path : path_in tile ≡ p.0 = ap path_in (sym p.2) ∙ path_in_tile_of p.0 short in
+        let same : given (path_in tile, left.now) ≡ given (p.0, rest) = ap (λ (q : Path). given (q, left.now)) path ∙ ap (λ (l : List ℕ). given (p.0, l)) l in
         record {
-          answer = sym (map_answer_of (λ (p : Path). (p, drop end file)) made.verdict (path_in made.tile)) ∙ ap (map_answer (λ (p : Path). (p, drop end file))) is ∙ sym e;
-          tile = subst CleanTile (sym m.tile) (clean_tile_of (value_or [] (read_path codes)) path_short);
-          low = h;
-          high = k;
+          answer = same ∙ sym (e ∙ ap (map_answer (λ path. (path, rest))) p.1);
+          clean = subst CleanTile p.2 (clean_tile_of p.0 short);
         }
 
 -- a body that was read
-module _ (file : List ℕ) (at : ℕ) (r : Body) (b : ReadsBody file at (read_body (drop at file)) r) where
-  body_given : r.verdict ≡ Verdicts.Accepted → read_body (drop at file) ≡ given (path_in r.tile, drop r.end file)
-  body_given e = sym b.answer ∙ ap (λ (v : Verdict). answer_of v (path_in r.tile, drop r.end file)) e
+module _ (bytes : List ℕ) (r : Result (Tile × Bor (List ℕ)) Refusal) (b : ReadsBody (read_body bytes) r) where
+  body_answer : (x : Result (Tile × Bor (List ℕ)) Refusal) → r ≡ x → read_body bytes ≡ map_answer (λ b. (path_in b.0, b.1.now)) (answer_of x)
+  body_answer x is = sym b.answer ∙ ap (λ (x : Result (Tile × Bor (List ℕ)) Refusal). map_answer (λ b. (path_in b.0, b.1.now)) (answer_of x)) is
 
-  pub body_not : (q : Refusal) → r.verdict ≡ Verdicts.Refused q → read_body (drop at file) ≡ refused (refusal_number q)
-  body_not q e = sym b.answer ∙ ap (λ (v : Verdict). answer_of v (path_in r.tile, drop r.end file)) e
+  pub body_err : (q : Refusal) → r ≡ Err q → read_body bytes ≡ refused (refusal_number q)
+  unfolding map_answer
+  body_err q is = body_answer (Err q) is
 
-  pub body_path : r.verdict ≡ Verdicts.Accepted → (length (path_in r.tile) ≤ 32) × So (codes_ok (path_in r.tile))
-  body_path e = let is = read_body_is (drop at file) (path_in r.tile) (drop r.end file) (body_given e) in (is.1, is.2)
+  module _ (t : Tile) (rest : Bor (List ℕ)) (is : r ≡ Ok (t, rest)) where
+    pub body_given : read_body bytes ≡ given (path_in t, rest.now)
+    unfolding map_answer
+    body_given = body_answer (Ok (t, rest)) is
 
--- ---- plots so far
+    pub body_clean : CleanTile t
+    body_clean = subst (λ (x : Result (Tile × Bor (List ℕ)) Refusal). IfOk x (λ b. CleanTile b.0)) is b.clean
 
-pub plot_none : (p : PlotSoFar) → board_of p.board ≡ value_or no_board (new_board 0 0) → p.tiles ≡ tiles_of [] → (plot_of p ≡ no_plot) × (p.tiles ≡ tiles_of [])
-plot_none p e q =
-    let board : board_of p.board ≡ no_board = e ∙ new_board_none in
-    let tiles = none_paths p.tiles q in
-    (λ i. record { board = board i; tiles = tiles i }, q)
+    pub body_path : (length (path_in t) ≤ 32) × So (codes_ok (path_in t))
+    body_path = let is = read_body_is bytes (path_in t) rest.now body_given in (is.1, is.2)
 
 -- ---- records
 
-ahead_le : (from at end : ℕ) (n : Next) → from ≤ at → Ahead at end n → Ahead from end n
-ahead_le from at end (N.At i) h (a, b) = (omega arith, b)
-ahead_le from at end N.End h a = tt
-ahead_le from at end (N.Refused r) h a = tt
+pub reads_refused : (a : Answer Step) (q : Refusal) (r : Result StepTaken Refusal) → IsErrAnd r (λ e. e ≡ q) → a ≡ refused (refusal_number q) → Reads a r
+unfolding map_answer
+reads_refused a q (Ok s) i e = absurd i
+reads_refused a q (Err f) i e = ap (λ (x : Refusal). refused (refusal_number x)) i ∙ sym e
 
-ahead_to : (from to end : ℕ) (n : Next) → from ≤ to → to ≤ end → Ahead to to n → Ahead from end n
-ahead_to from to end (N.At i) h k (a, b) = (omega arith, omega arith)
-ahead_to from to end N.End h k a = tt
-ahead_to from to end (N.Refused r) h k a = tt
+-- ---- boards
 
-module _ (file : List ℕ) (at : ℕ) (a : Answer Step) (s : StepTaken) where
-  pub reads_refused : (q : Refusal) → a ≡ refused (refusal_number q) → (s.next ≡ N.Refused q) × Kept s.plot → Reads file at a s
-  reads_refused q e h =
-      record {
-        answer = ap (next_answer file (plot_of s.plot)) h.0 ∙ sym e;
-        kept = h.1;
-        ahead = subst (Ahead at (length file)) (sym h.0) tt;
-      }
+-- the 0 by 0 board, of no marks, and no tiles
+pub plot_none : (board : RectangularBoard) (none : Cells) (ts : Tiles) → number none ≡ value (0 ∷ 0 ∷ 0 ∷ 0 ∷ []) → board ≡ of_marks 0 0 none none → ts ≡ tiles_of []
+    → record { board = board_of board; tiles = paths_in ts } ≡ no_plot
+unfolding value
+plot_none board none ts z e t =
+    let is : board_of board ≡ no_board = ap board_of e ∙ ap (λ (n : ℕ). record { width = 0; height = 0; fixed = n; laid = n }) z in
+    let tiles = none_paths ts t in
+    λ i. record { board = is i; tiles = tiles i }
 
-  pub reads_end : a ≡ given (ended (plot_of s.plot)) → s.next ≡ N.End → Kept s.plot → Reads file at a s
-  reads_end e n k = record { answer = ap (next_answer file (plot_of s.plot)) n ∙ sym e; kept = k; ahead = subst (Ahead at (length file)) (sym n) tt }
-
-  -- the same record, from an earlier place
-  pub reads_from : (later : ℕ) (b : Answer Step) → Reads file later b s → at ≤ later → a ≡ b → Reads file at a s
-  reads_from later b r h e = record { answer = r.answer ∙ sym e; kept = r.kept; ahead = ahead_le at later (length file) s.next h r.ahead }
-
-  -- a step to a place
-  reads_to : (made : Answer Plot) (to : ℕ) → StepsTo made to s → at ≤ to → to ≤ length file → a ≡ map_answer (λ p. more p (drop to file)) made → Reads file at a s
-  reads_to made to t h k e = record { answer = t.answer file ∙ sym e; kept = t.kept; ahead = ahead_to at to (length file) s.next h k t.ahead }
-
--- a step that was refused, and one to a place
-module _ (made : Answer Plot) (to : ℕ) (s : StepTaken) where
-  steps_refused : (q : Refusal) → made ≡ refused (refusal_number q) → (s.next ≡ N.Refused q) × Kept s.plot → StepsTo made to s
-  unfolding map_answer
-  steps_refused q e h =
-      record {
-        answer = λ file. ap (next_answer file (plot_of s.plot)) h.0 ∙ sym (ap (map_answer (λ p. more p (drop to file))) e);
-        kept = h.1;
-        ahead = subst (Ahead to to) (sym h.0) tt;
-      }
-
-  steps_to : (p : Plot) → made ≡ given p → s.next ≡ N.At to → plot_of s.plot ≡ p → Kept s.plot → StepsTo made to s
-  unfolding map_answer
-  steps_to p e n q k =
-      record {
-        answer = λ file. ap (next_answer file (plot_of s.plot)) n ∙ ap (λ (x : Plot). given (more x (drop to file))) q ∙ sym (ap (map_answer (λ x. more x (drop to file))) e);
-        kept = k;
-        ahead = subst (Ahead to to) (sym n) (omega arith, omega arith);
-      }
-
--- the step behind a board that is made, and its record
-module _ (v : Verdict) (board : RectangularBoard) (to : ℕ) (s : StepTaken) where
-  pub steps_board : v ≡ Verdicts.Accepted → s.next ≡ N.At to → s.plot.board ≡ board → s.plot.tiles ≡ tiles_of [] → StepsTo (map_answer board_only (answer_of v (board_of board))) to s
-  unfolding map_answer
-  steps_board e n b t =
-      let tiles = none_paths s.plot.tiles t in
-      steps_to (map_answer board_only (answer_of v (board_of board))) to s (board_only (board_of board)) (ap (λ (w : Verdict). map_answer board_only (answer_of w (board_of board))) e) n
-      (λ i. record { board = board_of (b i); tiles = tiles i }) (none_clean s.plot.tiles t)
-
-  pub steps_no_board : (q : Refusal) → v ≡ Verdicts.Refused q → (s.next ≡ N.Refused q) × Kept s.plot → StepsTo (map_answer board_only (answer_of v (board_of board))) to s
-  unfolding map_answer
-  steps_no_board q e h =
-      steps_refused (map_answer board_only (answer_of v (board_of board))) to s q (ap (λ (w : Verdict). map_answer board_only (answer_of w (board_of board))) e) h
+pub starts : (board : RectangularBoard) (rest : List ℕ) (ts : Tiles) → ts ≡ tiles_of [] → more (record { board = board_of board; tiles = paths_in ts }) rest ≡ start_at (board_of board, rest)
+starts board rest ts e = ap (λ (l : List Path). more (record { board = board_of board; tiles = l }) rest) (none_paths ts e)
 
 -- a record of two bytes that make a board, which is a plot with no tiles
-reads_pair : (file : List ℕ) (at : ℕ) (a : Answer Step) (board : Answer Board) (made : MadeBoard) (s : StepTaken) → at + 2 ≤ length file
-    → a ≡ map_answer start_at (map_answer (λ (x : Board). (x, drop (at + 2) file)) board) → ((n : ℕ) → board ≡ refused n → 0 < n)
-    → MakesBoard board made → StepsTo (map_answer board_only (answer_of made.verdict (board_of made.board))) (at + 2) s → Reads file at a s
-reads_pair file at a board made s h e positive m t =
-    reads_to file at a s (map_answer board_only (answer_of made.verdict (board_of made.board))) (at + 2) t (omega arith) h
-    (e
-    ∙ map_map start_at (λ (x : Board). (x, drop (at + 2) file)) board
-    ∙ sym (map_map (λ p. more p (drop (at + 2) file)) board_only board)
-    ∙ ap (λ (x : Answer Board). map_answer (λ p. more p (drop (at + 2) file)) (map_answer board_only x)) (sym (told board made.verdict no_board (board_of made.board) positive m.verdict m.board)))
+module _ (rest : List ℕ) (a : Answer Step) (board : Answer Board) (e : a ≡ map_answer start_at (map_answer (λ (x : Board). (x, rest)) board)) (made : Result RectangularBoard Refusal) (m : MakesBoard board made) where
+  pair_is : (x : Result RectangularBoard Refusal) → made ≡ x → a ≡ map_answer start_at (map_answer (λ (x : Board). (x, rest)) (map_answer board_of (answer_of x)))
+  pair_is x is =
+      e
+      ∙ ap (λ (b : Answer Board). map_answer start_at (map_answer (λ (x : Board). (x, rest)) b)) (sym m ∙ ap (λ (r : Result RectangularBoard Refusal). map_answer board_of (answer_of r)) is)
 
-pub reads_board : (file : List ℕ) (at : ℕ) (mark : Mark) (made : MadeBoard) (s : StepTaken) → is_board mark ≡ true → at + 2 ≤ length file
-    → MakesBoard (board_for mark (get_or file at 0) (get_or file (at + 1) 0)) made → StepsTo (map_answer board_only (answer_of made.verdict (board_of made.board))) (at + 2) s
-    → Reads file at (map_answer start_at (board_body mark (drop at file))) s
-reads_board file at mark made s is h =
-    reads_pair file at (map_answer start_at (board_body mark (drop at file))) (board_for mark (get_or file at 0) (get_or file (at + 1) 0)) made s h
-    (ap (map_answer start_at) (board_body_at mark file at is h)) (board_for_pos mark (get_or file at 0) (get_or file (at + 1) 0))
+  pub pair_refused : (q : Refusal) → made ≡ Err q → (r : Result StepTaken Refusal) → IsErrAnd r (λ e. e ≡ q) → Reads a r
+  unfolding map_answer
+  pair_refused q is r i = reads_refused a q r i (pair_is (Err q) is)
 
-pub reads_hole : (file : List ℕ) (at : ℕ) (plot : PlotSoFar) (made : MadeBoard) (s : StepTaken) → plot.tiles.count ≤ 0 → at + 2 ≤ length file
-    → MakesBoard (with_hole (board_of plot.board) (get_or file at 0) (get_or file (at + 1) 0)) made → StepsTo (map_answer board_only (answer_of made.verdict (board_of made.board))) (at + 2) s
-    → Reads file at (hole_body (plot_of plot) (drop at file)) s
-reads_hole file at plot made s none h =
-    reads_pair file at (hole_body (plot_of plot) (drop at file)) (with_hole (board_of plot.board) (get_or file at 0) (get_or file (at + 1) 0)) made s h
-    (hole_body_at (plot_of plot) file at (no_paths plot.tiles none) h) (with_hole_pos (board_of plot.board) (get_or file at 0) (get_or file (at + 1) 0))
+  pub pair_read : (b : RectangularBoard) → made ≡ Ok b → (s : StepTaken) → step_in s ≡ start_at (board_of b, rest) → Reads a (Ok s)
+  unfolding map_answer
+  pair_read b is s t = ap (λ (x : Step). given x) t ∙ sym (pair_is (Ok b) is)
 
--- the step behind some tiles more, and their record
-module _ (plot : PlotSoFar) (tiles : Tiles) (to : ℕ) (s : StepTaken) where
-  pub steps_many : 64 < plot.tiles.count + tiles.count → (s.next ≡ N.Refused R.TooManyTiles) × Kept s.plot → StepsTo (add_tiles (plot_of plot) (paths_in tiles)) to s
-  steps_many h r =
-      steps_refused (add_tiles (plot_of plot) (paths_in tiles)) to s R.TooManyTiles (add_tiles_many (plot_of plot) (paths_in tiles) (omega (arith, count_is plot.tiles, count_is tiles))) r
+-- ---- tiles
 
-  pub steps_added : plot.tiles.count + tiles.count ≤ 64 → s.next ≡ N.At to → s.plot.board ≡ plot.board → Kept s.plot × (paths_in s.plot.tiles ≡ paths_in plot.tiles ++ paths_in tiles) → StepsTo (add_tiles (plot_of plot) (paths_in tiles)) to s
-  steps_added h n b j =
-      let paths = j.1 in
-      steps_to (add_tiles (plot_of plot) (paths_in tiles)) to s (record { board = board_of plot.board; tiles = paths_in plot.tiles ++ paths_in tiles })
-      (add_tiles_given (plot_of plot) (paths_in tiles) (omega (arith, count_is plot.tiles, count_is tiles))) n
-      (λ i. record { board = board_of (b i); tiles = paths i }) j.0
+-- the step behind some tiles more
+module _ (plot : PlotSoFar) (tiles : Tiles) (rest : List ℕ) where
+  pub steps_many : 64 < plot.tiles.count + tiles.count → refused 6 ≡ map_answer (λ p. more p rest) (add_tiles (plot_of plot) (paths_in tiles))
+  unfolding map_answer
+  steps_many h =
+      sym (ap (map_answer (λ p. more p rest)) (add_tiles_many (plot_of plot) (paths_in tiles) (omega (arith, count_is plot.tiles, count_is tiles))))
 
-pub reads_tiles : (file : List ℕ) (at : ℕ) (whole : Bool) (plot : Plot) (r : Body) (ts : Tiles) (s : StepTaken) → ReadsBody file at (read_body (drop at file)) r → r.verdict ≡ Verdicts.Accepted
-    → ts ≡ tiles_of (tiles_for whole (path_in r.tile)) → StepsTo (add_tiles plot (paths_in ts)) r.end s → Reads file at (tile_body (tiles_for whole) plot (drop at file)) s
-reads_tiles file at whole plot r ts s b e q t =
-    reads_to file at (tile_body (tiles_for whole) plot (drop at file)) s (add_tiles plot (paths_in ts)) r.end t b.low b.high
-    (tile_body_read (drop at file) plot (tiles_for whole) (path_in r.tile) (drop r.end file) (body_given file at r b e)
-    ∙ ap (λ (ps : List Path). map_answer (λ p. more p (drop r.end file)) (add_tiles plot ps)) (sym (for_paths whole (path_in r.tile) (body_path file at r b e).0 ts q)))
+  pub steps_added : plot.tiles.count + tiles.count ≤ 64 → (all : Tiles) → paths_in all ≡ paths_in plot.tiles ++ paths_in tiles
+      → given (more (record { board = board_of plot.board; tiles = paths_in all }) rest) ≡ map_answer (λ p. more p rest) (add_tiles (plot_of plot) (paths_in tiles))
+  unfolding map_answer
+  steps_added h all e =
+      ap (λ (ps : List Path). given (more (record { board = board_of plot.board; tiles = ps }) rest)) e
+      ∙ sym (ap (map_answer (λ p. more p rest)) (add_tiles_given (plot_of plot) (paths_in tiles) (omega (arith, count_is plot.tiles, count_is tiles))))
+
+-- a tile's record: the body is refused, or its tiles are added
+module _ (bytes : List ℕ) (whole : Bool) (plot : Plot) (body : Result (Tile × Bor (List ℕ)) Refusal) (b : ReadsBody (read_body bytes) body) (r : Result StepTaken Refusal) where
+  pub tile_refused : (q : Refusal) → body ≡ Err q → IsErrAnd r (λ e. e ≡ q) → Reads (tile_body (tiles_for whole) plot bytes) r
+  tile_refused q is i =
+      reads_refused (tile_body (tiles_for whole) plot bytes) q r i
+      (tile_body_refused bytes plot (tiles_for whole) (refusal_number q) (body_err bytes body b q is))
+
+  pub tile_added : (t : Tile) (rest : Bor (List ℕ)) → body ≡ Ok (t, rest) → (ts : Tiles) → ts ≡ tiles_of (tiles_for whole (path_in t))
+      → Reads (map_answer (λ p. more p rest.now) (add_tiles plot (paths_in ts))) r → Reads (tile_body (tiles_for whole) plot bytes) r
+  tile_added t rest is ts e s =
+      s
+      ∙ ap (λ (ps : List Path). map_answer (λ p. more p rest.now) (add_tiles plot ps)) (for_paths whole (path_in t) (body_path bytes body b t rest is).0 ts e)
+      ∙ sym (tile_body_read bytes plot (tiles_for whole) (path_in t) rest.now (body_given bytes body b t rest is))
 
 -- ---- through the file
 
@@ -280,45 +176,78 @@ unfolding plot_in
 left_at_on file zero plot = refl
 left_at_on file (suc at) plot = records_on plot file (suc at)
 
--- a place of a file and the plot so far, from which on the file comes to what it holds
-pub record Going (file : List ℕ) (at : ℕ) (p : PlotSoFar) : Type 0 where
-  pub inside : at ≤ length file
-  pub kept : Kept p
-  pub left : plot_in file ≡ left_at file at (plot_of p)
+-- a record that was read has bytes of its own in front of those that it leaves
+abbrev Fronted : List ℕ → List ℕ → Type 0
+Fronted bytes rest = (front : List ℕ) × (bytes ≡ front ++ rest) × (0 < length front)
 
-pub going_first : (file : List ℕ) (p : PlotSoFar) → p.tiles ≡ tiles_of [] → Going file 0 p
-going_first file p e = record { inside = omega arith; kept = none_clean p.tiles e; left = refl }
+fronted : (at : ℕ) (plot : Plot) (bytes : List ℕ) (next : Plot) (rest : List ℕ) → record_at at plot bytes ≡ given (more next rest) → Fronted bytes rest
+unfolding board_bytes
+fronted zero plot bytes next rest e =
+    let r = first_record_given bytes (more next rest) e in
+    (board_bytes r.0, r.4 ∙ ap (λ (l : List ℕ). board_bytes r.0 ++ l) (ap left_of r.3), some r.0)
+  where
+    left_of : Step → List ℕ
+    left_of (more p l) = l
+    left_of (ended p) = []
+
+    some : (first : BoardRecord) → 0 < length (board_bytes first)
+    some (rb a b) = omega arith
+    some (lb a b) = omega arith
+    some (tb a b) = omega arith
+fronted (suc at) plot bytes next rest e = ⊎_elim tile hole (later_record_left plot bytes (more next rest) e)
+  where
+    tile : TileRead plot bytes next rest → Fronted bytes rest
+    tile r = (tile_bytes r.tile, r.front, omega (arith, length_tile_bytes r.tile))
+
+    hole : HoleRead plot bytes next rest → Fronted bytes rest
+    hole r = (hole_bytes r.hole, r.front, omega (arith, length_hole_bytes r.hole))
+
+-- so they stand in the file behind its place
+stands : (file : List ℕ) (at : ℕ) (rest : List ℕ) → at ≤ length file → Fronted (drop at file) rest → (drop (length file - length rest) file ≡ rest) × (at < length file - length rest)
+stands file at rest h f =
+    let l = ap length f.1 in
+    let place : length file - length rest ≡ at + length f.0 = omega (arith, length-drop at file, length-append f.0 rest) in (
+      ap (λ (i : ℕ). drop i file) place ∙ sym (drop-drop (length f.0) at file) ∙ ap (drop (length f.0)) f.1 ∙ drop-append_seam f.0 rest,
+      omega (arith, f.2),
+    )
+
+-- a place of a file and the plot so far, from which on the file comes to what it holds
+abbrev pub Going : List ℕ → ℕ → PlotSoFar → Type 0
+Going file at p = plot_in file ≡ left_at file at (plot_of p)
+
+pub going_first : (file : List ℕ) (p : PlotSoFar) → Going file 0 p
+going_first file p = refl
 
 -- the record there was read: by where it goes on
-module _ (file : List ℕ) (at : ℕ) (p : PlotSoFar) (s : StepTaken) (g : Going file at p) (r : Reads file (at + 1) (record_at at (plot_of p) (drop at file)) s) where
-  comes_to : plot_in file ≡ onward (records (length file)) (next_answer file (plot_of s.plot) s.next)
-  comes_to = g.left ∙ left_at_on file at (plot_of p) ∙ ap (onward (records (length file))) (sym r.answer)
+module _ (file : List ℕ) (at : ℕ) (p : PlotSoFar) (r : Result StepTaken Refusal) (g : Going file at p) (read : Reads (record_at at (plot_of p) (drop at file)) r) where
+  comes_to : (x : Result StepTaken Refusal) → r ≡ x → plot_in file ≡ onward (records (length file)) (map_answer step_in (answer_of x))
+  comes_to x is =
+      g
+      ∙ left_at_on file at (plot_of p)
+      ∙ ap (onward (records (length file))) (sym read ∙ ap (λ (x : Result StepTaken Refusal). map_answer step_in (answer_of x)) is)
 
-  pub going_on : (i : ℕ) → s.next ≡ N.At i → Going file i s.plot × (at < i)
-  unfolding onward
-  going_on i e =
-      let h = subst (Ahead (at + 1) (length file)) e r.ahead in
-      let left = comes_to ∙ ap (λ (n : Next). onward (records (length file)) (next_answer file (plot_of s.plot) n)) e in
-      (record { inside = h.1; kept = r.kept; left = left ∙ sym (left_at_later file i (plot_of s.plot) (omega (arith, h.0))) }, omega (arith, h.0))
+  pub going_refused : (q : Refusal) → r ≡ Err q → (x : Result PlotSoFar Refusal) → IsErrAnd x (λ e. e ≡ q) → map_answer plot_of (answer_of x) ≡ plot_in file
+  unfolding onward map_answer
+  going_refused q is (Ok p) i = absurd i
+  going_refused q is (Err f) i = ap (λ (e : Refusal). refused (refusal_number e)) i ∙ sym (comes_to (Err q) is)
 
-  pub going_end : s.next ≡ N.End → plot_in file ≡ given (plot_of s.plot)
-  unfolding onward
-  going_end e = comes_to ∙ ap (λ (n : Next). onward (records (length file)) (next_answer file (plot_of s.plot) n)) e
+  module _ (s : StepTaken) (is-ok : r ≡ Ok s) where
+    pub going_end : s.next ≡ None → map_answer plot_of (given s.plot) ≡ plot_in file
+    unfolding onward map_answer
+    going_end e = sym (comes_to (Ok s) is-ok ∙ ap (λ (n : Option (Bor (List ℕ))). onward (records (length file)) (given (step_to (plot_of s.plot) n))) e)
 
-  pub going_refused : (q : Refusal) → s.next ≡ N.Refused q → plot_in file ≡ refused (refusal_number q)
-  unfolding onward
-  going_refused q e = comes_to ∙ ap (λ (n : Next). onward (records (length file)) (next_answer file (plot_of s.plot) n)) e
-
--- ---- the plot at the end
-
-module _ (r : MadePlot) where
-  pub plot_made : (p : PlotSoFar) → Kept p → r.verdict ≡ Verdicts.Accepted → r.board ≡ p.board → r.tiles ≡ p.tiles → ReadsPlot (given (plot_of p)) r
-  unfolding refusal_of value_or
-  plot_made p k v b t = record { verdict = ap verdict_number v; board = ap board_of b; tiles = t ∙ k.is }
-
-  pub plot_refused : (q : Refusal) (p : PlotSoFar) → (plot_of p ≡ no_plot) × (p.tiles ≡ tiles_of []) → r.verdict ≡ Verdicts.Refused q → r.board ≡ p.board → r.tiles ≡ p.tiles → ReadsPlot (refused (refusal_number q)) r
-  unfolding refusal_of value_or
-  plot_refused q p h v b t = record { verdict = ap verdict_number v; board = ap board_of b ∙ ap (λ (x : Plot). x.board) h.0; tiles = t ∙ h.1 }
-
-pub plot_is : (a b : Answer Plot) (r : MadePlot) → a ≡ b → ReadsPlot b r → ReadsPlot a r
-plot_is a b r e h = subst (λ (x : Answer Plot). ReadsPlot x r) (sym e) h
+    pub going_on : at ≤ length file → (rest : Bor (List ℕ)) → s.next ≡ Some rest → (to : ℕ) → to ≡ length file - length rest.now → Going file to s.plot × (at < to)
+    unfolding onward map_answer
+    going_on h rest e to is =
+        let left = comes_to (Ok s) is-ok ∙ ap (λ (n : Option (Bor (List ℕ))). onward (records (length file)) (given (step_to (plot_of s.plot) n))) e in
+        let step : record_at at (plot_of p) (drop at file) ≡ given (more (plot_of s.plot) rest.now) =
+        sym read
+        ∙ ap (λ (x : Result StepTaken Refusal). map_answer step_in (answer_of x)) is-ok
+        ∙ ap (λ (n : Option (Bor (List ℕ))). given (step_to (plot_of s.plot) n)) e in
+        let there = stands file at rest.now h (fronted at (plot_of p) (drop at file) (plot_of s.plot) rest.now step) in
+        let behind : at < to = omega (arith, there.1, is) in (
+          left
+              ∙ ap (records (length file) (plot_of s.plot)) (sym there.0 ∙ ap (λ (i : ℕ). drop i file) (sym is))
+              ∙ sym (left_at_later file to (plot_of s.plot) (omega (arith, behind))),
+          behind,
+        )

@@ -13,10 +13,12 @@ use Rattle.cells.specs.ArrayLaws.{length_list_of, get_d_snoc}
 use Rattle.cells.specs.FirstsLaws.{mem_get_d}
 use Rattle.tile.specs.declared.Tile.{Tile}
 use Rattle.tiles.specs.declared.Tiles.{Tiles}
-use Rattle.tiles.specs.declared.MadeTiles.{MadeTiles}
-use Rattle.refusal.specs.Refusal.{map_answer, value_or}
+use Rattle.std.specs.Prelude.{Result, Ok, IsOk}
+use Rattle.refusal.specs.declared.Refusal.{Refusal}
+use Rattle.refusal.specs.Refusal.{given, map_answer, answer_of}
+use Rattle.refusal.specs.RefusalLaws.{given_inj, is_ok_given}
 use Rattle.tile.specs.Path.{Path, codes_ok, path_in, read_tile, tile_of}
-use Rattle.tiles.specs.Paths.{orbit, path_at, paths_in, tiles_of, tile_at, MakesTiles, AddsTile}
+use Rattle.tiles.specs.Paths.{orbit, path_at, paths_in, tiles_of, appended, tile_at, MakesTiles, AddsTile}
 use Rattle.tile.specs.Inner.{CleanTile}
 use Rattle.tiles.specs.Inner.{Clean, Short}
 use Rattle.tiles.specs.OrbitLaws.{orbit_length_le, orbit_length_path}
@@ -63,20 +65,35 @@ none_paths ts e = ap paths_in e ∙ paths_in_tiles_of [] none_short (omega arith
 
 -- ---- one tile more
 
-pub adds_one : (ts : Tiles) (t : Tile) (r : MadeTiles) → Clean ts → CleanTile t → ts.count < 64 → AddsTile ts t r → r.tiles ≡ tiles_of (paths_in ts ++ path_in t ∷ [])
-unfolding value_or
-adds_one ts t r c d h a = a.tiles ∙ ap (value_or (tiles_of [])) (with_tile_given ts t h) ∙ appended_clean ts t c d h
+module _ (ts : Tiles) (t : Tile) (r : Result Tiles Refusal) (c : Clean ts) (d : CleanTile t) (h : ts.count < 64) (a : AddsTile ts t r) where
+  pub adds_ok : IsOk r
+  adds_ok = is_ok_given r (appended ts t) (a ∙ with_tile_given ts t h)
+
+  pub adds_one : (all : Tiles) → r ≡ Ok all → all ≡ tiles_of (paths_in ts ++ path_in t ∷ [])
+  adds_one all e = given_inj all (appended ts t) (sym (ap answer_of e) ∙ a ∙ with_tile_given ts t h) ∙ appended_clean ts t c d h
 
 -- ---- what a record stands for
 
-pub tile_alone : (none : Tiles) (t : Tile) (r : MadeTiles) → CleanTile t → none ≡ tiles_of [] → AddsTile none t r → r.tiles ≡ tiles_of (path_in t ∷ [])
-tile_alone none t r d e a =
-    let room : none.count < 64 = omega (arith, ap length (none_paths none e), count_is none) in
-    adds_one none t r (none_clean none e) d room a ∙ ap (λ (ps : List Path). tiles_of (ps ++ path_in t ∷ [])) (none_paths none e)
+module _ (none : Tiles) (t : Tile) (r : Result Tiles Refusal) (d : CleanTile t) (e : none ≡ tiles_of []) (a : AddsTile none t r) where
+  none_room : none.count < 64
+  none_room = omega (arith, ap length (none_paths none e), count_is none)
 
-pub tile_orbit : (t : Tile) (r : MadeTiles) → CleanTile t → So (codes_ok (path_in t)) → MakesTiles (map_answer orbit (read_tile t)) r → r.tiles ≡ tiles_of (orbit (path_in t))
-unfolding map_answer value_or
-tile_orbit t r d ok m = m.tiles ∙ ap (λ a. tiles_of (value_or [] (map_answer orbit a))) (read_tile_given t d.short ok)
+  pub alone_ok : IsOk r
+  alone_ok = adds_ok none t r (none_clean none e) d none_room a
+
+  pub tile_alone : (all : Tiles) → r ≡ Ok all → all ≡ tiles_of (path_in t ∷ [])
+  tile_alone all is = adds_one none t r (none_clean none e) d none_room a all is ∙ ap (λ (ps : List Path). tiles_of (ps ++ path_in t ∷ [])) (none_paths none e)
+
+module _ (t : Tile) (r : Result Tiles Refusal) (d : CleanTile t) (ok : So (codes_ok (path_in t))) (m : MakesTiles (map_answer orbit (read_tile t)) r) where
+  orbit_given : answer_of r ≡ given (tiles_of (orbit (path_in t)))
+  unfolding map_answer
+  orbit_given = m ∙ ap (λ a. map_answer tiles_of (map_answer orbit a)) (read_tile_given t d.short ok)
+
+  pub orbit_ok : IsOk r
+  orbit_ok = is_ok_given r (tiles_of (orbit (path_in t))) orbit_given
+
+  pub tile_orbit : (all : Tiles) → r ≡ Ok all → all ≡ tiles_of (orbit (path_in t))
+  tile_orbit all e = given_inj all (tiles_of (orbit (path_in t))) (sym (ap answer_of e) ∙ orbit_given)
 
 module _ (whole : Bool) (p : Path) (h : length p ≤ 32) where
   for_short : Short (tiles_for whole p)

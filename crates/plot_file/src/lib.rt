@@ -2,32 +2,36 @@
 // definition over its bytes alone (specs/PlotFile.antt), and nothing is asked of a caller.
 //
 // The core reads a slice from a place on, a record at a time: marks.rt the mark, bodies.rt the body
-// behind it, holes.rt a hole, records.rt a whole record. A place is a number that goes in and comes
-// back by value. Over the core stands the plot reader (reader.rt), a struct that holds the slice and a
-// position in it. `read_plot` makes one and goes through the file with it: it reads the record at the
-// position, and moves the position to where the next one begins.
+// behind it, holes.rt a hole, records.rt a whole record. What is read comes back with the bytes behind
+// it, a slice of those that went in. Over the core stands the plot reader (reader.rt), a struct that
+// holds the slice and a position in it. `read_records` makes one and goes through the file with it: it
+// reads the record at the position, and moves the position to where the next one begins.
 #![tactic(auto)]
 
-ghost use Rattle.refusal.specs.Refusal.{refused, given, refusal_number};
+ghost use Rattle.std.specs.Prelude.{◌≡◌};
+ghost use Rattle.refusal.specs.Refusal.{map_answer, answer_of};
 ghost use Rattle.plot_file.specs.PlotFile.{plot_in, ReadsPlot};
-ghost use Rattle.plot_file.specs.Inner.{plot_of, Kept};
+ghost use Rattle.plot_file.specs.Inner.{plot_of};
 
 use board::RectangularBoard;
+use plots::Plot;
 use reader::PlotReader;
-use records::{Next, Plot};
-use refusal::{Refusal, Verdict};
+use refusal::Refusal;
 use tiles::Tiles;
 
 mod bodies;
 mod holes;
 mod marks;
+mod plots;
 mod reader;
 mod records;
 
 // A board and tiles, or a refusal with the 0 by 0 board and no tiles.
+// Kept: not `Result<Plot, Refusal>`: a refusal hands back the 0 by 0 board and no tiles (theorem
+// `read_refused`, clause `ReadsPlot` of `read_plot`).
 #[derive(Clone, Copy, Drop)]
 pub struct MadePlot {
-    pub verdict: Verdict,
+    pub verdict: Result<(), Refusal>,
     pub board: RectangularBoard,
     pub tiles: Tiles,
 }
@@ -40,44 +44,35 @@ pub struct MadePlot {
 pub fn read_plot(file: &[u8]) -> MadePlot
     ensures { ReadsPlot (plot_in file.now) result }
 {
-    let mut reader = PlotReader::new(file);
-    let mut plot = records::no_plot();
-    loop {
-        let step = reader.next_record(plot);
-        match step.next {
-            Next::At(place) => {
-                reader.at = place;
-                plot = step.plot;
+    match read_records(file) {
+        Ok(Plot { board, tiles }) => MadePlot {
+            verdict: Ok(()),
+            board,
+            tiles,
+        },
+        Err(refusal) => {
+            let Plot { board, tiles } = records::no_plot();
+            MadePlot {
+                verdict: Err(refusal),
+                board,
+                tiles,
             }
-            Next::End => return made(step.plot),
-            Next::Refused(refusal) => return unread(refusal),
         }
     }
 }
 
-// A plot that is read, and a refusal in its place.
-fn made(plot: Plot) -> MadePlot
-    requires { Kept plot }
-    ensures { ReadsPlot (given (plot_of plot)) result }
+// The plot of a file, read record by record, or its refusal.
+fn read_records(file: &[u8]) -> Result<Plot, Refusal>
+    ensures { map_answer plot_of (answer_of result) ≡ plot_in file.now }
 {
-    let board = plot.board;
-    let tiles = plot.tiles;
-    MadePlot {
-        verdict: Verdict::Accepted,
-        board,
-        tiles,
-    }
-}
-
-fn unread(refusal: Refusal) -> MadePlot
-    ensures { ReadsPlot (refused (refusal_number refusal)) result }
-{
-    let none = records::no_plot();
-    let board = none.board;
-    let tiles = none.tiles;
-    MadePlot {
-        verdict: Verdict::Refused(refusal),
-        board,
-        tiles,
+    let mut reader = PlotReader::new(file);
+    let mut plot = records::no_plot();
+    loop {
+        let step = reader.next_record(plot)?;
+        plot = step.plot;
+        let Some(rest) = step.next else {
+            return Ok(plot);
+        };
+        reader = reader.up_to(rest);
     }
 }

@@ -1,6 +1,5 @@
 -- The definitions compute: sizes, marks, free cells, accepted boards and steps, of small boards. Assumes nothing.
-use Rattle.std.specs.Prelude.{◌≡◌, refl, true, false, [], ◌∷◌, map, ℕ, ◌+◌, ◌*◌, ◌^◌, pos}
-use Rattle.std.proofs.Math.Option.{none, some}
+use Rattle.std.specs.Prelude.{◌≡◌, refl, None, Some, true, false, [], ◌∷◌, map, ℕ, ◌+◌, ◌*◌, ◌^◌, pos}
 use Rattle.direction.specs.Direction.{at}
 use Rattle.refusal.specs.Refusal.{refused, given}
 use Rattle.rectangle.specs.Board.{Board, cell_of, position_of, marks, free_set, no_board, size_ok, valid, accept_board, free_count, is_full, lay, board_at}
@@ -58,7 +57,7 @@ unfolding accept_board
 accepted = (refl, refl)
 
 -- Down and Right from (0, 0) of 2 by 2; Up leaves the board; so does Right from (0, 1); row 16, column 16 and code 8 lead nowhere
-steps : place_after 2 2 0 0 1 ∷ place_after 2 2 0 0 3 ∷ place_after 2 2 0 0 0 ∷ place_after 2 2 0 1 3 ∷ place_after 2 2 16 0 0 ∷ place_after 2 2 0 16 2 ∷ place_after 2 2 0 0 8 ∷ [] ≡ some (1, 0) ∷ some (0, 1) ∷ none ∷ none ∷ none ∷ none ∷ none ∷ []
+steps : place_after 2 2 0 0 1 ∷ place_after 2 2 0 0 3 ∷ place_after 2 2 0 0 0 ∷ place_after 2 2 0 1 3 ∷ place_after 2 2 16 0 0 ∷ place_after 2 2 0 16 2 ∷ place_after 2 2 0 0 8 ∷ [] ≡ Some (1, 0) ∷ Some (0, 1) ∷ None ∷ None ∷ None ∷ None ∷ None ∷ []
 unfolding place_after
 steps = refl
 

@@ -1,5 +1,4 @@
--- Laws, and examples; `Signed` and `StepLaws` are laws that only the proofs of this crate's code cite.
-pub mod Signed
+-- Laws, and examples; `StepLaws` are laws that only the proofs of this crate's code cite.
 pub mod StepLaws
 pub mod BoardLaws
 pub mod FreeLaws

@@ -1,14 +1,11 @@
 -- Laws of places: where one step leads from a place of a board, and what a place tells of its position. Rests on `Parts` and `BoardLaws`.
 -- Assumes nothing.
-use Rattle.std.specs.Prelude.{◌≡◌, refl, Bool, true, false, cond, ℕ, ◌+◌, ◌*◌, ◌<◌, pos, nat_abs}
+use Rattle.std.specs.Prelude.{◌≡◌, refl, Option, None, Some, Bool, true, false, cond, ℕ, ◌+◌, ◌*◌, ◌<◌, pos, nat_abs}
 use Rattle.std.proofs.Common.{sym, ap, ap₂, ◌∙◌, arith, lt-ltb}
 use Rattle.std.proofs.Math.Bool.{So}
-use Rattle.std.proofs.Math.Option.{none, some}
 use Rattle.direction.specs.Direction.{Position, at, shift, step}
-use Rattle.rectangle.specs.declared.Place.{Place}
-use Rattle.rectangle.specs.declared.Place.TheVariants as P
 use Rattle.rectangle.specs.Board.{cell_of, inside}
-use Rattle.rectangle.specs.Parts.{place_answer, place_if, place_after}
+use Rattle.rectangle.specs.Parts.{place_if, place_after}
 use Rattle.rectangle.proofs.BoardLaws.{inside_parts}
 
 -- from a row and a column that a board has, by a direction
@@ -18,21 +15,21 @@ place_after_is w h row col code a b c = rw (lt-ltb row 16 a, lt-ltb col 16 b, lt
 
 -- ---- what a place tells of its position
 
-pub place_true : (test : Position → Bool) (p : Position) (r c : ℕ) → place_answer (P.At r c) ≡ place_if test p → (test p ≡ true) × (nat_abs p.row ≡ r) × (nat_abs p.col ≡ c)
+pub place_true : (test : Position → Bool) (p : Position) (r c : ℕ) → ◌≡◌ {A = Option (ℕ × ℕ)} (Some (r, c)) (place_if test p) → (test p ≡ true) × (nat_abs p.row ≡ r) × (nat_abs p.col ≡ c)
 unfolding place_if
 place_true test p r c e = go (test p) e
   where
-    go : (t : Bool) → place_answer (P.At r c) ≡ cond t (some (nat_abs p.row, nat_abs p.col)) none → (t ≡ true) × (nat_abs p.row ≡ r) × (nat_abs p.col ≡ c)
+    go : (t : Bool) → ◌≡◌ {A = Option (ℕ × ℕ)} (Some (r, c)) (cond t (Some (nat_abs p.row, nat_abs p.col)) None) → (t ≡ true) × (nat_abs p.row ≡ r) × (nat_abs p.col ≡ c)
     go true q =
         let s : ◌≡◌ {A = ℕ × ℕ} (nat_abs p.row, nat_abs p.col) (r, c) = cc in
         (refl, ap (λ (z : ℕ × ℕ). z.0) s, ap (λ (z : ℕ × ℕ). z.1) s)
     go false q = let z : ◌≡◌ {A = ℕ} 0 1 = cc in absurd (omega arith)
 
-pub place_false : (test : Position → Bool) (p : Position) → place_answer P.Nowhere ≡ place_if test p → test p ≡ false
+pub place_false : (test : Position → Bool) (p : Position) → None ≡ place_if test p → test p ≡ false
 unfolding place_if
 place_false test p e = go (test p) e
   where
-    go : (t : Bool) → place_answer P.Nowhere ≡ cond t (some (nat_abs p.row, nat_abs p.col)) none → t ≡ false
+    go : (t : Bool) → ◌≡◌ {A = Option (ℕ × ℕ)} None (cond t (Some (nat_abs p.row, nat_abs p.col)) None) → t ≡ false
     go true q = let z : ◌≡◌ {A = ℕ} 0 1 = cc in absurd (omega arith)
     go false q = refl
 
@@ -55,8 +52,8 @@ placed w h p r c i a b =
       col = omega (arith, s.4);
     }
 
-pub place_placed : (w h : ℕ) (p : Position) (r c : ℕ) (x : Place) → place_answer x ≡ place_if (inside w h) p → x ≡ P.At r c → Placed w h p r c
-place_placed w h p r c x e f = let s = place_true (inside w h) p r c (sym (ap place_answer f) ∙ e) in placed w h p r c s.0 s.1 s.2
+pub place_placed : (w h : ℕ) (p : Position) (r c : ℕ) (x : Option (ℕ × ℕ)) → x ≡ place_if (inside w h) p → x ≡ Some (r, c) → Placed w h p r c
+place_placed w h p r c x e f = let s = place_true (inside w h) p r c (sym f ∙ e) in placed w h p r c s.0 s.1 s.2
 
 pub placed_cell : (w h : ℕ) (p : Position) (r c : ℕ) → Placed w h p r c → cell_of p ≡ 16 * r + c
 unfolding cell_of

@@ -1,7 +1,7 @@
 -- The documents' numbers by computation, and the answers of refusals and values. Assumes nothing.
+use Rattle.std.specs.Prelude.{Err, Ok}
 use Rattle.std.specs.Prelude.{◌≡◌, refl, [], ◌∷◌, map, ℕ, ◌+◌, leb, cond}
 use Rattle.refusal.specs.declared.Refusal.TheVariants as R
-use Rattle.refusal.specs.declared.Verdict.TheVariants as Verdicts
 use Rattle.refusal.specs.Refusal.{Answer, refused, given, map_answer, bind_answer, refusal_of, value_or, refusal_number, verdict_number}
 
 -- 1, the mark is cut or missing; 2, unknown mark; 3, a record in the wrong place; 4, board size or marks; 5, a path over 32 or a code over 7; 6, over 64 tiles;
@@ -12,7 +12,7 @@ numbers : map refusal_number (R.Cut ∷ R.UnknownMark ∷ R.Misplaced ∷ R.BadB
 numbers = refl
 
 -- a verdict's number is 0 for accepted, else the refusal's
-verdicts : (verdict_number Verdicts.Accepted ≡ 0) × (verdict_number (Verdicts.Refused R.BadGraph) ≡ 11)
+verdicts : (verdict_number (Ok tt) ≡ 0) × (verdict_number (Err R.BadGraph) ≡ 11)
 verdicts = (refl, refl)
 
 -- the number of an answer, 0 for a value

@@ -1,10 +1,9 @@
 -- Definitions: the refusals by their numbers, an answer that is a refusal or a value, and what is left in lent words for one. Every call's answer is read by one of these, so that
 -- the contracts speak of the documents' numbers and not of the code's names for them. Assumes nothing.
+use Rattle.std.specs.Prelude.{Err, Ok, Result, ⊤}
 use Rattle.std.specs.Prelude.{◌≡◌, List, [], ℕ, length}
 use Rattle.refusal.specs.declared.Refusal.{Refusal}
 use Rattle.refusal.specs.declared.Refusal.TheVariants as R
-use Rattle.refusal.specs.declared.Verdict.{Verdict}
-use Rattle.refusal.specs.declared.Verdict.TheVariants as Verdicts
 
 -- the number of each refusal: 1 to 12 are 01's, 13 and 14 those of request 1 of 02, 15 that of request 2
 abbrev pub refusal_number : Refusal → ℕ
@@ -29,6 +28,11 @@ pub data Answer (A : Type 0) : Type 0 where
   refused : ℕ → Answer A
   given : A → Answer A
 
+-- what a call answers, a value or a refusal, by the documents' numbers
+abbrev pub answer_of : {A : Type 0} → Result A Refusal → Answer A
+answer_of (Ok x) = given x
+answer_of (Err r) = refused (refusal_number r)
+
 -- the value put through f
 unfoldable pub map_answer : {A B : Type 0} → (A → B) → Answer A → Answer B
 map_answer f (refused n) = refused n
@@ -49,10 +53,10 @@ unfoldable pub value_or : {A : Type 0} → A → Answer A → A
 value_or d (refused n) = d
 value_or d (given a) = a
 
--- a verdict by its number, 0 for accepted
-abbrev pub verdict_number : Verdict → ℕ
-verdict_number Verdicts.Accepted = 0
-verdict_number (Verdicts.Refused r) = refusal_number r
+-- what a test answers by its number, 0 for accepted
+abbrev pub verdict_number : Result ⊤ Refusal → ℕ
+verdict_number (Ok _) = 0
+verdict_number (Err r) = refusal_number r
 
 -- what is answered and left in lent words for an answer that is a list: the number of its elements comes back, and the words hold the list as `stored` says,
 -- zeros behind, or zeros after a refusal

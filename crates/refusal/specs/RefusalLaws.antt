@@ -1,11 +1,12 @@
 -- Laws of refusals and answers: every refusal has a number above 0; an answer with a refusal's number is that refusal; what `map_answer` and `bind_answer` answer;
 -- which numbers an answer is refused by (`Refuses`). Assumes nothing.
-use Rattle.std.specs.Prelude.{◌≡◌, ◌↔◌, Bool, true, false, cond, ℕ, suc, ◌<◌}
+use Rattle.std.specs.Prelude.{◌≡◌, ◌↔◌, Bool, true, false, cond, ℕ, suc, ◌<◌, Result, Ok, Err, IsOk, ⊤}
+use Rattle.std.proofs.Common.{◌∙◌}
 use Rattle.std.proofs.Math.Path.{refl, ap}
 use Rattle.std.proofs.Common.{sym, subst, arith, lit<}
 use Rattle.refusal.specs.declared.Refusal.{Refusal}
 use Rattle.refusal.specs.declared.Refusal.TheVariants as R
-use Rattle.refusal.specs.Refusal.{Answer, refused, given, map_answer, bind_answer, refusal_number, refusal_of, value_or}
+use Rattle.refusal.specs.Refusal.{Answer, refused, given, map_answer, bind_answer, refusal_number, refusal_of, value_or, answer_of, verdict_number}
 
 pub refusal_number_pos : (r : Refusal) → 0 < refusal_number r
 refusal_number_pos R.Cut = lit< tt
@@ -48,6 +49,30 @@ given_inj x y e = ap (value_or x) e
 pub refused_inj : {A : Type 0} (n m : ℕ) → ◌≡◌ {A = Answer A} (refused n) (refused m) → n ≡ m
 unfolding refusal_of
 refused_inj n m e = ap refusal_of e
+
+-- ---- what calls answer
+
+module _ {A : Type 0} where
+  -- a value that is answered
+  pub ok_of_given : (r : Result A Refusal) (x : A) → answer_of r ≡ given x → r ≡ Ok x
+  ok_of_given (Ok y) x e = ap Ok (given_inj y x e)
+  ok_of_given (Err f) x e = absurd (refused_given (refusal_number f) x e)
+
+  -- where a value is given there is no refusal
+  pub is_ok_given : (r : Result A Refusal) (x : A) → answer_of r ≡ given x → IsOk r
+  is_ok_given (Ok y) x e = refl
+  is_ok_given (Err f) x e = absurd (refused_given (refusal_number f) x e)
+
+  -- a refusal that is answered, and its number
+  pub err_of_refused : (r : Result A Refusal) (n : ℕ) → answer_of r ≡ refused n → (f : Refusal) × (r ≡ Err f) × (refusal_number f ≡ n)
+  err_of_refused (Ok y) n e = absurd (refused_given n y (sym e))
+  err_of_refused (Err f) n e = (f, refl, refused_inj (refusal_number f) n e)
+
+-- a test that has the number of an answer with a value is passed
+pub is_ok_verdict : {A : Type 0} (r : Result ⊤ Refusal) (a : Answer A) (x : A) → verdict_number r ≡ refusal_of a → a ≡ given x → IsOk r
+unfolding refusal_of
+is_ok_verdict (Ok u) a x e g = refl
+is_ok_verdict (Err f) a x e g = absurd (omega (arith, refusal_number_pos f, e ∙ ap refusal_of g))
 
 -- ---- values that were put through functions
 

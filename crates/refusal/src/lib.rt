@@ -5,6 +5,8 @@
 ghost use Rattle.std.specs.Prelude.{◌≡◌};
 ghost use Rattle.refusal.specs.Refusal.{refusal_number};
 
+use std::fmt;
+
 // A plot file: Cut, UnknownMark, Misplaced. Input: BadBoard, BadTile, TooManyTiles, UnequalTiles.
 // Lent words: NoRoom, NoRoomForEdges. A path count past its limit: CountTooLarge. The tiling by
 // number: BadGraph, NoSuchTiling. An archive file: BrokenRecord, NoSuchRecord. A hole: BadHole.
@@ -25,13 +27,6 @@ pub enum Refusal {
     BrokenRecord,
     NoSuchRecord,
     BadHole,
-}
-
-// What a test of some input answers.
-#[derive(Clone, Copy, Drop)]
-pub enum Verdict {
-    Accepted,
-    Refused(Refusal),
 }
 
 impl Refusal {
@@ -55,5 +50,21 @@ impl Refusal {
             Refusal::NoSuchRecord => 14,
             Refusal::BadHole => 15,
         }
+    }
+}
+
+// The number as hosts are told it.
+impl From<Refusal> for u64 {
+    ghost from_gives = { λ refusal number. number ≡ refusal_number refusal };
+
+    fn from(refusal: Refusal) -> u64 {
+        u64::from(refusal.number())
+    }
+}
+
+// The number in decimal digits.
+impl fmt::Display for Refusal {
+    fn fmt<W: fmt::Write>(&self, f: &mut fmt::Formatter<W>) -> fmt::Result {
+        write!(f, "{}", self.number())
     }
 }

@@ -7,41 +7,24 @@
 // plots.rt and a line of `answer`.
 #![tactic(auto)]
 
-use replay_text::text::{field, same};
+use replay_text::replay;
+use replay_text::text::field;
 use replay_text::write::Output;
-use replay_text::{lines, write};
 use std::io;
+use std::io::Write;
 
 mod plots;
 mod single;
 
-// Answers the lines of standard input to its end, or to a read or a write that fails. A proved loop has
-// to end, so its turns are of a number that no run uses up. A line of more than 65,536 bytes is cut
-// there.
 fn main(rt: HostRuntime) -> io::Result<()> {
-    let mut stdin = rt.stdin();
-    let mut output = Output::new(rt.stdout());
-    let mut input = [0u8; 65536];
-    let mut line = lines::before();
-    for _ in 0..u64::MAX {
-        line = lines::next(line, &mut stdin, &mut input)?;
-        if !line.is_there {
-            break;
-        }
-        answer(&mut output, lines::bytes_of(line, &input))?;
-    }
-    Ok(())
+    replay(rt.stdin(), rt.stdout(), answer)
 }
 
 // Answers one line, by its command.
 fn answer(to: &mut Output, line: &[u8]) -> io::Result<()> {
-    let command = field(line, 0);
-    if same(command, b"one") {
-        single::one(to, line)?;
-    } else if same(command, b"plot") {
-        plots::plot(to, line)?;
-    } else {
-        write::bytes(to, b"unknown command")?;
+    match field(line, 0) {
+        b"one" => single::one(to, line),
+        b"plot" => plots::plot(to, line),
+        _ => write!(to, "unknown command"),
     }
-    write::end_line(to)
 }

@@ -1,19 +1,23 @@
 // The commands: each takes its line, whose field 0 is its name, and writes the answer with no line
-// end.
+// end. Of the bytes of a file, in field 1, 4,096 are read.
 use crate::parts;
 use archive::Record;
-use refusal::Verdict;
-use replay_text::text::{field, same};
-use replay_text::write::Output;
-use replay_text::{least, text, write};
+use replay_text::text;
+use replay_text::text::field;
+use replay_text::write::{Output, Refused};
 use std::io;
+use std::io::Write;
 
 // write ID YEAR REVISION LOW HIGH ROOM: the bytes of an output of so many, 64 at most. None of them is
 // zero before.
 pub fn write_record(to: &mut Output, line: &[u8]) -> io::Result<()> {
-    let room = least(text::number_in(field(line, 6)), 64);
-    let mut out = [0xA5u8; 64];
-    put(to, record_in(line), &mut out[..room])
+    let room = text::number_in(field(line, 6)).min(64);
+    let mut all = [0xA5u8; 64];
+    let out = &mut all[..room];
+    if let Err(refusal) = archive::write_record(record_in(line), out) {
+        write!(to, "{} ", Refused(refusal))?;
+    }
+    parts::bytes(to, out)
 }
 
 // The record of a line.
@@ -29,40 +33,27 @@ fn record_in(line: &[u8]) -> Record {
 
 // The number of a field, 65,535 for a greater one.
 fn pair_in(text: &[u8]) -> u16 {
-    least(text::number_in(text), 65535) as u16
+    u16::try_from(text::number_in(text)).unwrap_or(u16::MAX)
 }
 
-fn put(to: &mut Output, record: Record, out: &mut [u8]) -> io::Result<()> {
-    let verdict = archive::write_record(record, out);
-    match verdict {
-        Verdict::Accepted => {}
-        Verdict::Refused(refusal) => {
-            write::refused(to, refusal)?;
-            write::bytes(to, b" ")?;
-        }
-    }
-    parts::bytes(to, out)
+// records BYTES: the number of records.
+pub fn count_records(to: &mut Output, line: &[u8]) -> io::Result<()> {
+    let mut bytes = [0; 4096];
+    let file = text::bytes_in(field(line, 1), &mut bytes);
+    parts::count(to, archive::count_records(file))
 }
 
-// The commands on a file, whose bytes are field 1. Of a longer file 4,096 bytes are read.
-pub fn read_file(to: &mut Output, line: &[u8]) -> io::Result<()> {
-    let mut file = [0u8; 4096];
-    let size = least(text::bytes_in(field(line, 1), &mut file), 4096);
-    answer(to, line, &file[..size])
+// record BYTES PLACE: the record at a place.
+pub fn record_at(to: &mut Output, line: &[u8]) -> io::Result<()> {
+    let mut bytes = [0; 4096];
+    let file = text::bytes_in(field(line, 1), &mut bytes);
+    let place = text::decimal_in(field(line, 2)) as usize;
+    parts::found(to, archive::record_at(file, place))
 }
 
-// records BYTES: the number of records. record BYTES PLACE: the record at a place. current BYTES ID: the
-// record of an id that counts.
-fn answer(to: &mut Output, line: &[u8], file: &[u8]) -> io::Result<()> {
-    let command = field(line, 0);
-    if same(command, b"records") {
-        parts::count(to, archive::count_records(file))
-    } else if same(command, b"record") {
-        let place = text::decimal_in(field(line, 2)) as usize;
-        parts::found(to, archive::record_at(file, place))
-    } else if same(command, b"current") {
-        parts::found(to, archive::current_record(file, pair_in(field(line, 2))))
-    } else {
-        write::bytes(to, b"unknown command")
-    }
+// current BYTES ID: the record of an id that counts.
+pub fn current_record(to: &mut Output, line: &[u8]) -> io::Result<()> {
+    let mut bytes = [0; 4096];
+    let file = text::bytes_in(field(line, 1), &mut bytes);
+    parts::found(to, archive::current_record(file, pair_in(field(line, 2))))
 }

@@ -1,261 +1,162 @@
 // What a text holds: its fields, a field's number, code, tile, tiles, marks, bytes or list of numbers,
 // and a line's board.
-ghost use Rattle.std.specs.Prelude.{◌≤◌, length};
+ghost use Rattle.std.specs.Prelude.{◌≤◌};
 
-use crate::places::{find, less};
 use board::RectangularBoard;
 use cells::Cells;
-use refusal::Verdict;
 use tile::Tile;
 use tiles::Tiles;
 
+// What `number_in` gives for a text that is no number or a greater one.
+const NO_NUMBER: u64 = 10_000_000_010;
+
 // The line's field behind the first count blanks, empty where there are fewer.
 pub fn field(line: &[u8], count: usize) -> &[u8] {
-    let mut at = 0;
-    let mut left = count;
-    while 0 < left {
-        let end = find(line, at, b' ');
-        if end == line.len() {
-            return &line[end..];
-        }
-        at = end + 1;
-        left -= 1;
-    }
-    let end = find(line, at, b' ');
-    &line[at..end]
-}
-
-// Whether two texts are the same.
-pub fn same(a: &[u8], b: &[u8]) -> bool {
-    if a.len() != b.len() {
-        return false;
-    }
-    let mut i = 0;
-    while i < a.len() {
-        if a[i] != b[i] {
-            return false;
-        }
-        i += 1;
-    }
-    true
+    line.split(|byte| *byte == b' ').nth(count).unwrap_or(&[])
 }
 
 // What a digit stands for, and 10 or more for any other byte.
 fn digit(byte: u8) -> u8 {
-    if byte < b'0' {
-        return 255;
+    byte.wrapping_sub(b'0')
+}
+
+// The number of some decimal digits, 0 where there are none; none for other texts and past 64 bits.
+fn parsed(text: &[u8]) -> Option<u64> {
+    let mut n = 0u64;
+    for byte in text {
+        if !byte.is_ascii_digit() {
+            return None;
+        }
+        n = n.checked_mul(10)?.checked_add(u64::from(digit(*byte)))?;
     }
-    byte - b'0'
+    Some(n)
 }
 
 // The number of some decimal digits, 0 where there are none; 10,000,000,010 for a greater number and
 // for other texts.
 pub fn number_in(text: &[u8]) -> usize {
-    let mut n: usize = 0;
-    let mut i = 0;
-    while i < text.len() {
-        let next = digit(text[i]);
-        if 9 < next {
-            return 10_000_000_010;
-        }
-        if 1_000_000_000 < n {
-            return 10_000_000_010;
-        }
-        n = 10 * n + next as usize;
-        i += 1;
-    }
-    n
+    decimal_in(text).min(NO_NUMBER) as usize
 }
 
 // The number of some decimal digits, 0 where there are none; 2^64 - 1 for a greater number and for other
 // texts.
 pub fn decimal_in(text: &[u8]) -> u64 {
-    let mut n: u64 = 0;
-    let mut i = 0;
-    while i < text.len() {
-        let next = digit(text[i]);
-        if 9 < next {
-            return u64::MAX;
-        }
-        if 1_844_674_407_370_955_161 < n {
-            return u64::MAX;
-        }
-        let tens = 10 * n;
-        if u64::MAX - tens < next as u64 {
-            return u64::MAX;
-        }
-        n = tens + next as u64;
-        i += 1;
-    }
-    n
+    parsed(text).unwrap_or(u64::MAX)
 }
 
-// The place of the first byte from a place on that is no digit, or the end.
-fn digits_end(text: &[u8], from: usize) -> usize
-    requires { from ≤ length text.now }
-    ensures { (from ≤ result) × (result ≤ length text.now) }
+// A part of a list without the byte that ends it, if such a byte does.
+fn without_end<F: Fn(&u8) -> bool>(part: &[u8], ends: F) -> &[u8]
+    requires { F.IsAlwaysCallable ends }
 {
-    let mut i = from;
-    while i < text.len() {
-        if 9 < digit(text[i]) {
-            return i;
-        }
-        i += 1;
+    match part {
+        [front @ .., last] if ends(last) => front,
+        _ => part,
     }
-    i
 }
 
-// Stores the decimal numbers of a list, each two parted by one byte, `.` if there are none; gives how
-// many there are. What the words do not hold is not read.
-pub fn words_in(list: &[u8], words: &mut [u64]) -> usize {
+fn is_no_digit(byte: &u8) -> bool {
+    !byte.is_ascii_digit()
+}
+
+// Stores the decimal numbers of a list, each two parted by one byte, `.` if there are none; gives those
+// that are stored. What the words do not hold is not read.
+pub fn words_in<'a>(list: &[u8], words: &'a mut [u64]) -> &'a [u64] {
     let mut count = 0;
-    let mut at = 0;
-    if same(list, b".") {
-        return 0;
-    }
-    while at < list.len() {
-        if words.len() <= count {
-            return count;
+    if list != b".".as_slice() {
+        for part in list.split_inclusive(is_no_digit) {
+            if count == words.len() {
+                break;
+            }
+            words[count] = decimal_in(without_end(part, is_no_digit));
+            count += 1;
         }
-        let end = digits_end(list, at);
-        words[count] = decimal_in(&list[at..end]);
-        count += 1;
-        if end == list.len() {
-            return count;
-        }
-        at = end + 1;
     }
-    count
+    &words[..count]
 }
 
 // The number of a field; where there is no such field, the usual number.
 pub fn room_in(text: &[u8], usual: usize) -> usize {
-    if text.len() == 0 {
-        return usual;
+    if text.is_empty() {
+        usual
+    } else {
+        number_in(text)
     }
-    number_in(text)
 }
 
 // The code of a direction. Other texts have a code that tile refuses.
 pub fn code_in(text: &[u8]) -> u8 {
-    if text.len() != 1 {
-        return 255;
+    match text {
+        [byte] => digit(*byte),
+        _ => 255,
     }
-    digit(text[0])
 }
 
 // The tile of a path; an empty text counts as `-`. Other texts have a tile that tile refuses.
 pub fn tile_in(path: &[u8]) -> Tile {
-    if same(path, b"-") {
+    if path == b"-".as_slice() {
         return Tile::box_tile();
     }
-    let mut codes = [0u8; 32];
-    let mut i = 0;
-    while i < path.len() {
-        if 31 < i {
-            return tile_of(33, codes);
-        }
-        codes[i] = digit(path[i]);
-        i += 1;
+    let mut codes = [0; 32];
+    for (code, byte) in codes.iter_mut().zip(path) {
+        *code = digit(*byte);
     }
-    tile_of(i, codes)
+    Tile {
+        len: path.len(),
+        codes,
+    }
 }
 
-// The tile of the first so many codes.
-fn tile_of(len: usize, codes: [u8; 32]) -> Tile {
-    Tile { len, codes }
+fn is_comma(byte: &u8) -> bool {
+    *byte == b','
 }
 
-// The tiles of a list of paths; an empty text counts as `.`.
+// The tiles of a list of paths; an empty text counts as `.`. A 65th tile is not stored, only counted, and
+// tile refuses them all.
 pub fn tiles_in(list: &[u8]) -> Tiles {
     let mut tiles = Tiles::new();
-    if same(list, b".") {
-        return tiles;
-    }
-    let mut at = 0;
-    while at < list.len() {
-        let end = find(list, at, b',');
-        tiles = with_tile(tiles, tile_in(&list[at..end]));
-        if end == list.len() {
-            return tiles;
+    if list != b".".as_slice() {
+        for part in list.split_inclusive(is_comma) {
+            let tile = tile_in(without_end(part, is_comma));
+            tiles = tiles
+                .with_tile(tile)
+                .unwrap_or(Tiles { count: 65, ..tiles });
         }
-        at = end + 1;
     }
     tiles
 }
 
-// The tiles with one more; a 65th is not stored, only counted, and tile refuses them all.
-fn with_tile(tiles: Tiles, tile: Tile) -> Tiles {
-    let made = tiles.with_tile(tile);
-    let verdict = made.verdict;
-    match verdict {
-        Verdict::Accepted => made.tiles,
-        Verdict::Refused(_) => with_count(tiles, 65),
-    }
-}
-
-// The tiles with another count.
-fn with_count(tiles: Tiles, count: usize) -> Tiles {
-    let mut other = tiles;
-    other.count = count;
-    other
-}
-
 // What a hexadecimal digit stands for, and 0 for any other byte.
-fn hex_digit(byte: u8) -> u64
+fn hex_digit(byte: u8) -> u8
     ensures { result ≤ 15 }
 {
-    let decimal = digit(byte);
-    if decimal <= 9 {
-        return decimal as u64;
+    match byte {
+        b'0'..=b'9' => byte - b'0',
+        b'a'..=b'f' => byte - b'a' + 10,
+        _ => 0,
     }
-    if byte < b'a' {
-        return 0;
-    }
-    if b'f' < byte {
-        return 0;
-    }
-    (byte - b'a' + 10) as u64
 }
 
-// The number of at most 16 hexadecimal digits; what 64 bits do not hold is not read.
+// The number of at most 16 hexadecimal digits.
 fn hex_in(text: &[u8]) -> u64 {
-    let mut n: u64 = 0;
-    let mut i = 0;
-    while i < text.len() {
-        if 0x0FFF_FFFF_FFFF_FFFF < n {
-            return n;
-        }
-        n = 16 * n + hex_digit(text[i]);
-        i += 1;
-    }
-    n
+    text.iter()
+        .fold(0, |n, byte| n << 4 | u64::from(hex_digit(*byte)))
 }
 
-// The byte of two hexadecimal digits.
-fn byte_of(high: u8, low: u8) -> u8 {
-    (16 * hex_digit(high) + hex_digit(low)) as u8
-}
-
-// Stores the bytes of a text, two hexadecimal digits each, and gives how many there are; a digit with
+// Stores the bytes of a text, two hexadecimal digits each, and gives those that are stored; a digit with
 // none behind it is not read, so that `-` has no bytes. What there is no room for is not read.
-pub fn bytes_in(text: &[u8], bytes: &mut [u8]) -> usize {
-    let count = text.len() / 2;
-    let mut i = 0;
-    while i < count {
-        if bytes.len() <= i {
-            return i;
-        }
-        bytes[i] = byte_of(text[2 * i], text[2 * i + 1]);
-        i += 1;
+pub fn bytes_in<'a>(text: &[u8], bytes: &'a mut [u8]) -> &'a [u8] {
+    let (pairs, _) = text.as_chunks::<2>();
+    for (byte, [high, low]) in bytes.iter_mut().zip(pairs) {
+        *byte = hex_digit(*high) << 4 | hex_digit(*low);
     }
-    i
+    let count = pairs.len().min(bytes.len());
+    &bytes[..count]
 }
 
 // The word of the 16 digits in front of the last so many.
 fn word_in(text: &[u8], last: usize) -> u64 {
-    let end = less(text.len(), last);
-    let from = less(end, 16);
+    let end = text.len().saturating_sub(last);
+    let from = end.saturating_sub(16);
     hex_in(&text[from..end])
 }
 

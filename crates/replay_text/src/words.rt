@@ -1,24 +1,17 @@
 // A look at words that were lent: whether they are zero where they have to be.
-use crate::write;
 use crate::write::Output;
 use std::io;
+use std::io::Write;
 
 // Says `dirty` if a word from a place on is not zero.
 pub fn tell_dirt(to: &mut Output, words: &[u64], from: usize) -> io::Result<()> {
     if !is_zero_from(words, from) {
-        write::bytes(to, b" dirty")?;
+        write!(to, " dirty")?;
     }
     Ok(())
 }
 
 // Whether the words from a place on are zero.
 pub fn is_zero_from(words: &[u64], from: usize) -> bool {
-    let mut i = from;
-    while i < words.len() {
-        if words[i] != 0 {
-            return false;
-        }
-        i += 1;
-    }
-    true
+    words.iter().skip(from).all(|word| *word == 0)
 }

@@ -3,14 +3,14 @@
 ghost use Rattle.std.specs.Prelude.{◌≤◌};
 
 use cells::{Cells, list};
-use path_count::PathCount;
 use refusal::Refusal;
-use std::io;
 use std::io::{Stdout, Write};
+use std::{fmt, io};
 
 const ROOM: usize = 8192;
 
 // Standard output, and what is to be written to it: the first `filled` bytes.
+// Kept: std's `BufWriter` needs the heap.
 #[derive(Drop)]
 pub struct Output {
     stdout: Stdout,
@@ -53,62 +53,55 @@ impl Write for Output {
     }
 }
 
-pub fn bytes(to: &mut Output, text: &[u8]) -> io::Result<()> {
-    to.write_all(text)
-}
-
 // The end of a line, with which all that was kept is written.
 pub fn end_line(to: &mut Output) -> io::Result<()> {
-    bytes(to, b"\n")?;
+    writeln!(to)?;
     to.flush()
 }
 
-pub fn number(to: &mut Output, n: usize) -> io::Result<()> {
-    write!(to, "{n}")
-}
+// A refusal, by its number.
+#[derive(Clone, Copy, Drop)]
+pub struct Refused(pub Refusal);
 
-// A number of tilings.
-pub fn count(to: &mut Output, n: PathCount) -> io::Result<()> {
-    let low = n.low();
-    write!(to, "{low}")
-}
-
-pub fn refused(to: &mut Output, refusal: Refusal) -> io::Result<()> {
-    bytes(to, b"refused ")?;
-    number(to, refusal.number() as usize)
-}
-
-// A word in hexadecimal digits, with zeros in front up to a width of 16, or with none.
-fn hex(to: &mut Output, value: u64, width: usize) -> io::Result<()> {
-    if width == 0 {
-        return write!(to, "{value:x}");
+impl fmt::Display for Refused {
+    fn fmt<W: fmt::Write>(&self, f: &mut fmt::Formatter<W>) -> fmt::Result {
+        write!(f, "refused {}", self.0)
     }
-    write!(to, "{value:016x}")
 }
 
-// A word of a number whose higher words are written, in 16 digits; a width of 0 says that all of them
-// were 0, and then a 0 is not written and no other word has zeros in front. Gives the width of the
-// next word.
-fn word(to: &mut Output, value: u64, width: usize) -> io::Result<usize> {
-    if width == 0 {
-        if value == 0 {
-            return Ok(0);
+// A value, or the refusal in its place.
+#[derive(Drop)]
+pub struct Answer<T>(pub Result<T, Refusal>);
+
+impl<T: fmt::Display> fmt::Display for Answer<T> {
+    fn fmt<W: fmt::Write>(&self, f: &mut fmt::Formatter<W>) -> fmt::Result {
+        match &self.0 {
+            Ok(value) => write!(f, "{value}"),
+            Err(refusal) => write!(f, "{}", Refused(*refusal)),
         }
     }
-    hex(to, value, width)?;
-    Ok(16)
 }
 
-// A set of cells as a hexadecimal number with no zeros in front.
-pub fn marks(to: &mut Output, set: Cells) -> io::Result<()> {
-    let second = word(to, set.w3, 0)?;
-    let third = word(to, set.w2, second)?;
-    let last = word(to, set.w1, third)?;
-    hex(to, set.w0, last)
+// A set of cells, as a hexadecimal number with no zeros in front.
+#[derive(Clone, Copy, Drop)]
+pub struct Marks(pub Cells);
+
+impl fmt::Display for Marks {
+    fn fmt<W: fmt::Write>(&self, f: &mut fmt::Formatter<W>) -> fmt::Result {
+        let Cells { w0, w1, w2, w3 } = self.0;
+        if w3 != 0 {
+            write!(f, "{w3:x}{w2:016x}{w1:016x}{w0:016x}")
+        } else if w2 != 0 {
+            write!(f, "{w2:x}{w1:016x}{w0:016x}")
+        } else if w1 != 0 {
+            write!(f, "{w1:x}{w0:016x}")
+        } else {
+            write!(f, "{w0:x}")
+        }
+    }
 }
 
 // The marks of one of some boards, behind a blank.
 pub fn board_at(to: &mut Output, words: &[u64], i: usize) -> io::Result<()> {
-    bytes(to, b" ")?;
-    marks(to, list::get(words, i))
+    write!(to, " {}", Marks(list::get(words, i)))
 }

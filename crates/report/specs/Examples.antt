@@ -5,7 +5,7 @@ use Rattle.std.proofs.Math.Bool.{So}
 use mathlib.Core.List.Memᴰ.{eq_of_singleton}
 use mathlib.Core.List.Memᴰ.{not-nil}
 use mathlib.Core.List.{List, [], ◌∷◌, ◌++◌, map, flat_map}
-use Rattle.std.proofs.Math.Option.{some}
+use Rattle.std.specs.Prelude.{Some}
 use Rattle.cells.specs.Lists.{padded, ascii}
 use Rattle.direction.specs.Direction.{step, rotate, reflect}
 use Rattle.tile.specs.Path.{Path, cell_count, codes_ok}
@@ -130,7 +130,7 @@ some_digits = (refl, refl)
 
 -- a graph of three nodes, two counts and one edge, whose full node has so many paths
 abbrev graph : ℕ → Graph
-graph n = record { nodes = 0 ∷ 1 ∷ 3 ∷ []; counts = 1 ∷ n ∷ []; edges = (0, 1) ∷ []; complete = some 1 }
+graph n = record { nodes = 0 ∷ 1 ∷ 3 ∷ []; counts = 1 ∷ n ∷ []; edges = (0, 1) ∷ []; complete = Some 1 }
 
 -- its line: "graph count, nodes, edges"
 its_line : graph_line (graph 17) ≡ ascii "graph 17 nodes 3 edges 1\n"

@@ -1,6 +1,9 @@
 -- The rooms that the code lends; and what structs of the code that hold a plot say: its board, its free cells and its tiles, and that both counts of the code
 -- are the plot's, also as the contract of `count_tilings` says it. Rests on graph's `RoomLaws`, tiles' `EqualLaws`, board's `Board`, layers'
 -- `LayerCounts` and tiler's `Graphs`. Assumes nothing.
+use Rattle.std.specs.Prelude.{Result}
+use Rattle.refusal.specs.declared.Refusal.{Refusal}
+use Rattle.path_count.specs.declared.PathCount.{PathCount}
 use Rattle.std.specs.Prelude.{◌≡◌, Bool, true, false, cond, length}
 use Rattle.std.proofs.Math.Path.{refl, ap, ap₂}
 use Rattle.std.proofs.Common.{sym, ◌∙◌}
@@ -20,7 +23,6 @@ use Rattle.board.specs.BoardLaws.{read_board_is}
 use Rattle.path_count.specs.Inner.{count_span}
 use Rattle.graph.specs.Graph.{layer_room, edge_room, plot_boards, plot_nodes, plot_edges}
 use Rattle.graph.proofs.RoomLaws.{layer_room_plot, node_room_plot}
-use Rattle.layers.specs.declared.Count.{Count}
 use Rattle.expansion.specs.Plots.{accept_plot}
 use Rattle.layers.specs.LayerCounts.{layer_count_for, count_tilings, count_answer, CountsTilings}
 use Rattle.cuttings.specs.Cuttings.{cuttings_of, count_cuttings, cuttings_from}
@@ -104,7 +106,7 @@ module _ (plot : Plot) (board : RectangularBoard) (tiles : Tiles) (h : HoldsPlot
   held_cuttings = ap₂ (λ (d : Board) (a : Answer ℕ). map_answer (cuttings_of d) a) held_board held_layers
 
   -- as the contract of `count_tilings` says it, with layers of 512 boards
-  pub held_counted : (boardsA countsA boardsB countsB boardsA' countsA' boardsB' countsB' : List ℕ) (r : Count)
+  pub held_counted : (boardsA countsA boardsB countsB boardsA' countsA' boardsB' countsB' : List ℕ) (r : Result PathCount Refusal)
       → CountsTilings board tiles boardsA countsA boardsB countsB boardsA' countsA' boardsB' countsB' r
       → length boardsA ≡ 4 * plot_boards → length countsA ≡ count_span plot_boards → length boardsB ≡ 4 * plot_boards → length countsB ≡ count_span plot_boards → count_answer r ≡ plot_layers plot
   held_counted boardsA countsA boardsB countsB boardsA' countsA' boardsB' countsB' r c a b d e =

@@ -6,9 +6,10 @@ use Rattle.tiles.specs.Paths.{read_tiles}
 use Rattle.board.specs.declared.RectangularBoard.{RectangularBoard}
 use Rattle.board.specs.Board.{read_board}
 use Rattle.graph.specs.declared.GraphResult.{GraphResult}
-use Rattle.graph.specs.Graph.{complete_node, count_from_graph}
+use Rattle.graph.specs.Graph.{count_from_graph}
 use Rattle.numbered_tilings.specs.Tilings.{bad_graph, node_list_in}
 use Rattle.tiler.specs.Graphs.{Graph, count_of_graph, node_list_of}
+use Rattle.report.specs.declared.text.Text.{Text}
 use Rattle.plot_file.specs.PlotFile.{Plot}
 
 -- ---- text in lent bytes
@@ -17,10 +18,15 @@ use Rattle.plot_file.specs.PlotFile.{Plot}
 unfoldable pub written : List ℕ → ℕ → List ℕ → List ℕ
 written out at text = take at out ++ take (length out - at) text ++ drop (at + length text) out
 
--- a text is put at a place, and the place behind it comes back
-pub record Puts (out : List ℕ) (at : ℕ) (text : List ℕ) (out' : List ℕ) (r : ℕ) : Type 0 where
-  pub bytes : out' ≡ written out at text
-  pub next : r ≡ min (length out) (at + length text)
+-- a text is put behind the text so far, in the same bytes
+pub record Puts (t : Text) (text : List ℕ) (t' : Text) : Type 0 where
+  pub same : t'.bytes.ghost_name ≡ t.bytes.ghost_name
+  pub bytes : t'.bytes.now ≡ written t.bytes.now t.at text
+  pub next : t'.at ≡ min (length t.bytes.now) (t.at + length text)
+
+-- the bytes are the same ones
+abbrev pub Stays : Text → Text → Type 0
+Stays t t' = t'.bytes.ghost_name ≡ t.bytes.ghost_name
 
 -- ---- a plot and a graph
 
@@ -33,7 +39,7 @@ pub record HoldsPlot (plot : Plot) (board : RectangularBoard) (tiles : Tiles) : 
 pub record Built (g : Graph) (r : GraphResult) (nodes counts edges : List ℕ) : Type 0 where
   pub node_number : r.nodes ≡ length g.nodes
   pub edge_number : r.edges ≡ length g.edges
-  pub count : count_from_graph (complete_node r.complete) counts ≡ count_of_graph g
+  pub count : count_from_graph (r.complete) counts ≡ count_of_graph g
   pub sound : bad_graph r (length nodes) counts edges ≡ false
   pub list : (m : ℕ) → m < count_of_graph g → node_list_in r counts edges m ≡ node_list_of g m
   pub short : (m : ℕ) → m < count_of_graph g → length (node_list_of g m) ≤ 257

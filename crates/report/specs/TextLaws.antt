@@ -1,19 +1,22 @@
 -- Laws of texts in lent bytes (`written`, `Puts`): the bytes keep their number, two texts put one behind the other are their join, and a text put in
 -- front, with the bytes behind it cleared, is what `WritesReport` says. Rests on `Inner` and `lib.Seq`. Assumes nothing.
-use Rattle.std.specs.Prelude.{◌≡◌, refl, cond, ℕ, ◌+◌, ◌-◌, ◌≤◌, ◌<◌, min, ltb, set, drop}
-use Rattle.std.proofs.Common.{sym, ◌∙◌, subst, add-one, lt-ltb, le-ltb, length-drop, length-set, take-suc, get_or-append-add, get_or-drop, get_or-set_same, get_or-set_other, ext_get_or}
+use Rattle.std.specs.Prelude.{◌≡◌, refl, cond, ℕ, ◌+◌, ◌-◌, ◌≤◌, ◌<◌, min, ltb, replicate, drop}
+use Rattle.std.proofs.Common.{sym, ap₂, ◌∙◌, subst, add-one, lt-ltb, le-ltb, length-drop, take-suc, get_or-append-add, get_or-drop, ext_get_or}
+use Rattle.std.proofs.lemmas.List.{take_all, drop-drop, get_or-replicate, length-replicate}
+use borrow.Rule.Slice.PartMut.{put_mid}
 use Rattle.std.proofs.Math.Path.{ap}
-use mathlib.Core.List.{List, [], ◌∷◌, ◌++◌, flat_map, append_assoc}
+use mathlib.Core.List.{List, [], ◌++◌, flat_map, append_assoc}
 use Rattle.std.proofs.Math.Nat.{sub-zero}
 use Rattle.std.proofs.Math.Decide.{dec_lt}
 use native.Mathlib.Omega.{arith}
-use Rattle.std.proofs.Math.ListN.{length, get_or, take, length-append, length-take, get_or-append, get_or-eq_default}
+use Rattle.std.proofs.Math.ListN.{length, get_or, take, length-append, length-take, get_or-append, get_or-eq_default, drop_of_length-le}
 use Rattle.std.proofs.Math.Seq.{get_or-take}
 use Rattle.cells.specs.Lists.{list_of, padded}
 use Rattle.cells.specs.Parts.{cleared_from}
-use Rattle.cells.specs.ArrayLaws.{list_of_ext}
+use Rattle.cells.specs.ArrayLaws.{list_of_eta, list_of_ext}
 use Rattle.cells.specs.MemberLaws.{flat_map_snoc}
 use Rattle.report.specs.Report.{report, WritesReport}
+use Rattle.report.specs.declared.text.Text.{Text}
 use Rattle.report.specs.Inner.{written, Puts}
 
 -- ---- the bytes with a text, byte by byte
@@ -77,68 +80,67 @@ written_is out at text bs inside len before in_text behind =
 
 -- ---- a text that is put
 
-module _ {out : List ℕ} {at : ℕ} {text out' : List ℕ} {r : ℕ} (inside : at ≤ length out) (p : Puts out at text out' r) where
+module _ {t t' : Text} {text : List ℕ} (p : Puts t text t') where
   -- the bytes keep their number
-  pub puts_length : length out' ≡ length out
-  puts_length = ap length p.bytes ∙ length_written out at text inside
-
-  -- the place behind is in the bytes or at their end
-  pub puts_within : r ≤ length out
-  puts_within = omega (arith, p.next)
-
-  -- also where the bytes are those after it
-  pub puts_inside : r ≤ length out'
-  puts_inside = omega (arith, p.next, puts_length)
+  pub puts_length : length t'.bytes.now ≡ length t.bytes.now
+  puts_length = ap length p.bytes ∙ length_written t.bytes.now t.at text t.inside
 
 -- a text by another form of it
-pub puts_as : {out : List ℕ} {at : ℕ} {s t out' : List ℕ} {r : ℕ} → s ≡ t → Puts out at s out' r → Puts out at t out' r
-puts_as {out} {at} {s} {t} {out'} {r} e p = subst (λ (x : List ℕ). Puts out at x out' r) e p
+pub puts_as : {t t' : Text} {a b : List ℕ} → a ≡ b → Puts t a t' → Puts t b t'
+puts_as {t} {t'} {a} {b} e p = subst (λ (x : List ℕ). Puts t x t') e p
 
 -- no text
-pub puts_none : (out : List ℕ) (at : ℕ) → at ≤ length out → Puts out at [] out at
-puts_none out at inside =
+pub puts_none : (t : Text) → Puts t [] t
+puts_none t =
+    let inside = t.inside in
     record {
-      bytes = written_is out at [] out inside refl (λ i h. refl) (λ i l h r. absurd (omega arith)) (λ i h r. refl);
+      same = refl;
+      bytes = written_is t.bytes.now t.at [] t.bytes.now t.inside refl (λ i h. refl) (λ i l h r. absurd (omega arith)) (λ i h r. refl);
       next = omega arith;
     }
 
--- one byte, stored or dropped
-pub puts_stored : (out : List ℕ) (at byte : ℕ) → at < length out → Puts out at (byte ∷ []) (set out at byte) (at + 1)
-puts_stored out at byte h =
-    record {
-      bytes =
-          written_is out at (byte ∷ []) (set out at byte) (omega arith) (length-set out at byte) (λ i l. get_or-set_other out at i byte 0 (λ e. omega arith))
-          (λ i l b r. let e : i ≡ at = omega arith in let z : i - at ≡ 0 = omega arith in rw (z, e) (get_or-set_same out at byte 0 h))
-          (λ i l r. get_or-set_other out at i byte 0 (λ e. omega arith));
-      next = omega arith;
-    }
+-- as much of a text as there is room for, copied to its place: n of its bytes
+pub puts_copied : (out : List ℕ) (at : ℕ) (text : List ℕ) (n k : ℕ) (part : List ℕ) → at ≤ length out → n ≡ min (length text) (length out - at) → k ≡ n → part ≡ take n text
+    → put_mid at k out part ≡ written out at text
+unfolding written
+puts_copied out at text n k part inside is same copied =
+    ap (λ (l : List ℕ). take at out ++ l) (ap₂ (λ (x y : List ℕ). x ++ y) front (drop-drop k at out ∙ behind))
+    ∙ sym (append_assoc (take at out) (take (length out - at) text) (drop (at + length text) out))
+  where
+    front : part ≡ take (length out - at) text
+    front = copied ∙ go (dec_lt (length out - at) (length text))
+      where
+        go : Dec (length out - at < length text) → take n text ≡ take (length out - at) text
+        go (yes a) = let e : n ≡ length out - at = omega arith in ap (λ (m : ℕ). take m text) e
+        go (no a) = take_all n text (omega arith) ∙ sym (take_all (length out - at) text (omega arith))
 
-pub puts_dropped : (out : List ℕ) (at byte : ℕ) → at ≤ length out → length out ≤ at → Puts out at (byte ∷ []) out at
-puts_dropped out at byte inside full =
-    record {
-      bytes = written_is out at (byte ∷ []) out inside refl (λ i h. refl) (λ i l h r. absurd (omega arith)) (λ i h r. refl);
-      next = omega arith;
-    }
+    behind : drop (at + k) out ≡ drop (at + length text) out
+    behind = go (dec_lt (length out - at) (length text))
+      where
+        go : Dec (length out - at < length text) → drop (at + k) out ≡ drop (at + length text) out
+        go (yes a) = drop_of_length-le out (omega arith) ∙ sym (drop_of_length-le out (omega arith))
+        go (no a) = let e : at + k ≡ at + length text = omega arith in ap (λ (m : ℕ). drop m out) e
 
--- one text behind the other
-pub puts_append : {out : List ℕ} {at : ℕ} {s t mid out' : List ℕ} {r q : ℕ} → at ≤ length out → Puts out at s mid r → Puts mid r t out' q → Puts out at (s ++ t) out' q
-puts_append {out} {at} {s} {t} {mid} {out'} {r} {q} inside f g =
+-- bytes in which a text was put at a place, and the place behind it
+record Put (out : List ℕ) (at : ℕ) (text : List ℕ) (out' : List ℕ) (r : ℕ) : Type 0 where
+  bytes : out' ≡ written out at text
+  next : r ≡ min (length out) (at + length text)
+
+put_behind : (out : List ℕ) (at : ℕ) (s t mid out' : List ℕ) (r q : ℕ) → at ≤ length out → r ≤ length mid → Put out at s mid r → Put mid r t out' q → Put out at (s ++ t) out' q
+put_behind out at s t mid out' r q inside room f g =
     record {
-      bytes = written_is out at (s ++ t) out' inside (puts_length (puts_inside inside f) g ∙ len) before in_text behind;
+      bytes = written_is out at (s ++ t) out' inside (ap length g.bytes ∙ length_written mid r t room ∙ len) before in_text behind;
       next = omega (arith, f.next, g.next, len, both);
     }
   where
     len : length mid ≡ length out
-    len = puts_length inside f
+    len = ap length f.bytes ∙ length_written out at s inside
 
     both : length (s ++ t) ≡ length s + length t
     both = length-append s t
 
     next : r ≡ min (length out) (at + length s)
     next = f.next
-
-    room : r ≤ length mid
-    room = puts_inside inside f
 
     second : (i : ℕ) → get_or out' i 0 ≡ get_or (written mid r t) i 0
     second i = ap (λ (bs : List ℕ). get_or bs i 0) g.bytes
@@ -172,39 +174,85 @@ puts_append {out} {at} {s} {t} {mid} {out'} {r} {q} inside f g =
         ∙ first i
         ∙ written_behind out at s inside i (omega (arith, both)) b
 
+-- one text behind the other
+pub puts_append : {x y z : Text} {s t : List ℕ} → Puts x s y → Puts y t z → Puts x (s ++ t) z
+puts_append {x} {y} {z} {s} {t} f g =
+    let both = put_behind x.bytes.now x.at s t y.bytes.now z.bytes.now y.at z.at x.inside y.inside (record { bytes = f.bytes; next = f.next }) (record { bytes = g.bytes; next = g.next }) in
+    record { same = g.same ∙ f.same; bytes = both.bytes; next = both.next }
+
 -- the same where the second text is a join itself
-pub puts_join : {out : List ℕ} {at : ℕ} {s : List ℕ} (t u : List ℕ) {mid out' : List ℕ} {r q : ℕ} → at ≤ length out → Puts out at s mid r → Puts mid r (t ++ u) out' q
-    → Puts out at ((s ++ t) ++ u) out' q
-puts_join {s = s} t u inside f g = puts_as (sym (append_assoc s t u)) (puts_append inside f g)
+pub puts_join : {x y z : Text} {s : List ℕ} (t u : List ℕ) → Puts x s y → Puts y (t ++ u) z → Puts x ((s ++ t) ++ u) z
+puts_join {s = s} t u f g = puts_as (sym (append_assoc s t u)) (puts_append f g)
 
 -- ---- a text in front of the bytes, and the bytes behind it cleared
 
-pub puts_cleared : {file out mid out' : List ℕ} {r : ℕ} → Puts out 0 (report file) mid r → out' ≡ cleared_from r mid → WritesReport file out out' r
+-- zeros put from byte r on clear the bytes there
+cleared_by : (r n : ℕ) (bytes zeros : List ℕ) → r ≤ length bytes → n ≡ length bytes - r → zeros ≡ replicate (length (take n (drop r bytes))) 0 → put_mid r n bytes zeros ≡ cleared_from r bytes
+unfolding cleared_from
+cleared_by r n bytes zeros inside is e = list_of_eta 0 (put_mid r n bytes zeros) (λ k. cond (ltb k r) (get_or bytes k 0) 0) (length bytes) long (λ k h. go k h (dec_lt k r))
+  where
+    count : length (take n (drop r bytes)) ≡ n
+    count = omega (arith, length-take n (drop r bytes), length-drop r bytes)
+
+    all : zeros ≡ replicate n 0
+    all = e ∙ ap (λ (m : ℕ). replicate m 0) count
+
+    size : length zeros ≡ n
+    size = ap length all ∙ length-replicate n 0
+
+    front : length (take r bytes) ≡ r
+    front = omega (arith, length-take r bytes)
+
+    long : length (put_mid r n bytes zeros) ≡ length bytes
+    long = omega (arith, length-append (take r bytes) (zeros ++ drop n (drop r bytes)), length-append zeros (drop n (drop r bytes)), length-drop n (drop r bytes), length-drop r bytes, front, size)
+
+    go : (k : ℕ) → k < length bytes → Dec (k < r) → get_or (put_mid r n bytes zeros) k 0 ≡ cond (ltb k r) (get_or bytes k 0) 0
+    go k h (yes a) = rw (lt-ltb k r a) (get_or-append (take r bytes) (zeros ++ drop n (drop r bytes)) 0 k (omega (arith, front)) ∙ get_or-take r bytes k 0 a)
+    go k h (no a) =
+        rw (le-ltb k r (omega arith))
+        (get_d_past (take r bytes) (zeros ++ drop n (drop r bytes)) k (omega (arith, front))
+        ∙ get_or-append zeros (drop n (drop r bytes)) 0 (k - length (take r bytes)) (omega (arith, front, size))
+        ∙ ap (λ (l : List ℕ). get_or l (k - length (take r bytes)) 0) all
+        ∙ get_or-replicate n (k - length (take r bytes)) 0 0 (omega (arith, front)))
+
+-- put in front of all the bytes
+puts_cleared : {file out out' : List ℕ} {t t' : Text} → t.bytes.now ≡ out → t.at ≡ 0 → Puts t (report file) t' → out' ≡ cleared_from t'.at t'.bytes.now → WritesReport file out out' t'.at
 unfolding cleared_from padded
-puts_cleared {file} {out} {mid} {out'} {r} p e =
+puts_cleared {file} {out} {out'} {t} {t'} all front p e =
     record {
       bytes =
           e
-          ∙ ap (list_of (λ k. cond (ltb k r) (get_or mid k 0) 0)) (puts_length (omega arith) p)
+          ∙ ap (list_of (λ k. cond (ltb k r) (get_or mid k 0) 0)) (puts_length p ∙ ap length all)
           ∙ list_of_ext (λ k. cond (ltb k r) (get_or mid k 0) 0) (λ k. get_or (report file) k 0) (length out) (λ k h. go k h (dec_lt k r));
-      number = omega (arith, p.next);
+      number = next;
     }
   where
+    mid : List ℕ
+    mid = t'.bytes.now
+
+    r : ℕ
+    r = t'.at
+
+    next : r ≡ min (length out) (length (report file))
+    next = let e : r ≡ min (length out) (0 + length (report file)) = p.next ∙ ap₂ (λ (l : List ℕ) (i : ℕ). min (length l) (i + length (report file))) all front in omega (arith, e)
+
+    put : mid ≡ written out 0 (report file)
+    put = p.bytes ∙ ap₂ (λ (l : List ℕ) (i : ℕ). written l i (report file)) all front
+
     go : (k : ℕ) → k < length out → Dec (k < r) → cond (ltb k r) (get_or mid k 0) 0 ≡ get_or (report file) k 0
     go k h (yes a) =
         rw (lt-ltb k r a)
-        (ap (λ (bs : List ℕ). get_or bs k 0) p.bytes ∙ written_in out 0 (report file) (omega arith) k (omega arith) (omega (arith, p.next)) h ∙ ap (λ (i : ℕ). get_or (report file) i 0) (sub-zero k))
-    go k h (no a) = rw (le-ltb k r (omega arith)) (sym (get_or-eq_default (report file) 0 {n = k} (omega (arith, p.next))))
+        (ap (λ (bs : List ℕ). get_or bs k 0) put ∙ written_in out 0 (report file) (omega arith) k (omega arith) (omega (arith, next)) h ∙ ap (λ (i : ℕ). get_or (report file) i 0) (sub-zero k))
+    go k h (no a) = rw (le-ltb k r (omega arith)) (sym (get_or-eq_default (report file) 0 {n = k} (omega (arith, next))))
+
+-- the same where zeros are put behind it
+pub puts_ends : {file out out' zeros : List ℕ} {t t' : Text} {n : ℕ} → t.bytes.now ≡ out → t.at ≡ 0 → Puts t (report file) t' → n ≡ length t'.bytes.now - t'.at
+    → zeros ≡ replicate (length (take n (drop t'.at t'.bytes.now))) 0 → out' ≡ put_mid t'.at n t'.bytes.now zeros → WritesReport file out out' t'.at
+puts_ends {zeros = zeros} {t' = t'} {n = n} all front p is clear e = puts_cleared all front p (e ∙ cleared_by t'.at n t'.bytes.now zeros t'.inside is clear)
 
 -- ---- loops over parts of a text
 
-module _ {out : List ℕ} {at : ℕ} (inside : at ≤ length out) where
-  -- bytes one by one
-  pub puts_byte : (bytes : List ℕ) (i : ℕ) {mid out' : List ℕ} {r q : ℕ} → i < length bytes → Puts out at (take i bytes) mid r
-      → Puts mid r (get_or bytes i 0 ∷ []) out' q → Puts out at (take (i + 1) bytes) out' q
-  puts_byte bytes i h f g = rw (add-one, take-suc bytes i 0) (puts_append inside f g)
-
-  -- the text of each number of a list
-  pub puts_part : (f : ℕ → List ℕ) (ns : List ℕ) (i : ℕ) {mid out' : List ℕ} {r q : ℕ} → i < length ns → Puts out at (flat_map f (take i ns)) mid r
-      → Puts mid r (f (get_or ns i 0)) out' q → Puts out at (flat_map f (take (i + 1) ns)) out' q
-  puts_part f ns i h p g = rw (add-one, take-suc ns i 0, flat_map_snoc f (take i ns) (get_or ns i 0)) (puts_append inside p g)
+-- the text of each number of a list
+pub puts_part : {x y z : Text} (f : ℕ → List ℕ) (ns : List ℕ) (i : ℕ) → i < length ns → Puts x (flat_map f (take i ns)) y → Puts y (f (get_or ns i 0)) z
+    → Puts x (flat_map f (take (i + 1) ns)) z
+puts_part f ns i h p g = rw (add-one, take-suc ns i 0, flat_map_snoc f (take i ns) (get_or ns i 0)) (puts_append p g)

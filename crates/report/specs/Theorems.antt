@@ -6,7 +6,7 @@ use Rattle.std.specs.Prelude.{◌≡◌, refl, ◌↔◌, true, false, ℕ, ◌�
 use Rattle.std.proofs.Common.{sym, ap₂, ◌∙◌, subst, ⊎_elim, arith}
 use Rattle.std.proofs.Math.Path.{ap}
 use mathlib.Core.List.{List, [], ◌∷◌, ◌++◌, flat_map, Memᴰ as Mem}
-use Rattle.std.proofs.Math.Option.{some}
+use Rattle.std.specs.Prelude.{Some}
 use Rattle.cells.specs.Lists.{ascii}
 use Rattle.refusal.specs.Refusal.{Answer, refused, given}
 use Rattle.tile.specs.Path.{Path}
@@ -124,7 +124,7 @@ module _ (file : List ℕ) (plot : Plot) (is : plot_in file ≡ given plot) wher
 
     module _ (m : ℕ) (line : m < listed g) where
       -- A line's list begins at node 0, goes from each node to the next over an edge, and ends at the full node,
-      pub list_is_chain : (v : ℕ) × (g.complete ≡ some v) × Chain (λ p c. Mem (p, c) g.edges) 0 v (node_list_of g m)
+      pub list_is_chain : (v : ℕ) × (g.complete ≡ Some v) × Chain (λ p c. Mem (p, c) g.edges) 0 v (node_list_of g m)
       list_is_chain = P.of_graph plot ok g made (λ b f l ts x y z is. list_chain b f l ts x y z g is m (below_count g m line))
 
       -- has at least one node and at most 257,

@@ -3,24 +3,21 @@
 // than the lent bytes is cut at their end; the program's are long enough for every file.
 #![tactic(auto)]
 
-ghost use Rattle.std.specs.Prelude.{◌≡◌, ◌≤◌, ◌<◌, length};
+ghost use Rattle.std.specs.Prelude.{◌≡◌, ◌<◌};
 ghost use mathlib.Core.List.{◌++◌, flat_map};
 ghost use Rattle.cells.specs.Lists.{list_of};
-ghost use Rattle.refusal.specs.Refusal.{given, map_answer, value_or};
-ghost use Rattle.rectangle.specs.Board.{free_count};
-ghost use Rattle.board.specs.Board.{read_board};
+ghost use Rattle.refusal.specs.Refusal.{given};
 ghost use Rattle.path_count.specs.PathCounts.{count_value};
 ghost use Rattle.tiler.specs.Graphs.{Graph, count_of_graph};
 ghost use Rattle.plot_file.specs.PlotFile.{Plot};
 ghost use Rattle.report.specs.Report.{listed, layers_line, plot_layers, cuttings_line, plot_cuttings, graph_lines, plot_graph, tiling_line, plot_lines, report, WritesReport};
-ghost use Rattle.report.specs.Inner.{Puts, HoldsPlot, Built};
+ghost use Rattle.report.specs.Inner.{Puts, Stays, HoldsPlot, Built};
 
-use board::{FreeCells, RectangularBoard};
+use board::RectangularBoard;
 use graph::GraphResult;
-use numbered_tilings::Tiling;
 use path_count::PathCount;
 use plot_file::MadePlot;
-use refusal::Verdict;
+use text::Text;
 use tiles::Tiles;
 
 mod lines;
@@ -31,53 +28,42 @@ mod text;
 pub fn write_report(file: &[u8], out: &mut [u8]) -> usize
     ensures { WritesReport file.now out.old out.new result }
 {
-    let end = put_report(out, file);
-    text::clear_from(out, end);
+    let mut text = Text::new(out);
+    put_report(&mut text, file);
+    let Text { bytes, at: end } = text;
+    bytes[end..].fill(0);
     end
 }
 
 // The text in front of the bytes, and behind it what stood there.
-fn put_report(out: &mut [u8], file: &[u8]) -> usize
-    ensures { Puts out.old 0 (report file.now) out.new result }
+fn put_report(text: &mut Text<'_>, file: &[u8])
+    ensures { Puts text.old (report file.now) text.new }
 {
     let plot = plot_file::read_plot(file);
-    let verdict = plot.verdict;
-    match verdict {
-        Verdict::Accepted => put_plot(out, plot),
-        Verdict::Refused(refusal) => lines::put_refused(out, 0, refusal),
+    match plot.verdict {
+        Ok(()) => put_plot(text, plot),
+        Err(refusal) => lines::put_refused(text, refusal),
     }
 }
 
 // The lines of a plot that is read.
-fn put_plot(out: &mut [u8], plot: MadePlot) -> usize
-    ensures text { (p : Plot) → HoldsPlot p plot.board plot.tiles → Puts out.old 0 (plot_lines p) out.new result }
-    ensures within { result ≤ length out.old }
+fn put_plot(text: &mut Text<'_>, plot: MadePlot)
+    ensures puts { (p : Plot) → HoldsPlot p plot.board plot.tiles → Puts text.old (plot_lines p) text.new }
+    ensures stays { Stays text.old text.new }
 {
-    let board = plot.board;
-    let tiles = plot.tiles;
-    let second = lines::put_board(out, 0, board.width, board.height, free_cells(board));
-    let third = lines::put_tiles(out, second, tiles.count);
-    let fourth = put_counts(out, third, board, tiles);
-    put_graph(out, fourth, board, tiles)
-}
-
-// The number of free cells, 0 of a board that is not accepted.
-fn free_cells(board: RectangularBoard) -> usize
-    ensures { result ≡ value_or 0 (map_answer free_count (read_board board)) }
-{
-    let free = board.free_cells();
-    match free {
-        FreeCells::Number(n) => n,
-        FreeCells::Refused(_) => 0,
-    }
+    let MadePlot { board, tiles, .. } = plot;
+    let free = board.free_cells().unwrap_or(0);
+    lines::put_board(text, board.width, board.height, free);
+    lines::put_tiles(text, tiles.count);
+    put_counts(text, board, tiles);
+    put_graph(text, board, tiles);
 }
 
 // The lines of the layer count and of the figure called cuttings, from layers that are worked once, with
 // room for 512 boards a layer: the arrays of counts have as many words as 512 counts take.
-fn put_counts(out: &mut [u8], at: usize, board: RectangularBoard, tiles: Tiles) -> usize
-    requires { at ≤ length out.old }
-    ensures text { (p : Plot) → HoldsPlot p board tiles → Puts out.old at (layers_line (plot_layers p) ++ cuttings_line (plot_cuttings p)) out.new result }
-    ensures within { result ≤ length out.old }
+fn put_counts(text: &mut Text<'_>, board: RectangularBoard, tiles: Tiles)
+    ensures puts { (p : Plot) → HoldsPlot p board tiles → Puts text.old (layers_line (plot_layers p) ++ cuttings_line (plot_cuttings p)) text.new }
+    ensures stays { Stays text.old text.new }
 {
     let mut boards_a = [0u64; 2048];
     let mut counts_a = [0u64; 512];
@@ -91,93 +77,74 @@ fn put_counts(out: &mut [u8], at: usize, board: RectangularBoard, tiles: Tiles) 
         &mut boards_b,
         &mut counts_b,
     );
-    let next = lines::put_layers(out, at, count);
+    lines::put_layers(text, count);
     let figure = cuttings::count_cuttings_from_layers(board, count);
-    lines::put_cuttings(out, next, figure)
+    lines::put_cuttings(text, figure);
 }
 
 // The line of the graph and those of its tilings, with room for 1,024 nodes and 4,096 edges: the
 // array of counts has as many words as 1,024 counts take.
-fn put_graph(out: &mut [u8], at: usize, board: RectangularBoard, tiles: Tiles) -> usize
-    requires { at ≤ length out.old }
-    ensures text { (p : Plot) → HoldsPlot p board tiles → Puts out.old at (graph_lines (plot_graph p)) out.new result }
-    ensures within { result ≤ length out.old }
+fn put_graph(text: &mut Text<'_>, board: RectangularBoard, tiles: Tiles)
+    ensures puts { (p : Plot) → HoldsPlot p board tiles → Puts text.old (graph_lines (plot_graph p)) text.new }
+    ensures stays { Stays text.old text.new }
 {
     let mut nodes = [0u64; 4096];
     let mut counts = [0u64; 1024];
     let mut edges = [0u64; 8192];
     let made = tiler::generate_graph(board, tiles, &mut nodes, &mut counts, &mut edges);
-    let verdict = made.verdict;
-    let graph = made.graph;
-    match verdict {
-        Verdict::Accepted => put_given(out, at, graph, &nodes, &counts, &edges),
-        Verdict::Refused(refusal) => lines::put_no_graph(out, at, refusal),
+    match made {
+        Ok(graph) => put_given(text, graph, &nodes, &counts, &edges),
+        Err(refusal) => lines::put_no_graph(text, refusal),
     }
 }
 
 // The lines of a graph that is given.
-fn put_given(
-    out: &mut [u8],
-    at: usize,
-    graph: GraphResult,
-    nodes: &[u64],
-    counts: &[u64],
-    edges: &[u64],
-) -> usize
-    requires { at ≤ length out.old }
-    ensures text { (g : Graph) → Built g graph nodes.now counts.now edges.now → Puts out.old at (graph_lines (given g)) out.new result }
-    ensures within { result ≤ length out.old }
+fn put_given(text: &mut Text<'_>, graph: GraphResult, nodes: &[u64], counts: &[u64], edges: &[u64])
+    ensures puts { (g : Graph) → Built g graph nodes.now counts.now edges.now → Puts text.old (graph_lines (given g)) text.new }
+    ensures stays { Stays text.old text.new }
 {
     let count = graph::count_tilings_from_graph(graph, counts);
-    let next = lines::put_sizes(out, at, count, graph.nodes, graph.edges);
-    put_tilings(out, next, graph, nodes, counts, edges, count)
+    lines::put_sizes(text, count, graph.nodes, graph.edges);
+    put_tilings(text, graph, nodes, counts, edges, count);
 }
 
 // The lines of the first 16 tilings, or of all if there are fewer.
 fn put_tilings(
-    out: &mut [u8],
-    at: usize,
+    text: &mut Text<'_>,
     graph: GraphResult,
     nodes: &[u64],
     counts: &[u64],
     edges: &[u64],
     count: PathCount,
-) -> usize
-    requires { at ≤ length out.old }
-    ensures text { (g : Graph) → Built g graph nodes.now counts.now edges.now → count_value count ≡ count_of_graph g → Puts out.old at (flat_map (tiling_line g) (list_of (λ n. n) (listed g))) out.new result }
-    ensures within { result ≤ length out.old }
+)
+    ensures puts { (g : Graph) → Built g graph nodes.now counts.now edges.now → count_value count ≡ count_of_graph g → Puts text.old (flat_map (tiling_line g) (list_of (λ n. n) (listed g))) text.new }
+    ensures stays { Stays text.old text.new }
 {
-    let mut next = at;
-    let mut m: u64 = 0;
-    while m < 16 {
+    for m in 0..16 {
         if !PathCount::of_words(m, 0).less(count) {
-            return next;
+            return;
         }
-        next = put_tiling(out, next, graph, nodes, counts, edges, m);
-        m += 1;
+        put_tiling(text, graph, nodes, counts, edges, m);
     }
-    next
 }
 
 // The line of one tiling. A list has at most 257 nodes, one more than a board has cells.
 fn put_tiling(
-    out: &mut [u8],
-    at: usize,
+    text: &mut Text<'_>,
     graph: GraphResult,
     nodes: &[u64],
     counts: &[u64],
     edges: &[u64],
     m: u64,
-) -> usize
-    requires { at ≤ length out.old }
-    ensures text { (g : Graph) → Built g graph nodes.now counts.now edges.now → m < count_of_graph g → Puts out.old at (tiling_line g m) out.new result }
-    ensures within { result ≤ length out.old }
+)
+    ensures puts { (g : Graph) → Built g graph nodes.now counts.now edges.now → m < count_of_graph g → Puts text.old (tiling_line g m) text.new }
+    ensures stays { Stays text.old text.new }
 {
     let mut list = [0u64; 257];
     let number = PathCount::of_words(m, 0);
     let tiling = numbered_tilings::tiling_by_number(graph, nodes, counts, edges, number, &mut list);
     match tiling {
-        Tiling::Length(n) => lines::put_list(out, at, m, &list[..n]),
-        Tiling::Refused(_) => at,
+        Ok(n) => lines::put_list(text, m, &list[..n]),
+        Err(_) => {}
     }
 }

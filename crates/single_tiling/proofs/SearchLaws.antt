@@ -1,8 +1,9 @@
 -- What `walk`, `search` and `get_single_tiling` answer. Rests on `DescentLaws`, `SumLaws`, `TilingLaws` and cells' `ListLaws`. Assumes nothing.
+use Rattle.std.specs.Prelude.{Err, Ok, Option, Result}
 use mathlib.Core.Path.{◌≡◌, refl, sym, ap, ◌∙◌, subst}
 use mathlib.Core.Bool.{Bool, true, false, cond, false≢true}
 use mathlib.Core.List.{List, [], ◌∷◌, ◌++◌, map}
-use mathlib.Core.Option.{none, some}
+use Rattle.std.specs.Prelude.{None, Some}
 use Prim.Native.Nat.{ℕ, ◌+◌, ◌*◌, ◌/◌, ◌^◌, ◌≤◌, ◌<◌}
 use native.Mathlib.Nat.{zero-add}
 use native.Mathlib.Omega.{arith}
@@ -14,7 +15,7 @@ use Rattle.cells.specs.Lists.{list_from, list_of, set_at, words_for}
 use Rattle.cells.specs.Parts.{cleared_from}
 use Rattle.cells.specs.ListLaws.{cleared_sets, cleared_all}
 use Rattle.refusal.specs.declared.Refusal.{Refusal}
-use Rattle.refusal.specs.Refusal.{Answer, refused, given, map_answer, bind_answer, refusal_number, value_or}
+use Rattle.refusal.specs.Refusal.{Answer, refused, given, map_answer, bind_answer, refusal_number, value_or, answer_of}
 use Rattle.refusal.specs.RefusalLaws.{refused_given, given_inj, map_refused}
 use Rattle.tiles.specs.declared.Tiles.{Tiles}
 use Rattle.tile.specs.Path.{Path, cell_count}
@@ -22,16 +23,10 @@ use Rattle.tiles.specs.Paths.{contains_single, paths_in}
 use Rattle.tiles.specs.ReadLaws.{read_tiles_sound}
 use Rattle.board.specs.declared.RectangularBoard.{RectangularBoard}
 use Rattle.rectangle.specs.Board.{Board, free_count, is_full}
-use Rattle.board.specs.Board.{board_of, free_cells_answer}
+use Rattle.board.specs.Board.{board_of}
 use Rattle.board.specs.BoardLaws.{read_board_given}
 use Rattle.rectangle.proofs.FreeLaws.{free_le}
-use Rattle.single_tiling.specs.declared.SingleTiling.{SingleTiling}
-use Rattle.single_tiling.specs.declared.SingleTiling.TheVariants as S
-use Rattle.board.specs.declared.FreeCells.{FreeCells}
-use Rattle.board.specs.declared.FreeCells.TheVariants as C
-use Rattle.single_tiling.specs.declared.descent.Found.{Found}
-use Rattle.single_tiling.specs.declared.descent.Found.TheVariants as F
-use Rattle.single_tiling.specs.SingleTiling.{Finds, read_search, boards_found, number_found, single_answer, GetsSingleTiling}
+use Rattle.single_tiling.specs.SingleTiling.{Finds, read_search, boards_found, number_found, GetsSingleTiling}
 use Rattle.single_tiling.specs.Inner.{first_tiling_from, single_of, IsSum, Searches, Held, found_as, Walked}
 use Rattle.single_tiling.specs.DescentLaws.{found_in, length_first, single_full, single_first, single_finds}
 use Rattle.single_tiling.specs.SumLaws.{tiling_sum}
@@ -63,9 +58,9 @@ room_is n k a c e long h = omega arith
 
 -- ---- `walk`
 
-walked_nothing : (ns old : List ℕ) → ns ≡ [] → Walked ns 0 old old F.Nothing
+walked_nothing : (ns old : List ℕ) → ns ≡ [] → Walked ns 0 old old None
 unfolding list_of list_from
-walked_nothing ns old e = subst (λ (xs : List ℕ). Walked xs 0 old old F.Nothing) (sym e) (record { answer = refl; boards = refl })
+walked_nothing ns old e = subst (λ (xs : List ℕ). Walked xs 0 old old None) (sym e) (record { answer = refl; boards = refl })
 
 -- behind no boards stand those that were found
 from_none : (old mid ns : List ℕ) → list_of (set_at mid) (0 + length ns) ≡ list_of (set_at old) 0 ++ ns → list_of (set_at mid) (length ns) ≡ ns
@@ -88,11 +83,11 @@ module _ (b : RectangularBoard) (fixed : Sound b.fixed) (laid : Sound b.laid) (t
   pub searched_held : (single : Bool) → single ≡ contains_single (paths_in ts) → Held (board_of b) ts single × (0 + free_count (board_of b) < room)
   searched_held single e = (record { board = ok.board; tiles = ok.tiles; singles = e }, below free (free_count (board_of b)) room ok.cells ok.fits)
 
-  pub walk_full : (old : List ℕ) → free ≡ 0 → Walked (single_of (board_of b) (paths_in ts)) 0 old old F.Nothing
+  pub walk_full : (old : List ℕ) → free ≡ 0 → Walked (single_of (board_of b) (paths_in ts)) 0 old old None
   walk_full old e = walked_nothing (single_of (board_of b) (paths_in ts)) old (single_full _ ok.board (number_lt b.fixed fixed) (number_lt b.laid laid) (paths_in ts) (full_if e))
 
   -- a tiling would make the free cells a sum
-  pub walk_no_sum : (old : List ℕ) (r : Bool) → r ≡ false → (IsSum (map cell_count (paths_in ts)) free → r ≡ true) → Walked (single_of (board_of b) (paths_in ts)) 0 old old F.Nothing
+  pub walk_no_sum : (old : List ℕ) (r : Bool) → r ≡ false → (IsSum (map cell_count (paths_in ts)) free → r ≡ true) → Walked (single_of (board_of b) (paths_in ts)) 0 old old None
   walk_no_sum old r e sum = walked_nothing (single_of (board_of b) (paths_in ts)) old (go (single_of (board_of b) (paths_in ts)) finds)
     where
       go : (ns : List ℕ) → Finds (board_of b) (paths_in ts) (found_in ns) → ns ≡ []
@@ -101,7 +96,7 @@ module _ (b : RectangularBoard) (fixed : Sound b.fixed) (laid : Sound b.laid) (t
           let s = tiling_sum (board_of b) ok.board (number_lt b.fixed fixed) (number_lt b.laid laid) (paths_in ts) (x ∷ xs) f in
           absurd (false≢true (sym e ∙ sum (subst (IsSum (map cell_count (paths_in ts))) (sym ok.cells) s)))
 
-  pub walk_first : (old new : List ℕ) (r : Found) → (free ≡ 0 → ⊥) → Walked (first_tiling_from (board_of b) (paths_in ts)) 0 old new r → Walked (single_of (board_of b) (paths_in ts)) 0 old new r
+  pub walk_first : (old new : List ℕ) (r : Option ℕ) → (free ≡ 0 → ⊥) → Walked (first_tiling_from (board_of b) (paths_in ts)) 0 old new r → Walked (single_of (board_of b) (paths_in ts)) 0 old new r
   walk_first old new r h w =
       subst (λ (ns : List ℕ). Walked ns 0 old new r) (sym (single_first _ ok.board (number_lt b.fixed fixed) (number_lt b.laid laid) (paths_in ts) (not_full h))) w
 
@@ -124,7 +119,7 @@ module _ (b : RectangularBoard) (fixed : Sound b.fixed) (laid : Sound b.laid) (t
 
 module _ (b : RectangularBoard) (fixed : Sound b.fixed) (laid : Sound b.laid) (ts : Tiles) (free : ℕ) (old : List ℕ) (ok : Searches b ts free (length old / 4)) where
   -- what was found, in 01's words, whatever the words hold
-  gets : (ns new : List ℕ) (r : SingleTiling) → single_of (board_of b) (paths_in ts) ≡ ns → single_answer r ≡ given (number_found (found_in ns)) → new ≡ words_for ns (length old)
+  gets : (ns new : List ℕ) (r : Result (Option ℕ) Refusal) → single_of (board_of b) (paths_in ts) ≡ ns → answer_of r ≡ given (number_found (found_in ns)) → new ≡ words_for ns (length old)
       → boards_found (found_in ns) ≡ ns → GetsSingleTiling b ts old new r
   unfolding map_answer value_or
   gets ns new r e answer words back = record {
@@ -139,40 +134,40 @@ module _ (b : RectangularBoard) (fixed : Sound b.fixed) (laid : Sound b.laid) (t
       given_is : read_search b ts (length old / 4) ≡ given (board_of b, paths_in ts)
       given_is = read b fixed laid ts free (length old / 4) ok
 
-  module _ (mid : List ℕ) (r : Found) (w : Walked (single_of (board_of b) (paths_in ts)) 0 old mid r) (long : length mid ≡ length old) where
+  module _ (mid : List ℕ) (r : Option ℕ) (w : Walked (single_of (board_of b) (paths_in ts)) 0 old mid r) (long : length mid ≡ length old) where
     -- the boards that are found have room, and are at most 257
-    pub boards_few : (n : ℕ) → r ≡ F.Boards n → (4 * n ≤ length old) × (n ≤ 257)
+    pub boards_few : (n : ℕ) → r ≡ Some n → (4 * n ≤ length old) × (n ≤ 257)
     boards_few n e =
         let some = found_some 0 n (single_of (board_of b) (paths_in ts)) (sym e ∙ w.answer) in
         few n (length (single_of (board_of b) (paths_in ts))) (free_count (board_of b)) (length old) some.1 (single_length b fixed laid ts free (length old / 4) ok)
         (fits b fixed laid ts free (length old / 4) ok) (free_le (board_of b))
 
-    pub gets_boards : (new : List ℕ) (n : ℕ) → r ≡ F.Boards n → ((i : ℕ) → get_or mid i 0 < 2 ^ 64) → new ≡ cleared_from (4 * n) mid → GetsSingleTiling b ts old new (S.Boards n)
+    pub gets_boards : (new : List ℕ) (n : ℕ) → r ≡ Some n → ((i : ℕ) → get_or mid i 0 < 2 ^ 64) → new ≡ cleared_from (4 * n) mid → GetsSingleTiling b ts old new (Ok (Some n))
     unfolding number_found boards_found
     gets_boards new n e small cleared = go (single_of (board_of b) (paths_in ts)) refl
       where
-        go : (ns : List ℕ) → single_of (board_of b) (paths_in ts) ≡ ns → GetsSingleTiling b ts old new (S.Boards n)
+        go : (ns : List ℕ) → single_of (board_of b) (paths_in ts) ≡ ns → GetsSingleTiling b ts old new (Ok (Some n))
         go [] q = absurd (none_some (found_some 0 n [] (sym e ∙ w.answer ∙ ap (found_as 0) q)).0)
         go (x ∷ xs) q =
             let number : n ≡ length (x ∷ xs) = (found_some 0 n (x ∷ xs) (sym e ∙ w.answer ∙ ap (found_as 0) q)).1 ∙ zero-add (length (x ∷ xs)) in
             let room : 4 * length (x ∷ xs) ≤ length mid = room_is n (length (x ∷ xs)) (length mid) (length old) number long (boards_few n e).0 in
-            gets (x ∷ xs) new (S.Boards n) q (ap (λ (k : ℕ). given (some k)) number)
+            gets (x ∷ xs) new (Ok (Some n)) q (ap (λ (k : ℕ). given (Some k)) number)
             (cleared ∙ ap (λ (k : ℕ). cleared_from (4 * k) mid) number ∙ cleared_sets mid (x ∷ xs) small room (boards_are (x ∷ xs) q) ∙ ap (words_for (x ∷ xs)) long) refl
           where
             boards_are : (ns : List ℕ) → single_of (board_of b) (paths_in ts) ≡ ns → list_of (set_at mid) (length ns) ≡ ns
             boards_are ns q = subst (λ (xs : List ℕ). list_of (set_at mid) (length xs) ≡ xs) q (from_none old mid (single_of (board_of b) (paths_in ts)) w.boards)
 
-    pub gets_nothing : (new : List ℕ) → r ≡ F.Nothing → new ≡ cleared_from 0 mid → GetsSingleTiling b ts old new S.Nothing
+    pub gets_nothing : (new : List ℕ) → r ≡ None → new ≡ cleared_from 0 mid → GetsSingleTiling b ts old new (Ok None)
     unfolding number_found boards_found
     gets_nothing new e cleared =
-        gets [] new S.Nothing (found_none 0 (single_of (board_of b) (paths_in ts)) (sym e ∙ w.answer)) refl (cleared ∙ cleared_all mid ∙ ap (words_for []) long) refl
+        gets [] new (Ok None) (found_none 0 (single_of (board_of b) (paths_in ts)) (sym e ∙ w.answer)) refl (cleared ∙ cleared_all mid ∙ ap (words_for []) long) refl
 
 -- ---- `get_single_tiling`
 
-module _ (b : RectangularBoard) (ts : Tiles) (room : ℕ) (r : FreeCells) (e : free_cells_answer r ≡ map_answer (λ p. free_count p.0) (read_search b ts room)) where
-  pub judged_free : (n : ℕ) → r ≡ C.Number n → length ts.codes ≡ 2048 → Searches b ts n room
+module _ (b : RectangularBoard) (ts : Tiles) (room : ℕ) (r : Result ℕ Refusal) (e : answer_of r ≡ map_answer (λ p. free_count p.0) (read_search b ts room)) where
+  pub judged_free : (n : ℕ) → r ≡ Ok n → length ts.codes ≡ 2048 → Searches b ts n room
   unfolding map_answer
-  judged_free n q long = go (read_search b ts room) refl (sym (ap free_cells_answer q) ∙ e)
+  judged_free n q long = go (read_search b ts room) refl (sym (ap answer_of q) ∙ e)
     where
       go : (a : Answer (Board × List Path)) → read_search b ts room ≡ a → given n ≡ map_answer (λ p. free_count p.0) a → Searches b ts n room
       go (refused k) h f = absurd (refused_given k n (sym f))
@@ -186,16 +181,16 @@ module _ (b : RectangularBoard) (ts : Tiles) (room : ℕ) (r : FreeCells) (e : f
             fits = less_room n (free_count (board_of b)) room cells s.3;
           }
 
-  pub judged_refused : (q : Refusal) → r ≡ C.Refused q → read_search b ts room ≡ refused (refusal_number q)
-  judged_refused q h = (map_refused (λ p. free_count p.0) (read_search b ts room) (refusal_number q)).0 (sym (sym (ap free_cells_answer h) ∙ e))
+  pub judged_refused : (q : Refusal) → r ≡ Err q → read_search b ts room ≡ refused (refusal_number q)
+  judged_refused q h = (map_refused (λ p. free_count p.0) (read_search b ts room) (refusal_number q)).0 (sym (sym (ap answer_of h) ∙ e))
 
 -- nothing stands after a refusal; what is found is of no account then
 pub gets_refused : (b : RectangularBoard) (ts : Tiles) (old new : List ℕ) (q : Refusal) → read_search b ts (length old / 4) ≡ refused (refusal_number q)
-    → new ≡ cleared_from 0 old → GetsSingleTiling b ts old new (S.Refused q)
+    → new ≡ cleared_from 0 old → GetsSingleTiling b ts old new (Err q)
 unfolding map_answer value_or
 gets_refused b ts old new q e cleared = record {
-  found = none;
+  found = None;
   tiling = λ p h. absurd (refused_given (refusal_number q) p (sym e ∙ h));
-  answer = sym (ap (map_answer (λ p. number_found none)) e);
-  words = cleared ∙ cleared_all old ∙ ap (λ (a : Answer (Board × List Path)). words_for (value_or [] (map_answer (λ p. boards_found none) a)) (length old)) (sym e);
+  answer = sym (ap (map_answer (λ p. number_found None)) e);
+  words = cleared ∙ cleared_all old ∙ ap (λ (a : Answer (Board × List Path)). words_for (value_or [] (map_answer (λ p. boards_found None) a)) (length old)) (sym e);
 }

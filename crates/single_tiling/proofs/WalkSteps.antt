@@ -1,8 +1,10 @@
 -- The steps of `descend`: what the lent words hold once a board is put down, and what is told of the walk from it. Rests on `DescentLaws` and on the
 -- laws of `cells`. Assumes nothing.
+use Rattle.std.specs.Prelude.{None, Option, Some}
 use mathlib.Core.Path.{◌≡◌, refl, sym, ap, ap₂, ◌∙◌, subst}
 use mathlib.Core.Logic.{inl, inr}
-use mathlib.Core.Bool.{Bool, true, false, So}
+use mathlib.Core.Bool.{Bool, true, false, So, false≢true}
+use Rattle.std.specs.Option.{is_some}
 use mathlib.Core.List.{List, [], ◌∷◌, ◌++◌, append_assoc, append-nil}
 use Prim.Native.Nat.{ℕ, ◌+◌, ◌*◌, ◌/◌, ◌^◌, ◌<◌}
 use native.Mathlib.Nat.{add-zero}
@@ -10,7 +12,7 @@ use native.Mathlib.Decide.{dec_lt}
 use native.Mathlib.Omega.{arith}
 use lib.ListN.{length, get_or}
 use Rattle.cells.specs.declared.Cells.{Cells}
-use Rattle.cells.specs.Set.{Sound, value, number}
+use Rattle.cells.specs.Set.{Sound, number}
 use Rattle.cells.specs.WordLaws.{number_lt}
 use Rattle.cells.specs.Lists.{list_of, set_at}
 use Rattle.cells.specs.Parts.{with_set}
@@ -21,15 +23,10 @@ use Rattle.tiles.specs.Paths.{path_at, paths_in}
 use Rattle.tiles.specs.Inner.{Storable}
 use Rattle.tiles.specs.ReadLaws.{read_tiles_storable}
 use Rattle.board.specs.declared.RectangularBoard.{RectangularBoard}
-use Rattle.fit.specs.declared.Fit.{Fit}
-use Rattle.fit.specs.declared.Fit.TheVariants as Fits
 use Rattle.rectangle.specs.Board.{Board, marks, free_count, is_full, valid, lay}
 use Rattle.board.specs.Board.{board_of}
 use Rattle.fit.specs.Parts.{fit_pieces}
 use Rattle.rectangle.proofs.BoardLaws.{marks_lt}
-use Rattle.single_tiling.specs.declared.descent.Found.{Found}
-use Rattle.single_tiling.specs.declared.descent.Found.TheVariants as F
-use Rattle.single_tiling.specs.declared.descent.Place.TheVariants as P
 use Rattle.single_tiling.specs.Inner.{first_of, in_front, first_tiling_from, fit_index, place_for, Held, New, found_as, Walked}
 use Rattle.single_tiling.specs.FirstLaws.{in_front_some, in_front_none, first_miss, first_hit}
 use Rattle.single_tiling.specs.IndexLaws.{fit_valid, fit_fewer}
@@ -89,16 +86,24 @@ room_below depth a b old new h room e = rw e (below depth a b (length old / 4) h
 
 -- ---- what is told
 
-pub found_some : (d n : ℕ) (ns : List ℕ) → F.Boards n ≡ found_as d ns → (0 < length ns) × (n ≡ d + length ns)
+pub is_some_of : (r : Option ℕ) → is_some r ≡ true → (n : ℕ) × (r ≡ Some n)
+is_some_of (Some n) e = (n, refl)
+is_some_of None e = absurd (false≢true e)
+
+pub is_none_of : (r : Option ℕ) → is_some r ≡ false → r ≡ None
+is_none_of (Some n) e = absurd (false≢true (sym e))
+is_none_of None e = refl
+
+pub found_some : (d n : ℕ) (ns : List ℕ) → Some n ≡ found_as d ns → (0 < length ns) × (n ≡ d + length ns)
 found_some d n [] e = let z : ◌≡◌ {A = ℕ} 0 1 = cc in absurd (omega arith)
 found_some d n (x ∷ xs) e = let q : n ≡ d + length (x ∷ xs) = cc in (omega arith, q)
 
-pub found_none : (d : ℕ) (ns : List ℕ) → F.Nothing ≡ found_as d ns → ns ≡ []
+pub found_none : (d : ℕ) (ns : List ℕ) → None ≡ found_as d ns → ns ≡ []
 found_none d [] e = refl
 found_none d (x ∷ xs) e = let z : ◌≡◌ {A = ℕ} 0 1 = cc in absurd (omega arith)
 
 -- a walk that finds nothing leaves the boards before it
-pub walked_same : (depth : ℕ) (ns old new : List ℕ) (r : Found) → r ≡ F.Nothing → length new ≡ length old → Walked ns depth old new r → Same depth old new
+pub walked_same : (depth : ℕ) (ns old new : List ℕ) (r : Option ℕ) → r ≡ None → length new ≡ length old → Walked ns depth old new r → Same depth old new
 walked_same depth ns old new r e long w =
     let none = found_none depth ns (sym e ∙ w.answer) in
     let held = w.boards in
@@ -112,19 +117,19 @@ module _ (m depth : ℕ) (old new : List ℕ) (f : Front m depth old new) where
   front_boards : list_of (set_at new) (depth + 1) ≡ list_of (set_at old) depth ++ m ∷ []
   front_boards = list_of_snoc (set_at new) depth ∙ ap₂ (λ (xs : List ℕ) (x : ℕ). xs ++ x ∷ []) kept f.here
 
-  walked_one : Walked (m ∷ []) depth old new (F.Boards (depth + 1))
+  walked_one : Walked (m ∷ []) depth old new (Some (depth + 1))
   walked_one = record { answer = refl; boards = front_boards }
 
-  walked_none : Walked [] depth old new F.Nothing
+  walked_none : Walked [] depth old new None
   walked_none = record { answer = refl; boards = rw (add-zero, append-nil) kept }
 
-  walked_more : (ns next : List ℕ) (n : ℕ) → Walked ns (depth + 1) new next (F.Boards n) → (0 < length ns) × Walked (m ∷ ns) depth old next (F.Boards n)
+  walked_more : (ns next : List ℕ) (n : ℕ) → Walked ns (depth + 1) new next (Some n) → (0 < length ns) × Walked (m ∷ ns) depth old next (Some n)
   walked_more ns next n w =
       let some = found_some (depth + 1) n ns w.answer in
       let more : depth + length (m ∷ ns) ≡ depth + 1 + length ns = omega arith in (
         some.0,
         record {
-          answer = ap F.Boards (some.1 ∙ sym more);
+          answer = ap Some (some.1 ∙ sym more);
           boards = ap (list_of (set_at next)) more ∙ w.boards ∙ ap (λ (xs : List ℕ). xs ++ ns) front_boards ∙ append_assoc (list_of (set_at old) depth) (m ∷ []) ns;
         },
       )
@@ -143,18 +148,18 @@ module _ (here : RectangularBoard) (fixed : Sound here.fixed) (laid : Sound here
   tiles_length : length (paths_in ts) ≡ ts.count
   tiles_length = length_list_of (path_at ts.lens ts.codes) ts.count
 
-  first_by_index : is_full (board_of here) ≡ false → (cell : ℕ) → P.Cell cell ≡ place_for (board_of here) (paths_in ts)
+  first_by_index : is_full (board_of here) ≡ false → (cell : ℕ) → Some cell ≡ place_for (board_of here) (paths_in ts)
       → first_tiling_from (board_of here) (paths_in ts) ≡ in_front (marks (board_of here)) (first_of (walk_at (board_of here) (paths_in ts) cell) (list_of (λ i. i) (33 * ts.count)))
   first_by_index notFull cell place =
       first_place (board_of here) held.board (number_lt here.fixed fixed) (number_lt here.laid laid) (paths_in ts) storable notFull cell (sym place)
       ∙ ap (λ (n : ℕ). in_front (marks (board_of here)) (first_of (walk_at (board_of here) (paths_in ts) cell) (list_of (λ i. i) (33 * n)))) tiles_length
 
   -- a child of the board, by the piece of an index
-  module _ (cell i : ℕ) (less : i < 33 * ts.count) (fit : Fit) (w0 w1 w2 w3 : ℕ) (e : fit ≡ Fits.Piece w0 w1 w2 w3)
+  module _ (cell i : ℕ) (less : i < 33 * ts.count) (fit : Option Cells) (set : Cells) (e : fit ≡ Some set)
       (new : New (fit_index (board_of here) (paths_in ts) cell) i (fit_pieces fit)) (child : RectangularBoard)
-      (laying : board_of child ≡ lay (board_of here) (value (w0 ∷ w1 ∷ w2 ∷ w3 ∷ []))) where
-    piece : fit_index (board_of here) (paths_in ts) cell i ≡ value (w0 ∷ w1 ∷ w2 ∷ w3 ∷ []) ∷ []
-    piece = new_piece (fit_index (board_of here) (paths_in ts) cell) i (value (w0 ∷ w1 ∷ w2 ∷ w3 ∷ [])) (fit_pieces fit) (ap fit_pieces e) new
+      (laying : board_of child ≡ lay (board_of here) (number set)) where
+    piece : fit_index (board_of here) (paths_in ts) cell i ≡ number set ∷ []
+    piece = new_piece (fit_index (board_of here) (paths_in ts) cell) i (number set) (fit_pieces fit) (ap fit_pieces e) new
 
     below : i < 33 * length (paths_in ts)
     below = subst (λ (n : ℕ). i < 33 * n) (sym tiles_length) less
@@ -173,40 +178,40 @@ module _ (here : RectangularBoard) (fixed : Sound here.fixed) (laid : Sound here
     )
 
   -- the index is passed over
-  pub child_none : (cell i : ℕ) (fit : Fit) → fit ≡ Fits.Nothing → New (fit_index (board_of here) (paths_in ts) cell) i (fit_pieces fit)
+  pub child_none : (cell i : ℕ) (fit : Option Cells) → fit ≡ None → New (fit_index (board_of here) (paths_in ts) cell) i (fit_pieces fit)
       → ((k : ℕ) → k < i → walk_at (board_of here) (paths_in ts) cell k ≡ []) → walk_at (board_of here) (paths_in ts) cell i ≡ []
   unfolding first_of
   child_none cell i fit e new before = walk_new (board_of here) (paths_in ts) cell i (fit_pieces fit) new before ∙ ap (first_of (λ p. first_tiling_from (lay (board_of here) p) (paths_in ts))) (ap fit_pieces e)
 
   -- what is told
   module _ (depth : ℕ) (old new : List ℕ) (front : Front (marks (board_of here)) depth old new) where
-    pub says_full : is_full (board_of here) ≡ true → Walked (first_tiling_from (board_of here) (paths_in ts)) depth old new (F.Boards (depth + 1))
+    pub says_full : is_full (board_of here) ≡ true → Walked (first_tiling_from (board_of here) (paths_in ts)) depth old new (Some (depth + 1))
     says_full full =
-        subst (λ (ns : List ℕ). Walked ns depth old new (F.Boards (depth + 1)))
+        subst (λ (ns : List ℕ). Walked ns depth old new (Some (depth + 1)))
         (sym (first_full (board_of here) held.board (number_lt here.fixed fixed) (number_lt here.laid laid) (paths_in ts) full))
         (walked_one (marks (board_of here)) depth old new front)
 
-    none_told : first_tiling_from (board_of here) (paths_in ts) ≡ [] → Walked (first_tiling_from (board_of here) (paths_in ts)) depth old new F.Nothing
-    none_told e = subst (λ (ns : List ℕ). Walked ns depth old new F.Nothing) (sym e) (walked_none (marks (board_of here)) depth old new front)
+    none_told : first_tiling_from (board_of here) (paths_in ts) ≡ [] → Walked (first_tiling_from (board_of here) (paths_in ts)) depth old new None
+    none_told e = subst (λ (ns : List ℕ). Walked ns depth old new None) (sym e) (walked_none (marks (board_of here)) depth old new front)
 
     module _ (notFull : is_full (board_of here) ≡ false) where
-      pub says_nowhere : P.Nowhere ≡ place_for (board_of here) (paths_in ts) → Walked (first_tiling_from (board_of here) (paths_in ts)) depth old new F.Nothing
+      pub says_nowhere : None ≡ place_for (board_of here) (paths_in ts) → Walked (first_tiling_from (board_of here) (paths_in ts)) depth old new None
       says_nowhere e =
           none_told (first_nowhere (board_of here) held.board (number_lt here.fixed fixed) (number_lt here.laid laid) (paths_in ts) notFull (sym e))
 
-      module _ (cell : ℕ) (place : P.Cell cell ≡ place_for (board_of here) (paths_in ts)) where
-        pub says_none : ((k : ℕ) → k < 33 * ts.count → walk_at (board_of here) (paths_in ts) cell k ≡ []) → Walked (first_tiling_from (board_of here) (paths_in ts)) depth old new F.Nothing
+      module _ (cell : ℕ) (place : Some cell ≡ place_for (board_of here) (paths_in ts)) where
+        pub says_none : ((k : ℕ) → k < 33 * ts.count → walk_at (board_of here) (paths_in ts) cell k ≡ []) → Walked (first_tiling_from (board_of here) (paths_in ts)) depth old new None
         says_none all =
             none_told (first_by_index notFull cell place ∙ in_front_none (marks (board_of here)) _ (first_miss (walk_at (board_of here) (paths_in ts) cell) (33 * ts.count) all))
 
         pub says_some : (i : ℕ) → i < 33 * ts.count → ((k : ℕ) → k < i → walk_at (board_of here) (paths_in ts) cell k ≡ []) → (ns : List ℕ)
-            → walk_at (board_of here) (paths_in ts) cell i ≡ ns → (next : List ℕ) (r : Found) (n : ℕ) → r ≡ F.Boards n → Walked ns (depth + 1) new next r
-            → Walked (first_tiling_from (board_of here) (paths_in ts)) depth old next (F.Boards n)
+            → walk_at (board_of here) (paths_in ts) cell i ≡ ns → (next : List ℕ) (r : Option ℕ) (n : ℕ) → r ≡ Some n → Walked ns (depth + 1) new next r
+            → Walked (first_tiling_from (board_of here) (paths_in ts)) depth old next (Some n)
         says_some i less before ns e next r n q w =
-            let more = walked_more (marks (board_of here)) depth old new front ns next n (subst (λ (x : Found). Walked ns (depth + 1) new next x) q w) in
+            let more = walked_more (marks (board_of here)) depth old new front ns next n (subst (λ (x : Option ℕ). Walked ns (depth + 1) new next x) q w) in
             let some : 0 < length (walk_at (board_of here) (paths_in ts) cell i) = subst (λ (xs : List ℕ). 0 < length xs) (sym e) more.0 in
             let hit = first_hit (walk_at (board_of here) (paths_in ts) cell) (33 * ts.count) i less before some ∙ e in
-            subst (λ (xs : List ℕ). Walked xs depth old next (F.Boards n))
+            subst (λ (xs : List ℕ). Walked xs depth old next (Some n))
             (sym (first_by_index notFull cell place ∙ ap (in_front (marks (board_of here))) hit ∙ in_front_some (marks (board_of here)) ns more.0)) more.1
 
 -- the indices before the next one

@@ -7,7 +7,8 @@ use Rattle.std.proofs.Common.{sym, ◌∙◌, subst, arith}
 use Rattle.std.proofs.Math.Logic.{⊎_elim}
 use Rattle.std.proofs.Math.Bool.{true, false, So, cond}
 use mathlib.Core.List.{List, [], ◌∷◌, map}
-use Rattle.std.proofs.Math.Option.{Option, none, some}
+use Rattle.std.specs.Prelude.{Option, None, Some}
+use Rattle.cells.specs.OptionLaws.{none-ne-some}
 use Prim.Native.Nat.{ℕ, zero, suc, ◌+◌, ◌*◌, ◌^◌, ◌≤◌, ◌<◌}
 use Rattle.std.proofs.lemmas.Bool.{eqb-false}
 use Rattle.cells.specs.Lists.{list_of}
@@ -24,9 +25,8 @@ use Rattle.fit.proofs.LayLaws.{lay_valid}
 use Rattle.covers.specs.Counts.{ChildSequence}
 use Rattle.expansion.specs.Boards.{From}
 use Rattle.expansion.proofs.SettingLaws.{start_at_lem, start_ok}
-use Rattle.single_tiling.specs.declared.descent.Place.TheVariants as P
 use Rattle.single_tiling.specs.SingleTiling.{Finds}
-use Rattle.single_tiling.specs.Inner.{first_of, in_front, first_tiling, first_tiling_from, single_of, fit_index, place_of, place_for, New}
+use Rattle.single_tiling.specs.Inner.{first_of, in_front, first_tiling, first_tiling_from, single_of, fit_index, place_for, New}
 use Rattle.single_tiling.specs.FirstLaws.{or_else_nil, first_of_ext, first_of_map, tiling_full, tiling_more, tiling_none, tiling_steps, tiling_sound, tiling_complete}
 use Rattle.single_tiling.specs.IndexLaws.{pieces_by_index, lay_fewer}
 use Rattle.single_tiling.specs.TilingLaws.{child_falls, sequence_length, full_no_tiling, sequence_tiling}
@@ -37,8 +37,8 @@ walk_at b paths cell i = first_of (λ p. first_tiling_from (lay b p) paths) (fit
 
 -- what is found, or none
 abbrev pub found_in : List ℕ → Option (List ℕ)
-found_in [] = none
-found_in (x ∷ xs) = some (x ∷ xs)
+found_in [] = None
+found_in (x ∷ xs) = Some (x ∷ xs)
 
 -- ---- the walk at an index
 
@@ -58,31 +58,22 @@ module _ (b : Board) (paths : List Path) (cell i : ℕ) where
 
 -- ---- the cell on which pieces are put
 
-nowhere_cell : (cell : ℕ) → P.Nowhere ≡ P.Cell cell → ⊥
-nowhere_cell cell e = let z : ◌≡◌ {A = ℕ} 0 1 = cc in absurd (omega arith)
-
-cell_inj : (c d : ℕ) → P.Cell c ≡ P.Cell d → c ≡ d
-cell_inj c d e = cc
-
 module _ (b : Board) (paths : List Path) where
-  place_nowhere : place_for b paths ≡ P.Nowhere → children b paths ≡ []
-  unfolding place_for place_of
-  place_nowhere e = go (pruned b paths) refl (chosen b) refl e
+  place_nowhere : place_for b paths ≡ None → children b paths ≡ []
+  unfolding place_for
+  place_nowhere e = go (pruned b paths) refl e
     where
-      go : (t : Bool) → pruned b paths ≡ t → (c : Option ℕ) → chosen b ≡ c → cond t P.Nowhere (place_of c) ≡ P.Nowhere → children b paths ≡ []
-      go true q c r e = children_pruned b paths q
-      go false q none r e = children_full b paths r
-      go false q (some cell) r e = absurd (nowhere_cell cell (sym e))
+      go : (t : Bool) → pruned b paths ≡ t → cond t None (chosen b) ≡ None → children b paths ≡ []
+      go true q e = children_pruned b paths q
+      go false q e = children_full b paths e
 
-  place_cell : (cell : ℕ) → place_for b paths ≡ P.Cell cell → (pruned b paths ≡ false) × (chosen b ≡ some cell)
-  unfolding place_for place_of
-  place_cell cell e = go (pruned b paths) refl (chosen b) refl e
+  place_cell : (cell : ℕ) → place_for b paths ≡ Some cell → (pruned b paths ≡ false) × (chosen b ≡ Some cell)
+  unfolding place_for
+  place_cell cell e = go (pruned b paths) refl e
     where
-      go : (t : Bool) → pruned b paths ≡ t → (c : Option ℕ) → chosen b ≡ c → cond t P.Nowhere (place_of c) ≡ P.Cell cell
-          → (pruned b paths ≡ false) × (chosen b ≡ some cell)
-      go true q c r e = absurd (nowhere_cell cell e)
-      go false q none r e = absurd (nowhere_cell cell e)
-      go false q (some d) r e = (q, r ∙ ap some (cell_inj d cell e))
+      go : (t : Bool) → pruned b paths ≡ t → cond t None (chosen b) ≡ Some cell → (pruned b paths ≡ false) × (chosen b ≡ Some cell)
+      go true q e = absurd (none-ne-some cell e)
+      go false q e = (q, e)
 
 -- ---- arithmetic
 
@@ -126,7 +117,7 @@ module _ (b : Board) (good : So (valid b)) (fixed_lt : b.fixed < 2 ^ 256) (laid_
   unfolding first_tiling_from
   first_full e = tiling_full full_at (children_at b paths) (free_count b) (marks b) (ap is_full (start_at_lem b paths good fixed_lt laid_lt) ∙ e)
 
-  pub first_nowhere : is_full b ≡ false → place_for b paths ≡ P.Nowhere → first_tiling_from b paths ≡ []
+  pub first_nowhere : is_full b ≡ false → place_for b paths ≡ None → first_tiling_from b paths ≡ []
   unfolding first_tiling_from
   first_nowhere e q =
       tiling_none full_at (children_at b paths) (free_count b) (marks b) (ap is_full (start_at_lem b paths good fixed_lt laid_lt) ∙ e)
@@ -143,7 +134,7 @@ module _ (b : Board) (good : So (valid b)) (fixed_lt : b.fixed < 2 ^ 256) (laid_
       (at_most_rest (free_count (board_at b (marks (lay b p)))) (free_count (lay b p)) (free_count b) k same (lay_fewer b good paths p piece) e)
       (at_most (free_count (board_at b (marks (lay b p)))) (free_count (lay b p)) same)
 
-  pub first_place : Storable paths → is_full b ≡ false → (cell : ℕ) → place_for b paths ≡ P.Cell cell
+  pub first_place : Storable paths → is_full b ≡ false → (cell : ℕ) → place_for b paths ≡ Some cell
       → first_tiling_from b paths ≡ in_front (marks b) (first_of (walk_at b paths cell) (list_of (λ i. i) (33 * length paths)))
   unfolding first_tiling_from
   first_place small e cell q =

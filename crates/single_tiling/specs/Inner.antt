@@ -3,7 +3,7 @@
 use Rattle.std.specs.Prelude.{◌≡◌, ◌⊎◌, Bool, leb, length, get_or}
 use Rattle.std.proofs.Math.Bool.{So, cond}
 use mathlib.Core.List.{List, [], ◌∷◌, ◌++◌, Memᴰ as Mem}
-use Rattle.std.proofs.Math.Option.{Option, none, some}
+use Rattle.std.specs.Prelude.{Option, None, Some}
 use Prim.Native.Nat.{ℕ, zero, suc, ◌+◌, ◌/◌, ◌%◌, ◌≤◌, ◌<◌}
 use Rattle.cells.specs.Lists.{list_of, set_at}
 use Rattle.refusal.specs.Refusal.{Answer, refused, given, bind_answer}
@@ -17,10 +17,6 @@ use Rattle.choice.specs.Choice.{chosen}
 use Rattle.children.specs.Children.{pruned, children, children_at}
 use Rattle.fit.specs.Inner.{fit_for}
 use Rattle.covers.specs.Counts.{sum_of}
-use Rattle.single_tiling.specs.declared.descent.Found.{Found}
-use Rattle.single_tiling.specs.declared.descent.Found.TheVariants as F
-use Rattle.single_tiling.specs.declared.descent.Place.{Place}
-use Rattle.single_tiling.specs.declared.descent.Place.TheVariants as P
 
 -- ---- the first tiling, in child order, of a test for full boards and of the children of a board
 
@@ -64,13 +60,9 @@ unfolding fit_for
 fit_index b paths cell i = fit_for b (get_or paths (i / 33) []) (i % 33) cell
 
 -- the cell on which pieces are put: none where the board is pruned or full
-unfoldable pub place_of : Option ℕ → Place
-place_of none = P.Nowhere
-place_of (some cell) = P.Cell cell
-
-unfoldable pub place_for : Board → List Path → Place
-unfolding pruned chosen place_of
-place_for b paths = cond (pruned b paths) P.Nowhere (place_of (chosen b))
+unfoldable pub place_for : Board → List Path → Option ℕ
+unfolding pruned chosen
+place_for b paths = cond (pruned b paths) None (chosen b)
 
 -- ---- sums
 
@@ -85,10 +77,6 @@ pub record IsSum (sizes : List ℕ) (n : ℕ) : Type 0 where
 -- tiles that are not refused
 abbrev pub Read : Tiles → Type 0
 Read ts = (ts.count ≤ 64) × (length ts.codes ≡ 2048) × (read_tiles ts ≡ given (paths_in ts))
-
--- the tiles of an array of lengths and one of codes
-abbrev pub tiles_from : ℕ → List ℕ → List ℕ → Tiles
-tiles_from count lens codes = record { count = count; lens = lens; codes = codes }
 
 -- a board and tiles that are not refused, and whether a tile is single
 pub record Held (b : Board) (ts : Tiles) (single : Bool) : Type 0 where
@@ -115,11 +103,11 @@ abbrev pub New : (ℕ → List ℕ) → ℕ → List ℕ → Type 0
 New f i xs = (xs ≡ f i) ⊎ ((xs ≡ []) × ((k : ℕ) × (k < i) × (f k ≡ f i)))
 
 -- boards that were found behind as many as the depth says
-abbrev pub found_as : ℕ → List ℕ → Found
-found_as depth [] = F.Nothing
-found_as depth (x ∷ xs) = F.Boards (depth + length (x ∷ xs))
+abbrev pub found_as : ℕ → List ℕ → Option ℕ
+found_as depth [] = None
+found_as depth (x ∷ xs) = Some (depth + length (x ∷ xs))
 
 -- the lent words hold boards behind the first boards of what they held before, and the answer says so
-pub record Walked (ns : List ℕ) (depth : ℕ) (old new : List ℕ) (r : Found) : Type 0 where
+pub record Walked (ns : List ℕ) (depth : ℕ) (old new : List ℕ) (r : Option ℕ) : Type 0 where
   pub answer : r ≡ found_as depth ns
   pub boards : list_of (set_at new) (depth + length ns) ≡ list_of (set_at old) depth ++ ns

@@ -1,10 +1,12 @@
 -- Definitions: what `get_single_tiling` answers, and what it leaves in the lent words, for every input. What stands in quotation marks is 01's, from
 -- its section on orbits and one tiling. Children are those of `place_tile`. Assumes nothing.
+use Rattle.std.specs.Prelude.{Result}
+use Rattle.refusal.specs.declared.Refusal.{Refusal}
 use Rattle.std.specs.Prelude.{◌≡◌, cond, List, [], ℕ, ◌+◌, ◌/◌, ◌<◌, leb, length}
 use Rattle.std.proofs.Math.Bool.{So}
-use Rattle.std.proofs.Math.Option.{Option, none, some}
+use Rattle.std.specs.Prelude.{Option, None, Some}
 use Rattle.cells.specs.Lists.{words_for}
-use Rattle.refusal.specs.Refusal.{Answer, refused, given, map_answer, bind_answer, refusal_number, value_or}
+use Rattle.refusal.specs.Refusal.{Answer, refused, given, map_answer, bind_answer, value_or, answer_of}
 use Rattle.tiles.specs.declared.Tiles.{Tiles}
 use Rattle.tile.specs.Path.{Path}
 use Rattle.tiles.specs.Paths.{read_tiles}
@@ -13,8 +15,6 @@ use Rattle.rectangle.specs.Board.{Board, board_at, marks, free_count, is_full}
 use Rattle.board.specs.Board.{read_board}
 use Rattle.children.specs.Children.{children_at}
 use Rattle.covers.specs.Counts.{ChildSequence}
-use Rattle.single_tiling.specs.declared.SingleTiling.{SingleTiling}
-use Rattle.single_tiling.specs.declared.SingleTiling.TheVariants as S
 
 -- ---- one tiling
 
@@ -27,8 +27,8 @@ pub record IsTiling (b : Board) (paths : List Path) (xs : List ℕ) : Type 0 whe
 
 -- what may be found: "Which sequence is free"; "or none exactly if no child sequence reaches one"
 abbrev pub Finds : Board → List Path → Option (List ℕ) → Type 0
-Finds b paths none = (xs : List ℕ) → IsTiling b paths xs → ⊥
-Finds b paths (some xs) = IsTiling b paths xs
+Finds b paths None = (xs : List ℕ) → IsTiling b paths xs → ⊥
+Finds b paths (Some xs) = IsTiling b paths xs
 
 -- ---- what is refused
 
@@ -43,23 +43,17 @@ read_search b ts room =
 
 -- the boards that were found
 unfoldable pub boards_found : Option (List ℕ) → List ℕ
-boards_found none = []
-boards_found (some xs) = xs
+boards_found None = []
+boards_found (Some xs) = xs
 
 -- how many boards were found
 unfoldable pub number_found : Option (List ℕ) → Option ℕ
-number_found none = none
-number_found (some xs) = some (length xs)
-
--- what `get_single_tiling` answers: a number of boards, nothing, or a refusal
-abbrev pub single_answer : SingleTiling → Answer (Option ℕ)
-single_answer (S.Boards n) = given (some n)
-single_answer S.Nothing = given none
-single_answer (S.Refused r) = refused (refusal_number r)
+number_found None = None
+number_found (Some xs) = Some (length xs)
 
 -- "the number of boards comes back"; the words hold the boards, four words each, zeros behind; "the output is then zero, as with none"
-pub record GetsSingleTiling (b : RectangularBoard) (ts : Tiles) (old new : List ℕ) (r : SingleTiling) : Type 0 where
+pub record GetsSingleTiling (b : RectangularBoard) (ts : Tiles) (old new : List ℕ) (r : Result (Option ℕ) Refusal) : Type 0 where
   pub found : Option (List ℕ)
   pub tiling : (p : Board × List Path) → read_search b ts (length old / 4) ≡ given p → Finds p.0 p.1 found
-  pub answer : single_answer r ≡ map_answer (λ p. number_found found) (read_search b ts (length old / 4))
+  pub answer : answer_of r ≡ map_answer (λ p. number_found found) (read_search b ts (length old / 4))
   pub words : new ≡ words_for (value_or [] (map_answer (λ p. boards_found found) (read_search b ts (length old / 4)))) (length old)

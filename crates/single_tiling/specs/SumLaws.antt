@@ -1,7 +1,7 @@
 -- Laws of sums of the tiles' numbers of cells: where a board has a tiling, the number of its free cells is such a sum; and the table in which all sums
 -- up to a number are marked. Rests on `TilingLaws` and cells' `MemberLaws`. Assumes nothing.
-use Rattle.std.specs.Prelude.{◌≡◌, refl, ◌⊎◌, Bool, true, false, ◌&&◌, ℕ, ◌+◌, ◌-◌, ◌^◌, ◌≤◌, ◌<◌, eqb, leb, length, get_or, set}
-use Rattle.std.proofs.Common.{sym, ap, ◌∙◌, subst, inl, inr, ⊎_elim, arith, eq-eqb, le-leb, get_or-set_same, get_or-set_other}
+use Rattle.std.specs.Prelude.{◌≡◌, refl, ◌⊎◌, Bool, true, false, ◌&&◌, ℕ, ◌+◌, ◌-◌, ◌^◌, ◌≤◌, ◌<◌, leb, length, get_or, set}
+use Rattle.std.proofs.Common.{sym, ap, ◌∙◌, subst, inl, inr, ⊎_elim, arith, le-leb, get_or-set_same, get_or-set_other}
 use Rattle.std.proofs.Math.Bool.{So, and-eq-true_iff}
 use Rattle.std.proofs.lemmas.Bool.{false≢true}
 use mathlib.Core.List.Memᴰ.{cases_cons}
@@ -81,38 +81,43 @@ tiling_sum b good fixed_lt laid_lt paths xs t = sequence_sum b good paths fixed_
 
 -- ---- the table: every sum below m is marked
 
-abbrev pub Marked : List ℕ → ℕ → List ℕ → Type 0
-Marked sizes m table = (k : ℕ) → k < m → IsSum sizes k → get_or table k 0 ≡ 1
+abbrev pub Marked : List ℕ → ℕ → List Bool → Type 0
+Marked sizes m table = (k : ℕ) → k < m → IsSum sizes k → get_or table k false ≡ true
 
-pub marked_start : (sizes table : List ℕ) → get_or table 0 0 ≡ 1 → Marked sizes 1 table
-marked_start sizes table e k h s = let z : k ≡ 0 = omega arith in ap (λ (i : ℕ). get_or table i 0) z ∙ e
+pub marked_start : (sizes : List ℕ) (table : List Bool) → get_or table 0 false ≡ true → Marked sizes 1 table
+marked_start sizes table e k h s = let z : k ≡ 0 = omega arith in ap (λ (i : ℕ). get_or table i false) z ∙ e
 
-pub marked_set : (sizes table : List ℕ) (m : ℕ) → Marked sizes m table → m < length table → Marked sizes (m + 1) (set table m 1)
+pub marked_set : (sizes : List ℕ) (table : List Bool) (m : ℕ) → Marked sizes m table → m < length table → Marked sizes (m + 1) (set table m true)
 marked_set sizes table m marked l k h s = go (ℕ_discrete k m)
   where
-    go : Dec (k ≡ m) → get_or (set table m 1) k 0 ≡ 1
-    go (yes e) = ap (λ (i : ℕ). get_or (set table m 1) i 0) e ∙ get_or-set_same table m 1 0 l
-    go (no n) = get_or-set_other table m k 1 0 n ∙ marked k (omega arith) s
+    go : Dec (k ≡ m) → get_or (set table m true) k false ≡ true
+    go (yes e) = ap (λ (i : ℕ). get_or (set table m true) i false) e ∙ get_or-set_same table m true false l
+    go (no n) = get_or-set_other table m k true false n ∙ marked k (omega arith) s
 
-pub marked_skip : (sizes table : List ℕ) (m : ℕ) → ((a : ℕ) → Mem a sizes → 0 < a) → Marked sizes m table → 0 < m
-    → any (λ a. leb a m && eqb (get_or table (m - a) 0) 1) sizes ≡ false → Marked sizes (m + 1) table
-marked_skip sizes table m pos marked more none k h s = go (ℕ_discrete k m)
+-- one that is none of the sizes more than a marked number is no sum
+pub no_sum : (sizes : List ℕ) (table : List Bool) (m : ℕ) → ((a : ℕ) → Mem a sizes → 0 < a) → Marked sizes m table → 0 < m
+    → any (λ a. leb a m && get_or table (m - a) false) sizes ≡ false → IsSum sizes m → ⊥
+no_sum sizes table m pos marked more none s = ⊎_elim (λ z. absurd (omega arith)) never (sum_step sizes m pos s)
   where
     test : ℕ → Bool
-    test a = leb a m && eqb (get_or table (m - a) 0) 1
+    test a = leb a m && get_or table (m - a) false
 
     never : (a : ℕ) × Mem a sizes × (a ≤ m) × (0 < a) × IsSum sizes (m - a) → ⊥
     never r =
         let a = r.0 in
         let one = marked (m - a) (omega (arith, r.2, r.3)) r.4 in
-        let hit : test a ≡ true = (and-eq-true_iff (leb a m) (eqb (get_or table (m - a) 0) 1)).1 (le-leb a m r.2, eq-eqb (get_or table (m - a) 0) 1 one) in
+        let hit : test a ≡ true = (and-eq-true_iff (leb a m) (get_or table (m - a) false)).1 (le-leb a m r.2, one) in
         false≢true (sym none ∙ any_true test sizes a r.1 hit)
 
-    go : Dec (k ≡ m) → get_or table k 0 ≡ 1
-    go (yes e) = ⊎_elim (λ z. absurd (omega arith)) (λ r. absurd (never r)) (sum_step sizes m pos (subst (IsSum sizes) e s))
+pub marked_skip : (sizes : List ℕ) (table : List Bool) (m : ℕ) → ((a : ℕ) → Mem a sizes → 0 < a) → Marked sizes m table → 0 < m
+    → any (λ a. leb a m && get_or table (m - a) false) sizes ≡ false → Marked sizes (m + 1) table
+marked_skip sizes table m pos marked more none k h s = go (ℕ_discrete k m)
+  where
+    go : Dec (k ≡ m) → get_or table k false ≡ true
+    go (yes e) = absurd (no_sum sizes table m pos marked more none (subst (IsSum sizes) e s))
     go (no n) = marked k (omega arith) s
 
-pub marked_end : (sizes table : List ℕ) (m n : ℕ) → Marked sizes m table → n < m → IsSum sizes n → get_or table n 0 ≡ 1
+pub marked_end : (sizes : List ℕ) (table : List Bool) (m n : ℕ) → Marked sizes m table → n < m → IsSum sizes n → get_or table n false ≡ true
 marked_end sizes table m n marked h s = marked n h s
 
 -- ---- the sizes: an array that has each tile's number of cells

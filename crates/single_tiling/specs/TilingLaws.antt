@@ -1,6 +1,8 @@
 -- Laws of tilings: a child of an accepted board of the start is one too, and has as many free cells fewer as a tile has cells; so a tiling has at most
 -- one board more than cells are free, and each is a set of 256 cells; a full start has no tiling, and from another every child sequence to a full board
 -- is one. Then what a search reads, answers and leaves. Rests on expansion's `SettingLaws`, covers' `NodeLaws` and the laws of `rectangle`, `fit` and `children`. Assumes nothing.
+use Rattle.std.specs.Prelude.{Result}
+use Rattle.refusal.specs.declared.Refusal.{Refusal}
 use Rattle.std.specs.Prelude.{◌≡◌, refl, ◌↔◌, Bool, true, false, cond, ℕ, ◌+◌, ◌*◌, ◌/◌, ◌^◌, ◌≤◌, ◌<◌, leb, length, get_or, replicate}
 use Rattle.std.proofs.Common.{sym, ap₂, ◌∙◌, subst, arith, eqb-true, leb-true}
 use Rattle.std.proofs.Math.Path.{ap}
@@ -8,11 +10,12 @@ use Rattle.std.proofs.Math.Bool.{So}
 use Rattle.std.proofs.lemmas.Bool.{false≢true}
 use mathlib.Core.List.Memᴰ.{not-nil}
 use mathlib.Core.List.{List, [], ◌∷◌, Memᴰ as Mem}
-use Rattle.std.proofs.Math.Option.{Option, none, some, none-ne-some, some-injective}
+use Rattle.std.specs.Prelude.{Option, None, Some}
+use Rattle.cells.specs.OptionLaws.{none-ne-some, some-injective}
 use Rattle.cells.specs.ArrayLaws.{padded_empty}
 use Rattle.cells.specs.ListLaws.{sets_in, sets_in_words_for}
 use Rattle.cells.specs.Lists.{words_for}
-use Rattle.refusal.specs.Refusal.{Answer, refused, given, map_answer, bind_answer, value_or}
+use Rattle.refusal.specs.Refusal.{Answer, refused, given, map_answer, bind_answer, value_or, answer_of}
 use Rattle.refusal.specs.RefusalLaws.{refused_given, given_inj, bind_given}
 use Rattle.tiles.specs.declared.Tiles.{Tiles}
 use Rattle.tile.specs.Path.{Path, cell_count}
@@ -33,8 +36,7 @@ use Rattle.covers.proofs.NodeLaws.{chain_good}
 use Rattle.expansion.specs.Boards.{From}
 use Rattle.expansion.proofs.SettingLaws.{marks_at, lay_at, lay_from, start_at_lem, start_ok}
 use Rattle.expansion.proofs.ExpansionLaws.{small_at}
-use Rattle.single_tiling.specs.declared.SingleTiling.{SingleTiling}
-use Rattle.single_tiling.specs.SingleTiling.{IsTiling, Finds, read_search, boards_found, number_found, single_answer, GetsSingleTiling}
+use Rattle.single_tiling.specs.SingleTiling.{IsTiling, Finds, read_search, boards_found, number_found, GetsSingleTiling}
 
 -- ---- a child
 
@@ -142,25 +144,25 @@ search_read b ts room p e =
 -- ---- what is found
 
 pub finds_none : (b : Board) (paths : List Path) (found : Option (List ℕ)) → Finds b paths found
-    → (number_found found ≡ none) ↔ ((xs : List ℕ) → IsTiling b paths xs → ⊥)
+    → (number_found found ≡ None) ↔ ((xs : List ℕ) → IsTiling b paths xs → ⊥)
 unfolding number_found
-finds_none b paths none f = (λ e. f, λ h. refl)
-finds_none b paths (some xs) f = (λ e. absurd (none-ne-some (length xs) (sym e)), λ h. absurd (h xs f))
+finds_none b paths None f = (λ e. f, λ h. refl)
+finds_none b paths (Some xs) f = (λ e. absurd (none-ne-some (length xs) (sym e)), λ h. absurd (h xs f))
 
-pub finds_some : (b : Board) (paths : List Path) (found : Option (List ℕ)) → Finds b paths found → (n : ℕ) → number_found found ≡ some n
+pub finds_some : (b : Board) (paths : List Path) (found : Option (List ℕ)) → Finds b paths found → (n : ℕ) → number_found found ≡ Some n
     → (xs : List ℕ) × IsTiling b paths xs × (length xs ≡ n) × (boards_found found ≡ xs)
 unfolding number_found boards_found
-finds_some b paths none f n e = absurd (none-ne-some n e)
-finds_some b paths (some xs) f n e = (xs, f, some-injective (length xs) n e, refl)
+finds_some b paths None f n e = absurd (none-ne-some n e)
+finds_some b paths (Some xs) f n e = (xs, f, some-injective (length xs) n e, refl)
 
-pub finds_nothing : (found : Option (List ℕ)) → number_found found ≡ none → boards_found found ≡ []
+pub finds_nothing : (found : Option (List ℕ)) → number_found found ≡ None → boards_found found ≡ []
 unfolding number_found boards_found
-finds_nothing none e = refl
-finds_nothing (some xs) e = absurd (none-ne-some (length xs) (sym e))
+finds_nothing None e = refl
+finds_nothing (Some xs) e = absurd (none-ne-some (length xs) (sym e))
 
 -- ---- a search that is refused
 
-pub words_refused : (b : RectangularBoard) (ts : Tiles) (old new : List ℕ) (r : SingleTiling) (call : GetsSingleTiling b ts old new r) (k : ℕ)
+pub words_refused : (b : RectangularBoard) (ts : Tiles) (old new : List ℕ) (r : Result (Option ℕ) Refusal) (call : GetsSingleTiling b ts old new r) (k : ℕ)
     → read_search b ts (length old / 4) ≡ refused k → new ≡ words_for [] (length old)
 unfolding map_answer value_or
 words_refused b ts old new r call k e =
@@ -168,9 +170,9 @@ words_refused b ts old new r call k e =
 
 -- ---- a search that is not refused
 
-module _ (b : RectangularBoard) (ts : Tiles) (old new : List ℕ) (r : SingleTiling) (call : GetsSingleTiling b ts old new r)
+module _ (b : RectangularBoard) (ts : Tiles) (old new : List ℕ) (r : Result (Option ℕ) Refusal) (call : GetsSingleTiling b ts old new r)
     (p : Board × List Path) (read : read_search b ts (length old / 4) ≡ given p) where
-  pub answer_given : single_answer r ≡ given (number_found call.found)
+  pub answer_given : answer_of r ≡ given (number_found call.found)
   unfolding map_answer
   answer_given = call.answer ∙ ap (map_answer (λ p. number_found call.found)) read
 

@@ -1,6 +1,6 @@
 -- Laws of keys: a key has one position, a step of the key is a step of the position, so a path has as many cells as keys. Assumes nothing.
 use mathlib.Core.Path.{◌≡◌, refl, sym, ap, ap₂, ◌∙◌}
-use mathlib.Core.Bool.{true, false, So}
+use mathlib.Core.Bool.{Bool, true, false, ◌||◌, So}
 use mathlib.Core.List.{List, [], ◌∷◌, map}
 use Prim.Native.Nat.{ℕ, ◌+◌, ◌-◌, ◌/◌, ◌%◌, ◌≤◌, ◌<◌}
 use native.Mathlib.Numerals.{add-one}
@@ -8,9 +8,10 @@ use native.Mathlib.Omega.{arith}
 use borrow.Author.Tests.{eq-eqb, eqb-true}
 use lib.Dec.{eqb, lit≤}
 use lib.IntN.{ℤ, pos, negsuc, ◌+ℤ◌, +ℤ_assoc, +ℤ_comm, +ℤ_idr, +ℤ-neg_ℤ_cancel, pos-+ℤ-pos}
+use Rattle.std.specs.List.{list_any}
 use lib.ListN.{length, get_or, take, drop, set, length-map, get_or-eq_default}
 use lib.Seq.{drop-cons, drop-length, take-suc-set}
-use Rattle.cells.specs.Lists.{holds, add_new, add_firsts, firsts}
+use Rattle.cells.specs.Lists.{any, holds, add_new, add_firsts, firsts}
 use Rattle.cells.specs.FirstsLaws.{firsts_map, so_eq}
 use Rattle.tile.specs.declared.points.Keys.{Keys}
 use Rattle.direction.specs.Direction.{Position, at, shift, same_position, step}
@@ -125,15 +126,16 @@ pub add_firsts_end : (path : Path) (i k : ℕ) (ks : List ℕ) → length path �
 unfolding add_firsts keys_after
 add_firsts_end path i k ks h j = let e : i ≡ length path = omega arith in rw (e, drop-length path)
 
-pub key_step_past : (code : ℕ) → 8 ≤ code → 101 ≡ key_step code
-unfolding key_step
-key_step_past code h = sym (get_or-eq_default (1 ∷ 201 ∷ 100 ∷ 102 ∷ 0 ∷ 2 ∷ 202 ∷ 200 ∷ []) 101 h)
-
 -- a new key is stored behind the keys that were seen
-pub keys_in_new : (s r : Keys) (k : ℕ) → s.n < length s.keys → r ≡ record { n = s.n + 1; keys = set s.keys s.n k } → holds eqb (keys_in s) k ≡ false → keys_in r ≡ add_new eqb (keys_in s) k
-unfolding add_new
-keys_in_new s r k h e n = ap keys_in e ∙ ap (λ (j : ℕ). take j (set s.keys s.n k)) (add-one s.n) ∙ take-suc-set s.keys s.n k h ∙ rw n
+holds_list_any : (ks : List ℕ) (k : ℕ) → list_any (λ y. eqb y k) ks ≡ holds eqb ks k
+unfolding holds any
+holds_list_any [] k = refl
+holds_list_any (y ∷ ks) k = ap (λ t. eqb y k || t) (holds_list_any ks k)
 
-pub keys_in_old : (s : Keys) (k : ℕ) → holds eqb (keys_in s) k ≡ true → keys_in s ≡ add_new eqb (keys_in s) k
+pub keys_in_new : (s : Keys) (k : ℕ) → s.n < length s.keys → list_any (λ y. eqb y k) (keys_in s) ≡ false → keys_in (record { n = s.n + 1; keys = set s.keys s.n k }) ≡ add_new eqb (keys_in s) k
 unfolding add_new
-keys_in_old s k e = rw e
+keys_in_new s k h n = ap (λ (j : ℕ). take j (set s.keys s.n k)) (add-one s.n) ∙ take-suc-set s.keys s.n k h ∙ rw (sym (holds_list_any (keys_in s) k) ∙ n)
+
+pub keys_in_old : (s : Keys) (k : ℕ) → list_any (λ y. eqb y k) (keys_in s) ≡ true → keys_in s ≡ add_new eqb (keys_in s) k
+unfolding add_new
+keys_in_old s k e = rw (sym (holds_list_any (keys_in s) k) ∙ e)

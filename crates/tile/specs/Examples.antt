@@ -1,15 +1,11 @@
 -- Examples of the definitions, by computation. Codes: 0 Up, 1 Down, 2 Left, 3 Right, 4 UpLeft, 5 UpRight, 6 DownRight, 7 DownLeft.
-use Rattle.std.specs.Prelude.{◌≡◌, refl, true, false, [], ◌∷◌, map, ℕ, ◌≤◌, pos, negsuc, length, replicate}
+use Rattle.std.specs.Prelude.{◌≡◌, refl, Ok, Err, true, false, [], ◌∷◌, map, ℕ, ◌≤◌, pos, negsuc, length, replicate}
 use Rattle.std.proofs.Common.{arith}
 use Rattle.direction.specs.declared.Axis.TheVariants as A
-use Rattle.refusal.specs.Refusal.{refused, given, refusal_of, value_or}
+use Rattle.refusal.specs.Refusal.{refused, given, map_answer, answer_of}
 use Rattle.refusal.specs.declared.Refusal.TheVariants as R
-use Rattle.refusal.specs.declared.Verdict.TheVariants as Verdicts
-use Rattle.direction.specs.declared.Offset.TheVariants as O
-use Rattle.direction.specs.declared.Code.TheVariants as Codes
-use Rattle.tile.specs.declared.CellCount.TheVariants as C
-use Rattle.direction.specs.Direction.{at, origin, step, opposite, rotate, reflect, on_code, offset_answer, code_answer}
-use Rattle.tile.specs.Path.{Path, is_path, points, cells, cell_count, is_single, EdgeJoined, t_path, read_tile, tile_of, MakesTile, cell_count_answer, l_tile, t_tile}
+use Rattle.direction.specs.Direction.{at, origin, step, opposite, rotate, reflect, on_code, offset_answer}
+use Rattle.tile.specs.Path.{Path, is_path, points, cells, cell_count, is_single, EdgeJoined, t_path, read_tile, tile_of, MakesTile, l_tile, t_tile}
 use Rattle.tile.specs.EdgeTest.{edge_joined, edge_joined_iff}
 
 -- ---- directions
@@ -174,16 +170,16 @@ length_over = refl
 -- ---- the answers of the code
 
 -- a tile that is made
-made : MakesTile (l_tile 2) (record { verdict = Verdicts.Accepted; tile = tile_of (2 ∷ 0 ∷ []) })
-unfolding l_tile refusal_of value_or
-made = record { verdict = refl; tile = refl }
+made : MakesTile (l_tile 2) (Ok (tile_of (2 ∷ 0 ∷ [])))
+unfolding l_tile map_answer
+made = refl
 
--- the empty path, and the refusal's number
-made_refused : MakesTile (l_tile 0) (record { verdict = Verdicts.Refused R.BadTile; tile = record { len = 0; codes = replicate 32 0 } })
-unfolding l_tile refusal_of value_or tile_of
-made_refused = record { verdict = refl; tile = refl }
+-- the refusal's number
+made_refused : MakesTile (l_tile 0) (Err R.BadTile)
+unfolding l_tile map_answer
+made_refused = refl
 
 -- an offset, a code or a number, or the refusal's number
-answers : (offset_answer (O.By (pos 1) (negsuc 0)) ≡ given (at (pos 1) (negsuc 0))) × (offset_answer (O.Refused R.BadTile) ≡ refused 5) × (code_answer (Codes.Is 3) ≡ given 3) × (code_answer (Codes.Refused R.BadTile) ≡ refused 5)
-    × (cell_count_answer (C.Is 3) ≡ given 3) × (cell_count_answer (C.Refused R.BadTile) ≡ refused 5)
-answers = (refl, refl, refl, refl, refl, refl)
+answers : (offset_answer (Ok (pos 1, negsuc 0)) ≡ given (at (pos 1) (negsuc 0))) × (offset_answer (Err R.BadTile) ≡ refused 5)
+    × (answer_of {A = ℕ} (Ok 3) ≡ given 3) × (answer_of {A = ℕ} (Err R.BadTile) ≡ refused 5)
+answers = (refl, refl, refl, refl)

@@ -1,30 +1,10 @@
 -- Inner definitions: what the contracts of private functions and the loops' invariants say. No public contract cites them.
 -- Assumes nothing.
-use Rattle.std.specs.Prelude.{◌≡◌, cond, ◌&&◌, List, [], ◌∷◌, ℕ, ◌+◌, ◌-◌, ◌/◌, ◌%◌, ◌≤◌, leb, ltb, pos, negsuc, ◌+ℤ◌, get_or, take}
+use Rattle.std.specs.Prelude.{◌≡◌, List, [], ◌∷◌, ℕ, ◌+◌, ◌-◌, ◌/◌, ◌%◌, ◌≤◌, pos, negsuc, ◌+ℤ◌, get_or, take}
 use Rattle.tile.specs.declared.Tile.{Tile}
-use Rattle.tile.specs.declared.codes.Motion.{Motion}
-use Rattle.tile.specs.declared.codes.Motion.TheVariants as M
-use Rattle.direction.specs.declared.Code.{Code}
-use Rattle.direction.specs.declared.Code.TheVariants as Codes
 use Rattle.tile.specs.declared.points.Keys.{Keys}
-use Rattle.direction.specs.Direction.{Position, at, rotate, reflect}
+use Rattle.direction.specs.Direction.{Position, at}
 use Rattle.tile.specs.Path.{Path, path_in, tile_of}
-
--- ---- codes in arrays
-
--- the image of a code under a motion
-abbrev pub image : Motion → ℕ → ℕ
-image M.Rotate code = rotate code
-image (M.Reflect axis) code = reflect axis code
-
--- the code that is answered, or else the code itself
-abbrev pub code_of : Code → ℕ → ℕ
-code_of (Codes.Is other) code = other
-code_of (Codes.Refused r) code = code
-
--- v at the places a to b - 1, and f elsewhere
-unfoldable pub run : ℕ → ℕ → ℕ → (ℕ → ℕ) → ℕ → ℕ
-run a b v f k = cond (leb a k && ltb k b) v (f k)
 
 -- ---- stored tiles
 

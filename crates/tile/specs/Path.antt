@@ -1,16 +1,15 @@
 -- Definitions: a tile is a path, a list of direction codes. Its points, its cells and its symmetries; the condition that demand 3 puts on each tile; the paths
 -- of the Rust's `l_tile` and `t_tile`; and what the struct `Tile` of the code stands for, a length and 32 codes, any numbers: `read_tile` gives the path, or
 -- 01's refusal, and `tile_of` stores a path. Reading what was stored gives it back (`read_tile_tile_of`). Assumes nothing.
+use Rattle.std.specs.Prelude.{Result}
+use Rattle.refusal.specs.declared.Refusal.{Refusal}
 use Rattle.std.specs.Prelude.{◌≡◌, Bool, true, false, ◌&&◌, cond, ℕ, ◌-◌, ◌≤◌, ◌<◌, leb, ltb, length, replicate, take}
 use mathlib.Core.List.{List, [], ◌∷◌, ◌++◌, map, Memᴰ as Mem}
 use Rattle.cells.specs.Lists.{firsts, padded}
 use Rattle.direction.specs.declared.Axis.{Axis}
 use Rattle.direction.specs.Direction.{Position, origin, shift, same_position, step, rotate, reflect}
 use Rattle.tile.specs.declared.Tile.{Tile}
-use Rattle.tile.specs.declared.MadeTile.{MadeTile}
-use Rattle.tile.specs.declared.CellCount.{CellCount}
-use Rattle.tile.specs.declared.CellCount.TheVariants as C
-use Rattle.refusal.specs.Refusal.{Answer, refused, given, refusal_number, verdict_number, refusal_of, value_or}
+use Rattle.refusal.specs.Refusal.{Answer, refused, given, map_answer, answer_of}
 
 -- a list of direction codes
 abbrev pub Path : Type 0
@@ -102,15 +101,9 @@ tile_of p = record { len = length p; codes = padded p 32 }
 
 -- ---- the answers of the code
 
--- a made tile: the refusal's number, 0 for none, and the path stored; a refusal hands back the empty path
-pub record MakesTile (a : Answer Path) (r : MadeTile) : Type 0 where
-  pub verdict : verdict_number r.verdict ≡ refusal_of a
-  pub tile : r.tile ≡ tile_of (value_or [] a)
-
--- what `count_cells` answers
-abbrev pub cell_count_answer : CellCount → Answer ℕ
-cell_count_answer (C.Is n) = given n
-cell_count_answer (C.Refused r) = refused (refusal_number r)
+-- a made tile: the path stored, or the refusal
+abbrev pub MakesTile : Answer Path → Result Tile Refusal → Type 0
+MakesTile a r = answer_of r ≡ map_answer tile_of a
 
 -- ---- the Rust's `l_tile` and `t_tile`
 

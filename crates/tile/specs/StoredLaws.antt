@@ -1,5 +1,6 @@
 -- Laws of paths and stored tiles: the test of a path tells what `read_path` and `read_tile` answer, and what is stored is read back. Rests on `Path`
 -- and the laws of arrays. Assumes nothing.
+use Rattle.std.specs.Prelude.{Err, Ok, Result, ⊤}
 use Rattle.std.specs.Prelude.{◌≡◌, refl, Bool, true, false, List, ◌⊎◌, ℕ, ◌≤◌, ◌<◌, leb, get_or, take}
 use Rattle.std.proofs.Common.{sym, ap, ◌∙◌, inl, inr, arith, le-leb, leb-true, length-take, ext_get_or, get_or-take, length-take-le}
 use Rattle.std.proofs.Math.Path.{subst}
@@ -11,8 +12,6 @@ use Rattle.cells.specs.Lists.{list_of}
 use Rattle.cells.specs.ArrayLaws.{length_list_of, get_d_list_of}
 use Rattle.tile.specs.declared.Tile.{Tile}
 use Rattle.refusal.specs.declared.Refusal.{Refusal}
-use Rattle.refusal.specs.declared.Verdict.{Verdict}
-use Rattle.refusal.specs.declared.Verdict.TheVariants as Verdicts
 use Rattle.refusal.specs.Refusal.{refused, given, refusal_number, refusal_of, verdict_number}
 use Rattle.tile.specs.Path.{Path, codes_ok, is_path, path_in, read_tile, read_path, tile_of}
 use Rattle.tile.specs.Inner.{CleanTile}
@@ -146,11 +145,11 @@ pub read_tile_refused : (t : Tile) (q : Refusal) → refusal_number q ≡ refusa
 read_tile_refused t q e = let r = refused_of (read_tile t) q e in r ∙ ap refused (read_tile_refuses t (λ n. n ≡ 5) refl (refusal_number q) r)
 
 -- what the test of a tile tells: its verdict v has the refusal's number
-module _ (t : Tile) (v : Verdict) (e : verdict_number v ≡ refusal_of (read_tile t)) where
-  pub check_accepted : v ≡ Verdicts.Accepted → (t.len ≤ 32) × (codes_ok (path_in t) ≡ true)
+module _ (t : Tile) (v : (Result ⊤ Refusal)) (e : verdict_number v ≡ refusal_of (read_tile t)) where
+  pub check_accepted : v ≡ (Ok tt) → (t.len ≤ 32) × (codes_ok (path_in t) ≡ true)
   check_accepted q = read_tile_accepted t (sym (ap verdict_number q) ∙ e)
 
-  pub check_refused : (r : Refusal) → v ≡ Verdicts.Refused r → read_tile t ≡ refused 5
+  pub check_refused : (r : Refusal) → v ≡ Err r → read_tile t ≡ refused 5
   check_refused r q = read_tile_refused t r (sym (ap verdict_number q) ∙ e)
 
 -- ---- what is stored is read back

@@ -1,68 +1,23 @@
-// Paths as slices and arrays of codes: tests, images and runs of one code. Private helpers; some
-// ask that an index is within its array.
-ghost use Rattle.std.specs.Prelude.{◌≡◌, map, ◌≤◌, length, get_or};
-ghost use Rattle.cells.specs.Lists.{list_of};
-ghost use Rattle.tile.specs.Path.{codes_ok, path_in, tile_of};
-ghost use Rattle.tile.specs.Inner.{image, code_of, run};
+// Codes of tiles: a code turned or reflected, and a path as it is stored. Private helpers; `stored`
+// asks that its path is short enough.
+ghost use Rattle.std.specs.Prelude.{◌≡◌, ◌≤◌, length};
+ghost use Rattle.direction.specs.Direction.{rotate, reflect};
+ghost use Rattle.tile.specs.Path.{tile_of};
 
 use crate::Tile;
-use direction::{Axis, Code};
+use direction::Axis;
 
-// Whether every code is one of 0 to 7.
-pub fn all_ok(path: &[u8]) -> bool
-    ensures { result ≡ codes_ok path.now }
+// The code turned, and the code reflected; a code that is no direction stays.
+pub fn rotated(code: u8) -> u8
+    ensures { result ≡ rotate code }
 {
-    let mut i = 0;
-    while i < path.len() {
-        if 7 < path[i] {
-            return false;
-        }
-        i += 1;
-    }
-    true
+    direction::rotate(code).unwrap_or(code)
 }
 
-// How a tile is moved.
-#[derive(Clone, Copy, Drop)]
-pub enum Motion {
-    Rotate,
-    Reflect(Axis),
-}
-
-// The code that is answered; a code that is no direction stays.
-fn code_of(answer: Code, code: u8) -> u8
-    ensures { result ≡ code_of answer code }
+pub fn reflected(code: u8, axis: Axis) -> u8
+    ensures { result ≡ reflect axis code }
 {
-    match answer {
-        Code::Is(other) => other,
-        Code::Refused(_) => code,
-    }
-}
-
-// The code's image; a code that is no direction stays.
-pub fn image_of(code: u8, motion: Motion) -> u8
-    ensures { result ≡ image motion code }
-{
-    match motion {
-        Motion::Rotate => code_of(direction::rotate(code), code),
-        Motion::Reflect(axis) => code_of(direction::reflect(code, axis), code),
-    }
-}
-
-// The moved tile, with zeros behind its path.
-pub fn moved(tile: Tile, motion: Motion) -> Tile
-    requires { tile.len ≤ 32 }
-    ensures { result ≡ tile_of (map (image motion) (path_in tile)) }
-{
-    let len = tile.len;
-    let from = tile.codes;
-    let mut codes = [0u8; 32];
-    let mut i = 0;
-    while i < len {
-        codes[i] = image_of(from[i], motion);
-        i += 1;
-    }
-    Tile { len, codes }
+    direction::reflect(code, axis).unwrap_or(code)
 }
 
 // The tile of a path, with zeros behind it.
@@ -70,26 +25,10 @@ pub fn stored(path: &[u8]) -> Tile
     requires { length path.now ≤ 32 }
     ensures { result ≡ tile_of path.now }
 {
-    let len = path.len();
-    let mut codes = [0u8; 32];
-    let mut i = 0;
-    while i < len {
-        codes[i] = path[i];
-        i += 1;
+    let mut codes = [0; 32];
+    codes[..path.len()].copy_from_slice(path);
+    Tile {
+        len: path.len(),
+        codes,
     }
-    Tile { len, codes }
-}
-
-// The codes with one code at the places from to end - 1.
-pub fn with_run(codes: [u8; 32], from: usize, end: usize, code: u8) -> [u8; 32]
-    requires { (from ≤ end) × (end ≤ 32) }
-    ensures { result ≡ list_of (run from end code (λ k. get_or codes k 0)) 32 }
-{
-    let mut out = codes;
-    let mut i = from;
-    while i < end {
-        out[i] = code;
-        i += 1;
-    }
-    out
 }

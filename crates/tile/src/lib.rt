@@ -7,55 +7,42 @@
 #![tactic(auto)]
 
 ghost use Rattle.std.specs.Prelude.{◌≡◌, []};
-ghost use Rattle.refusal.specs.Refusal.{refusal_number, map_answer, refusal_of, verdict_number};
-ghost use Rattle.tile.specs.Path.{is_path, cell_count, rotated, reflected, read_tile, read_path, tile_of, MakesTile, cell_count_answer, l_tile, t_tile};
+ghost use Rattle.refusal.specs.Refusal.{refusal_number, map_answer, refusal_of, verdict_number, answer_of};
+ghost use Rattle.tile.specs.Path.{is_path, cell_count, rotated, reflected, read_tile, read_path, tile_of, MakesTile, l_tile, t_tile};
 
-use codes::Motion;
-use direction::Axis;
-use refusal::{Refusal, Verdict};
+use direction::{Axis, Direction};
+use refusal::Refusal;
+use std::array;
 
 mod codes;
 mod points;
 
 // A tile's path: the first len of the codes.
+// Kept: a buffer with a length; the library takes no heap, and `read_tile_tile_of` names the fields.
 #[derive(Clone, Copy, Drop)]
 pub struct Tile {
     pub len: usize,
     pub codes: [u8; 32],
 }
 
-// A tile, or a refusal and the empty path. (An enum cannot hold an array.)
-#[derive(Clone, Copy, Drop)]
-pub struct MadeTile {
-    pub verdict: Verdict,
-    pub tile: Tile,
-}
-
-#[derive(Clone, Copy, Drop)]
-pub enum CellCount {
-    Is(usize),
-    Refused(Refusal),
-}
-
 // Whether some codes are a path: at most 32 codes 0 to 7.
+#[tactic(auto, using(crate::proofs::CodeLaws::codes_ok_all), unfolding(crate::specs::Path::is_path))]
 pub fn is_path(path: &[u8]) -> bool
     ensures { result ≡ is_path path.now }
 {
-    if 32 < path.len() {
-        return false;
-    }
-    codes::all_ok(path)
+    path.len() <= 32 && path.iter().all(|code| *code < 8)
 }
 
 impl Tile {
     // The tile of a path; refusal 5 for a path over 32 or a code over 7.
-    pub fn new(path: &[u8]) -> MadeTile
+    #[tactic(auto, unfolding(crate::specs::Path::read_path, crate::specs::Path::is_path, refusal::specs::Refusal::map_answer))]
+    pub fn new(path: &[u8]) -> Result<Tile, Refusal>
         ensures { MakesTile (read_path path.now) result }
     {
-        if is_path(path) {
-            return made(codes::stored(path));
+        if !is_path(path) {
+            return Err(Refusal::BadTile);
         }
-        refused(Refusal::BadTile)
+        Ok(codes::stored(path))
     }
 
     // The single tile: the empty path.
@@ -69,105 +56,80 @@ impl Tile {
     }
 
     // Left, and then Up, in all length codes.
-    pub fn l_tile(length: usize) -> MadeTile
+    pub fn l_tile(length: usize) -> Result<Tile, Refusal>
         ensures { MakesTile (l_tile length) result }
     {
-        if length == 0 {
-            return refused(Refusal::BadTile);
+        if !(1..=32).contains(&length) {
+            return Err(Refusal::BadTile);
         }
-        if 32 < length {
-            return refused(Refusal::BadTile);
-        }
-        let mut codes = [0u8; 32];
-        codes[0] = 2;
-        let whole = codes::with_run(codes, 1, length, 0);
-        made(Tile {
-            len: length,
-            codes: whole,
-        })
+        let mut codes = [0; 32];
+        codes[..length].fill(Direction::Up as u8);
+        codes[0] = Direction::Left as u8;
+        Ok(Tile { len: length, codes })
     }
 
     // Right length times, Up, DownRight, and Right length - 1 times.
-    pub fn t_tile(length: usize) -> MadeTile
+    pub fn t_tile(length: usize) -> Result<Tile, Refusal>
         ensures { MakesTile (t_tile length) result }
     {
-        if length == 0 {
-            return refused(Refusal::BadTile);
+        if !(1..=15).contains(&length) {
+            return Err(Refusal::BadTile);
         }
-        if 15 < length {
-            return refused(Refusal::BadTile);
-        }
-        let mut codes = codes::with_run([0u8; 32], 0, length, 3);
-        codes[length] = 0;
-        codes[length + 1] = 6;
         let len = 2 * length + 1;
-        let whole = codes::with_run(codes, length + 2, len, 3);
-        made(Tile { len, codes: whole })
+        let mut codes = [0; 32];
+        codes[..len].fill(Direction::Right as u8);
+        codes[length] = Direction::Up as u8;
+        codes[length + 1] = Direction::DownRight as u8;
+        Ok(Tile { len, codes })
     }
 
     // Whether the tile is a path of at most 32 codes 0 to 7; refusal 5 otherwise.
-    pub fn check(self) -> Verdict
+    #[tactic(auto, unfolding(crate::specs::Path::read_tile, crate::specs::Path::read_path, refusal::specs::Refusal::refusal_of))]
+    pub fn check(self) -> Result<(), Refusal>
         ensures { verdict_number result ≡ refusal_of (read_tile self) }
     {
-        let len = self.len;
-        let codes = self.codes;
-        if 32 < len {
-            return Verdict::Refused(Refusal::BadTile);
+        if self.len <= 32 && is_path(&self.codes[..self.len]) {
+            return Ok(());
         }
-        if is_path(&codes[..len]) {
-            return Verdict::Accepted;
-        }
-        Verdict::Refused(Refusal::BadTile)
+        Err(Refusal::BadTile)
     }
 
     // The tile turned by 90 degrees clockwise.
-    pub fn rotate(self) -> MadeTile
+    pub fn rotate(self) -> Result<Tile, Refusal>
         ensures { MakesTile (map_answer rotated (read_tile self)) result }
     {
-        let Verdict::Accepted = self.check() else {
-            return refused(Refusal::BadTile);
-        };
-        made(codes::moved(self, Motion::Rotate))
+        self.check()?;
+        Ok(Tile {
+            len: self.len,
+            codes: array::from_fn(|i| if i < self.len {
+                codes::rotated(self.codes[i])
+            } else {
+                0
+            }),
+        })
     }
 
     // The tile reflected about an axis.
-    pub fn reflect(self, axis: Axis) -> MadeTile
+    pub fn reflect(self, axis: Axis) -> Result<Tile, Refusal>
         ensures { MakesTile (map_answer (reflected axis) (read_tile self)) result }
     {
-        let Verdict::Accepted = self.check() else {
-            return refused(Refusal::BadTile);
-        };
-        made(codes::moved(self, Motion::Reflect(axis)))
+        self.check()?;
+        Ok(Tile {
+            len: self.len,
+            codes: array::from_fn(|i| if i < self.len {
+                codes::reflected(self.codes[i], axis)
+            } else {
+                0
+            }),
+        })
     }
 
     // The number of distinct cells.
-    pub fn count_cells(self) -> CellCount
-        ensures { cell_count_answer result ≡ map_answer cell_count (read_tile self) }
+    #[tactic(auto, using(crate::proofs::MadeLaws::short_tile))]
+    pub fn count_cells(self) -> Result<usize, Refusal>
+        ensures { answer_of result ≡ map_answer cell_count (read_tile self) }
     {
-        let Verdict::Accepted = self.check() else {
-            return CellCount::Refused(Refusal::BadTile);
-        };
-        let len = self.len;
-        let codes = self.codes;
-        CellCount::Is(points::count(&codes[..len]))
-    }
-}
-
-// A tile that is made, and a refusal in its place.
-fn made(tile: Tile) -> MadeTile
-    ensures { (result.tile ≡ tile) × (verdict_number result.verdict ≡ 0) }
-{
-    MadeTile {
-        verdict: Verdict::Accepted,
-        tile,
-    }
-}
-
-fn refused(refusal: Refusal) -> MadeTile
-    ensures { (result.tile ≡ tile_of []) × (verdict_number result.verdict ≡ refusal_number refusal) }
-{
-    MadeTile {
-        verdict: Verdict::Refused(refusal),
-        tile: Tile::box_tile(),
+        self.check()?;
+        Ok(points::count(&self.codes[..self.len]))
     }
 }

@@ -3,11 +3,12 @@
 // side. Private helpers.
 ghost use Rattle.std.specs.Prelude.{◌≡◌, ◌+◌, ◌≤◌, eqb, length};
 ghost use Rattle.std.proofs.Math.Bool.{So};
-ghost use Rattle.cells.specs.Lists.{holds, add_new};
+ghost use Rattle.cells.specs.Lists.{add_new};
 ghost use Rattle.tile.specs.Path.{codes_ok, cell_count};
 ghost use Rattle.tile.specs.Inner.{key_step, keys_in};
 
 // The first n keys are those of the points seen so far, each once.
+// Kept: a buffer with a length; the library takes no heap.
 #[derive(Clone, Copy, Drop)]
 pub struct Keys {
     pub n: usize,
@@ -15,6 +16,7 @@ pub struct Keys {
 }
 
 // What one step adds to a key, with 101 more, so that it is not negative.
+#[tactic(auto, unfolding(crate::specs::Inner::key_step))]
 fn key_step(code: u8) -> usize
     ensures { (result ≡ key_step code) × (result ≤ 202) }
 {
@@ -31,32 +33,17 @@ fn key_step(code: u8) -> usize
     }
 }
 
-// Whether a key is among some keys.
-fn has_key(keys: &[usize], key: usize) -> bool
-    ensures { result ≡ holds eqb keys.now key }
-{
-    let mut i = 0;
-    while i < keys.len() {
-        if keys[i] == key {
-            return true;
-        }
-        i += 1;
-    }
-    false
-}
-
 // The keys with one more, unless it is there.
-fn with_key(seen: Keys, key: usize) -> Keys
+fn with_key(mut seen: Keys, key: usize) -> Keys
     requires { seen.n ≤ 32 }
     ensures { (keys_in result ≡ add_new eqb (keys_in seen) key) × (result.n ≤ seen.n + 1) }
 {
-    let n = seen.n;
-    let mut keys = seen.keys;
-    if has_key(&keys[..n], key) {
+    if seen.keys[..seen.n].contains(&key) {
         return seen;
     }
-    keys[n] = key;
-    Keys { n: n + 1, keys }
+    seen.keys[seen.n] = key;
+    seen.n += 1;
+    seen
 }
 
 // How many cells a path has.
@@ -64,15 +51,17 @@ pub fn count(path: &[u8]) -> usize
     requires { (length path.now ≤ 32) × So (codes_ok path.now) }
     ensures { result ≡ cell_count path.now }
 {
-    let mut first = [0usize; 33];
-    first[0] = 5050;
-    let mut seen = Keys { n: 1, keys: first };
     let mut key = 5050;
-    let mut i = 0;
-    while i < path.len() {
-        key = key + key_step(path[i]) - 101;
+    let mut seen = with_key(
+        Keys {
+            n: 0,
+            keys: [0; 33],
+        },
+        key,
+    );
+    for code in path {
+        key = key + key_step(*code) - 101;
         seen = with_key(seen, key);
-        i += 1;
     }
     seen.n
 }

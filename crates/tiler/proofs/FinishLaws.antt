@@ -1,7 +1,8 @@
 -- What a graph in lent words comes to: the search for the full board's node; the words cleared after a refusal; and the refusals and the result of a
 -- graph that has grown. Rests on `BuildLaws`, `PassingLaws`, expansion's laws, graph's `GraphLaws` and covers' laws. Assumes nothing.
-use mathlib.Core.Path.{◌≡◌, refl, sym, ap, ◌∙◌, subst}
-use mathlib.Core.Bool.{Bool, true, false, So}
+use Rattle.std.specs.Prelude.{Err, None, Ok, Option, Result, Some, IsOk}
+use mathlib.Core.Path.{◌≡◌, refl, sym, ap, ap₂, ◌∙◌, subst}
+use mathlib.Core.Bool.{Bool, true, false, So, false≢true}
 use mathlib.Core.List.{List, [], ◌∷◌}
 use Prim.Native.Nat.{ℕ, suc, ◌+◌, ◌-◌, ◌*◌, ◌^◌, ◌≤◌, ◌<◌, min}
 use native.Mathlib.Nat.{add-zero, le_of_eq}
@@ -17,39 +18,36 @@ use Rattle.cells.specs.ArrayLaws.{get_d_list_of}
 use Rattle.cells.specs.ListLaws.{cleared_sets, cleared_all}
 use Rattle.tiles.specs.declared.Tiles.{Tiles}
 use Rattle.refusal.specs.declared.Refusal.{Refusal}
-use Rattle.refusal.specs.declared.Verdict.TheVariants as Verdicts
-use Rattle.refusal.specs.Refusal.{Answer, refused, given, bind_answer, refusal_of, refusal_number, value_or, map_answer}
+use Rattle.refusal.specs.Refusal.{Answer, refused, given, bind_answer, refusal_number, value_or, map_answer, answer_of}
 use Rattle.tile.specs.Path.{Path}
 use Rattle.tiles.specs.Paths.{paths_in}
 use Rattle.board.specs.declared.RectangularBoard.{RectangularBoard}
-use Rattle.board.specs.declared.AllMarked.{AllMarked}
-use Rattle.board.specs.declared.AllMarked.TheVariants as M
 use Rattle.rectangle.specs.Board.{Board, board_at, is_full, valid}
-use Rattle.board.specs.Board.{board_of, read_board, all_marked_answer}
+use Rattle.board.specs.Board.{board_of, read_board}
 use Rattle.covers.specs.Setting.{Setting, Laws, EqualSteps, entries_of, nodes_of, graph_edges}
 use Rattle.covers.specs.Counts.{counts, full_from, full_node}
 use Rattle.covers.proofs.SettingLaws.{node_ok}
 use Rattle.covers.proofs.PassLaws.{edge_in}
-use Rattle.graph.specs.Graph.{edge_at, edges_for, node_room, edge_room, complete_node}
+use Rattle.graph.specs.declared.GraphResult.{GraphResult}
+use Rattle.graph.specs.Graph.{edge_at, edges_for, node_room, edge_room}
 use Rattle.cells.specs.SearchLaws.{first_from_found, first_from_missed}
 use Rattle.graph.proofs.GraphLaws.{cleared_edges}
-use Rattle.graph.specs.declared.Complete.TheVariants as N
-use Rattle.tiler.specs.declared.MadeGraph.{MadeGraph}
-use Rattle.tiler.specs.declared.building.Growth.{Growth}
-use Rattle.tiler.specs.declared.building.Growth.TheVariants as G
 use Rattle.expansion.specs.Boards.{From, setting, setting_of, start_of, Accepted}
-use Rattle.tiler.specs.Graphs.{Graph, Makes, judge_graph, generate_graph, graph_of}
+use Rattle.tiler.specs.Graphs.{Graph, Makes, GeneratesGraph, result_of_graph, no_graph, judge_graph, generate_graph, graph_of}
 use Rattle.expansion.specs.Plots.{accept_plot}
 use Rattle.expansion.specs.Parts.{marked_board, step_of}
 use Rattle.layers.specs.LayerCounts.{too_large}
-use Rattle.tiler.specs.Inner.{HoldsGraph, EndsBelow, PassesEdges, Finishes, graph_in}
+use Rattle.tiler.specs.Inner.{HoldsGraph, EndsBelow, PassesEdges, Finishes, MakesGraph, graph_in}
 use Rattle.expansion.proofs.AcceptedLaws.{accepted_laws, accepted_steps, accepted_start}
 use Rattle.graph.proofs.RoomLaws.{node_room_lem, edge_room_lem}
 use Rattle.tiler.specs.GivenLaws.{graph_setting}
+use Rattle.std.specs.Option.{ok_or}
+use Rattle.std.specs.Result.{is_err, IsErrAnd}
+use Rattle.std.proofs.lemmas.Result.{err_from_is_err_and}
 use Rattle.tiler.proofs.BuildLaws.{size_held, no_room_held}
 use Rattle.tiler.proofs.PassingLaws.{pass_counts, pass_too_large}
 use Rattle.board.specs.BoardLaws.{read_board_given}
-use Rattle.refusal.specs.RefusalLaws.{refused_given, given_inj}
+use Rattle.refusal.specs.RefusalLaws.{refused_given, refused_inj, given_inj, is_ok_given, map_refused}
 use Rattle.path_count.specs.PathCounts.{count_room, counts_for}
 use Rattle.path_count.specs.PathCountLaws.{cleared_counts_for}
 use Rattle.expansion.proofs.ExpansionLaws.{marked_from}
@@ -64,26 +62,27 @@ module _ (b d : RectangularBoard) (m : ℕ) (marked : board_of d ≡ marked_boar
   accepted_at : So (valid (board_of d))
   accepted_at = subst (λ (x : Board). So (valid x)) (sym at) from.accepted
 
-  module _ (r : AllMarked) (e : all_marked_answer r ≡ map_answer is_full (read_board d)) where
-    full_answer : all_marked_answer r ≡ given (is_full (board_at (board_of b) m))
+  module _ (r : Result Bool Refusal) (e : answer_of r ≡ map_answer is_full (read_board d)) where
+    full_answer : answer_of r ≡ given (is_full (board_at (board_of b) m))
     unfolding map_answer
     full_answer = e ∙ ap (map_answer is_full) (read_board_given d accepted_at) ∙ ap (λ (x : Board). given (is_full x)) at
 
-    pub full_is : (t : Bool) → r ≡ M.Is t → t ≡ is_full (board_at (board_of b) m)
-    full_is t q = given_inj t (is_full (board_at (board_of b) m)) (sym (ap all_marked_answer q) ∙ full_answer)
+    -- it is not refused
+    pub full_told : IsOk r
+    full_told = is_ok_given r (is_full (board_at (board_of b) m)) full_answer
 
-    pub full_refused : (q : Refusal) → r ≡ M.Refused q → ⊥
-    full_refused q s = refused_given (refusal_number q) (is_full (board_at (board_of b) m)) (sym (ap all_marked_answer s) ∙ full_answer)
+    pub full_is : (t : Bool) → r ≡ Ok t → t ≡ is_full (board_at (board_of b) m)
+    full_is t q = given_inj t (is_full (board_at (board_of b) m)) (sym (ap answer_of q) ∙ full_answer)
 
 -- the board at a place, as it was tested
 pub full_at_lem : (b : RectangularBoard) (m k : ℕ) (r t : Bool) → r ≡ is_full (board_at (board_of b) m) → m ≡ k → r ≡ t → is_full (board_at (board_of b) k) ≡ t
 full_at_lem b m k r t e q h = ap (λ (n : ℕ). is_full (board_at (board_of b) n)) (sym q) ∙ sym e ∙ h
 
 module _ (test : ℕ → Bool) (i : ℕ) (missed : (k : ℕ) → 1 ≤ k → k < i → test k ≡ false) where
-  pub complete_found : (n : ℕ) → 1 ≤ i → i < n → test i ≡ true → complete_node (N.Node i) ≡ first_from test 1 (n - 1)
+  pub complete_found : (n : ℕ) → 1 ≤ i → i < n → test i ≡ true → (Some i) ≡ first_from test 1 (n - 1)
   complete_found n h l e = sym (first_from_found test 1 (n - 1) i h (omega arith) e missed)
 
-  pub complete_none : (n : ℕ) → n ≤ i → complete_node N.Nothing ≡ first_from test 1 (n - 1)
+  pub complete_none : (n : ℕ) → n ≤ i → None ≡ first_from test 1 (n - 1)
   complete_none n l = sym (first_from_missed test 1 (n - 1) (λ k a b. missed k a (omega arith)))
 
 -- the places hold a list's boards
@@ -114,24 +113,18 @@ zero_edges : (ws : List ℕ) → cleared_from 0 ws ≡ edges_for [] (length ws)
 unfolding list_of list_from
 zero_edges ws = cleared_edges ws [] (omega arith) refl
 
-pub makes_refused : (q : Refusal) (ns cs es ns' cs' es' : List ℕ) → ns' ≡ cleared_from 0 ns → cs' ≡ cleared_from 0 cs → es' ≡ cleared_from 0 es
-    → Makes (refused (refusal_number q)) (length ns) (length cs) (length es) ns' cs' es'
-    (record { verdict = Verdicts.Refused q; graph = record { nodes = 0; edges = 0; complete = N.Nothing } })
-unfolding refusal_of value_or
-makes_refused q ns cs es ns' cs' es' d e f = record {
-  verdict = refl;
-  node_number = refl;
-  edge_number = refl;
-  complete = refl;
-  nodes = d ∙ cleared_all ns;
-  counts = e ∙ cleared_counts_for cs;
-  edges = f ∙ zero_edges es;
-}
-
--- an answer and lengths in other words
-makes_as : (a a' : Answer Graph) (n n₁ c c₁ e e₁ : ℕ) (ns cs es : List ℕ) (r : MadeGraph) → a ≡ a' → n₁ ≡ n → c₁ ≡ c → e₁ ≡ e
-    → Makes a' n₁ c₁ e₁ ns cs es r → Makes a n c e ns cs es r
-makes_as a a' n n₁ c c₁ e e₁ ns cs es r p q s t m = rw (p, ← q, ← s, ← t) m
+-- what is answered is a refusal, and the words were cleared
+pub makes_refused : (a : Answer Graph) (q : Refusal) (r : Result GraphResult Refusal) (ns cs es ns' cs' es' : List ℕ) → answer_of r ≡ map_answer result_of_graph a → r ≡ Err q
+    → ns' ≡ cleared_from 0 ns → cs' ≡ cleared_from 0 cs → es' ≡ cleared_from 0 es → Makes a (length ns) (length cs) (length es) ns' cs' es' r
+unfolding value_or
+makes_refused a q r ns cs es ns' cs' es' told e n c d =
+    let a_is : a ≡ refused (refusal_number q) = (map_refused result_of_graph a (refusal_number q)).0 (sym told ∙ ap answer_of e) in
+    record {
+      answer = told;
+      nodes = n ∙ cleared_all ns ∙ ap (λ (x : Answer Graph). words_for (value_or no_graph x).nodes (length ns)) (sym a_is);
+      counts = c ∙ cleared_counts_for cs ∙ ap (λ (x : Answer Graph). counts_for (value_or no_graph x).counts (length cs)) (sym a_is);
+      edges = d ∙ zero_edges es ∙ ap (λ (x : Answer Graph). edges_for (value_or no_graph x).edges (length es)) (sym a_is);
+    }
 
 -- ---- what is judged
 
@@ -178,8 +171,8 @@ module _ (b : RectangularBoard) (ts : Tiles) (accepted : Accepted b ts) (fixed :
   ok : S.Ok start
   ok = accepted_start b ts accepted (number_lt b.fixed fixed) (number_lt b.laid laid)
 
-  module _ (room edges_room : ℕ) (ns es : List ℕ) (growth : Growth) (n e : ℕ) (holds : HoldsGraph room edges_room ns es growth (nodes, edges))
-      (size : growth ≡ G.Size n e) where
+  module _ (room edges_room : ℕ) (ns es : List ℕ) (growth : Option (ℕ × ℕ)) (n e : ℕ) (holds : HoldsGraph room edges_room ns es growth (nodes, edges))
+      (size : growth ≡ Some (n, e)) where
     sized : (length nodes ≤ room) × (n ≡ length nodes) × (e ≡ min (length edges) (suc edges_room))
     sized = size_held room edges_room (nodes, edges) n e (sym size ∙ holds.state)
 
@@ -214,7 +207,7 @@ module _ (b : RectangularBoard) (ts : Tiles) (accepted : Accepted b ts) (fixed :
       passes words cs t = subst (λ (ds : List (ℕ × ℕ)). PassesEdges words ds cs t) stored_edges
 
       -- the words of the nodes and edges, and the full board's node
-      module _ (ns' es' : List ℕ) (r : MadeGraph) (small : (i : ℕ) → get_or ns i 0 < 2 ^ 64) (longNodes : 4 * room ≤ length ns)
+      module _ (ns' es' : List ℕ) (r : GraphResult) (small : (i : ℕ) → get_or ns i 0 < 2 ^ 64) (longNodes : 4 * room ≤ length ns)
           (longEdges : 2 * edges_room ≤ length es) (finish : Finishes (board_of b) ns es n e ns' es' r) where
         finished_nodes : ns' ≡ words_for nodes (length ns)
         finished_nodes =
@@ -228,32 +221,34 @@ module _ (b : RectangularBoard) (ts : Tiles) (accepted : Accepted b ts) (fixed :
             ∙ ap (λ (k : ℕ). cleared_from (2 * k) es) all_edges.0
             ∙ cleared_edges es edges (omega (arith, all_edges.1)) (holds.edges sized.0 all_edges.1)
 
-        finished_complete : complete_node r.graph.complete ≡ full_node S.full nodes
-        unfolding setting
-        finished_complete =
-            finish.complete
-            ∙ ap (λ (k : ℕ). first_from (λ i. is_full (board_at (board_of b) (set_at ns i))) 1 (k - 1)) sized.1
-            ∙ full_node_lem (λ m. is_full (board_at (board_of b) m)) (set_at ns) nodes (holds.nodes sized.0)
+        finished_result : r ≡ result_of_graph (graph_in S start)
+        unfolding graph_in setting
+        finished_result =
+            finish.result
+            ∙ ap₂ (λ (k l : ℕ). record { nodes = k; edges = l; complete = first_from (λ i. is_full (board_at (board_of b) (set_at ns i))) 1 (k - 1) }) sized.1 all_edges.0
+            ∙ ap (λ (o : Option ℕ). record { nodes = length nodes; edges = length edges; complete = o })
+            (full_node_lem (λ m. is_full (board_at (board_of b) m)) (set_at ns) nodes (holds.nodes sized.0))
 
   -- ---- what is made of so many lent words
 
-  module _ (wn wc we room edges_room : ℕ) (atRoom : room ≡ node_room wn wc) (atEdgesRoom : edges_room ≡ edge_room we)
-      (ns es : List ℕ) (growth : Growth) (holds : HoldsGraph room edges_room ns es growth (nodes, edges))
+  module _ (plot : accept_plot b ts ≡ given (board_of b, paths_in ts)) (wn wc we room edges_room : ℕ) (atRoom : room ≡ node_room wn wc) (atEdgesRoom : edges_room ≡ edge_room we)
+      (ns es : List ℕ) (growth : Option (ℕ × ℕ)) (holds : HoldsGraph room edges_room ns es growth (nodes, edges))
       (longNodes : length ns ≡ wn) (longEdges : length es ≡ we) where
     abbrev answer : Answer Graph
-    answer = judge_graph (node_room wn wc) (edge_room we) (graph_in S start)
+    answer = generate_graph b ts wn wc we
 
     rooms : answer ≡ judge_graph room edges_room (graph_in S start)
-    rooms = rw (← atRoom, ← atEdgesRoom)
+    unfolding generate_graph bind_answer
+    rooms =
+        ap (λ (a : Answer (Board × List Path)). bind_answer a (λ p. judge_graph (node_room wn wc) (edge_room we) (graph_of p.0 p.1))) plot
+        ∙ ap (judge_graph (node_room wn wc) (edge_room we)) (graph_setting (board_of b) (paths_in ts))
+        ∙ ap₂ (λ (n e : ℕ). judge_graph n e (graph_in S start)) (sym atRoom) (sym atEdgesRoom)
 
-    pub made_no_room : (ns' cs' es' : List ℕ) (r : MadeGraph) → growth ≡ G.NoRoom → Makes (refused 8) (length ns) wc (length es) ns' cs' es' r
-        → Makes answer wn wc we ns' cs' es' r
+    pub made_no_room : growth ≡ None → answer ≡ refused 8
     unfolding graph_in
-    made_no_room ns' cs' es' r q =
-        makes_as answer (refused 8) wn (length ns) wc wc we (length es) ns' cs' es' r
-        (rooms ∙ judge_graph_nodes room edges_room (graph_in S start) (no_room_held room edges_room (nodes, edges) (sym q ∙ holds.state))) longNodes refl longEdges
+    made_no_room q = rooms ∙ judge_graph_nodes room edges_room (graph_in S start) (no_room_held room edges_room (nodes, edges) (sym q ∙ holds.state))
 
-    module _ (n e : ℕ) (size : growth ≡ G.Size n e) where
+    module _ (n e : ℕ) (size : growth ≡ Some (n, e)) where
       -- what the calls ask
       pub count_asks : e ≤ edges_room → (2 * e ≤ length es) × EndsBelow es e (count_room wc)
       count_asks few =
@@ -272,50 +267,34 @@ module _ (b : RectangularBoard) (ts : Tiles) (accepted : Accepted b ts) (fixed :
             omega (arith, edge_room_lem edges_room we (le_of_eq atEdgesRoom)),
           )
 
-      pub made_no_room_for_edges : (ns' cs' es' : List ℕ) (r : MadeGraph) → edges_room < e → Makes (refused 10) (length ns) wc (length es) ns' cs' es' r
-          → Makes answer wn wc we ns' cs' es' r
+      pub made_no_room_for_edges : edges_room < e → answer ≡ refused 10
       unfolding graph_in
-      made_no_room_for_edges ns' cs' es' r h =
+      made_no_room_for_edges h =
           let fits = sized room edges_room ns es growth n e holds size in
           let q = fits.2 in
-          makes_as answer (refused 10) wn (length ns) wc wc we (length es) ns' cs' es' r
-          (rooms ∙ judge_graph_edges room edges_room (graph_in S start) fits.0 (omega arith)) longNodes refl longEdges
+          rooms ∙ judge_graph_edges room edges_room (graph_in S start) fits.0 (omega arith)
 
-      module _ (few : e ≤ edges_room) (cs : List ℕ) (t : Bool) (longCounts : length cs ≡ wc)
-          (pass : PassesEdges wc (list_of (edge_at es) e) cs t) where
+      module _ (few : e ≤ edges_room) (cs : List ℕ) (t : Bool) (pass : PassesEdges wc (list_of (edge_at es) e) cs t) where
         all : PassesEdges wc edges cs t
         all = passes room edges_room ns es growth n e holds size few wc cs t pass
 
-        pub made_large : (ns' cs' es' : List ℕ) (r : MadeGraph) → t ≡ false → Makes (refused 9) (length ns) (length cs) (length es) ns' cs' es' r
-            → Makes answer wn wc we ns' cs' es' r
+        pub made_large : t ≡ false → answer ≡ refused 9
         unfolding graph_in
-        made_large ns' cs' es' r f =
-            makes_as answer (refused 9) wn (length ns) wc (length cs) we (length es) ns' cs' es' r
-            (rooms
+        made_large f =
+            rooms
             ∙ judge_graph_large room edges_room (graph_in S start) (sized room edges_room ns es growth n e holds size).0
             (all_edges room edges_room ns es growth n e holds size few).1
-            (pass_too_large S laws (step_of (paths_in ts)) equal start ok wc cs t all f))
-            longNodes longCounts longEdges
+            (pass_too_large S laws (step_of (paths_in ts)) equal start ok wc cs t all f)
 
-        pub made_finished : (ns' es' : List ℕ) (r : MadeGraph) → ((i : ℕ) → get_or ns i 0 < 2 ^ 64) → t ≡ true
-            → Finishes (board_of b) ns es n e ns' es' r → Makes answer wn wc we ns' cs es' r
-        unfolding graph_in refusal_of value_or
-        made_finished ns' es' r smallNodes f finish =
-            let fits = sized room edges_room ns es growth n e holds size in
-            makes_as answer (given (graph_in S start)) wn (length ns) wc wc we (length es) ns' cs es' r
-            (rooms
-            ∙ judge_graph_given room edges_room (graph_in S start) fits.0 (all_edges room edges_room ns es growth n e holds size few).1
-            are.1)
-            longNodes refl longEdges
-            (record {
-              verdict = finish.verdict;
-              node_number = finish.node_number ∙ fits.1;
-              edge_number = finish.edge_number ∙ (all_edges room edges_room ns es growth n e holds size few).0;
-              complete = finished_complete room edges_room ns es growth n e holds size few ns' es' r smallNodes wide_nodes wide_edges finish;
-              nodes = finished_nodes room edges_room ns es growth n e holds size few ns' es' r smallNodes wide_nodes wide_edges finish;
-              counts = are.0;
-              edges = finished_edges room edges_room ns es growth n e holds size few ns' es' r smallNodes wide_nodes wide_edges finish;
-            })
+        pub made_finished : (ns' es' : List ℕ) (r : GraphResult) → ((i : ℕ) → get_or ns i 0 < 2 ^ 64) → t ≡ true
+            → Finishes (board_of b) ns es n e ns' es' r → Makes answer wn wc we ns' cs es' (Ok r)
+        unfolding graph_in value_or map_answer
+        made_finished ns' es' r smallNodes f finish = rw (is_given, ← longNodes, ← longEdges) (record {
+          answer = ap given (finished_result room edges_room ns es growth n e holds size few ns' es' r smallNodes wide_nodes wide_edges finish);
+          nodes = finished_nodes room edges_room ns es growth n e holds size few ns' es' r smallNodes wide_nodes wide_edges finish;
+          counts = are.0;
+          edges = finished_edges room edges_room ns es growth n e holds size few ns' es' r smallNodes wide_nodes wide_edges finish;
+        })
           where
             are : (cs ≡ counts_for (counts (entries_of S start)) wc) × (too_large (counts (entries_of S start)) ≡ false)
             are = pass_counts S laws (step_of (paths_in ts)) equal start ok wc cs t all f
@@ -326,28 +305,51 @@ module _ (b : RectangularBoard) (ts : Tiles) (accepted : Accepted b ts) (fixed :
             wide_edges : 2 * edges_room ≤ length es
             wide_edges = omega (arith, edge_room_lem edges_room we (le_of_eq atEdgesRoom))
 
--- ---- board and tiles that are judged
+            is_given : answer ≡ given (graph_in S start)
+            is_given =
+                rooms
+                ∙ judge_graph_given room edges_room (graph_in S start) (sized room edges_room ns es growth n e holds size).0
+                (all_edges room edges_room ns es growth n e holds size few).1 are.1
 
-module _ (b : RectangularBoard) (ts : Tiles) (wn wc we : ℕ) (ns cs es : List ℕ) (r : MadeGraph) where
-  generates : (a : Answer (Board × List Path)) → accept_plot b ts ≡ a
-      → Makes (bind_answer a (λ p. judge_graph (node_room wn wc) (edge_room we) (graph_of p.0 p.1))) wn wc we ns cs es r
-      → Makes (generate_graph b ts wn wc we) wn wc we ns cs es r
-  unfolding generate_graph
-  generates a e =
-      subst
-      (λ (x : Answer (Board × List Path)).
-      Makes (bind_answer x (λ p. judge_graph (node_room wn wc) (edge_room we) (graph_of p.0 p.1))) wn wc we ns cs es r)
-      (sym e)
+-- ---- what is answered
 
-  pub generates_made : accept_plot b ts ≡ given (board_of b, paths_in ts)
-      → Makes (judge_graph (node_room wn wc) (edge_room we) (graph_in (setting_of b ts) (start_of b))) wn wc we ns cs es r
-      → Makes (generate_graph b ts wn wc we) wn wc we ns cs es r
-  unfolding bind_answer
-  generates_made e m =
-      generates (given (board_of b, paths_in ts)) e
-      (subst (λ (g : Graph). Makes (judge_graph (node_room wn wc) (edge_room we) g) wn wc we ns cs es r) (sym (graph_setting (board_of b) (paths_in ts))) m)
+-- a refusal that stands for nothing
+pub ok_or_refused : {A B : Type 0} (o : Option A) (q k : Refusal) → Err q ≡ ok_or o k → o ≡ None → ◌≡◌ {A = Answer B} (refused (refusal_number k)) (refused (refusal_number q))
+ok_or_refused {A} o q k e none = ap refused (refused_inj {A = A} _ _ (sym (ap answer_of (e ∙ ap (λ (x : Option A). ok_or x k) none))))
 
-  pub generates_refused : (n : ℕ) → accept_plot b ts ≡ refused n → Makes (refused n) wn wc we ns cs es r
-      → Makes (generate_graph b ts wn wc we) wn wc we ns cs es r
-  unfolding bind_answer
-  generates_refused n e m = generates (refused n) e m
+-- board or tiles are refused
+pub plot_refused : (b : RectangularBoard) (ts : Tiles) (wn wc we n : ℕ) → accept_plot b ts ≡ refused n → generate_graph b ts wn wc we ≡ refused n
+unfolding generate_graph bind_answer
+plot_refused b ts wn wc we n e =
+    ap (λ (a : Answer (Board × List Path)). bind_answer a (λ p. judge_graph (node_room wn wc) (edge_room we) (graph_of p.0 p.1))) e
+
+module _ (b : RectangularBoard) (ts : Tiles) (ns cs es ns' cs' es' : List ℕ) where
+  -- a refusal
+  pub graph_refused : (q : Refusal) → generate_graph b ts (length ns) (length cs) (length es) ≡ refused (refusal_number q) → MakesGraph b ts ns cs es ns' cs' es' (Err q)
+  unfolding map_answer
+  graph_refused q e = (sym (ap (map_answer result_of_graph) e), λ g h. absurd (refused_given (refusal_number q) g (ap answer_of h)))
+
+  -- and the same handed on by a `?`
+  pub graph_refused_on : (q : Refusal) (r : Result GraphResult Refusal) → IsErrAnd r (λ e. e ≡ q)
+      → generate_graph b ts (length ns) (length cs) (length es) ≡ refused (refusal_number q) → MakesGraph b ts ns cs es ns' cs' es' r
+  graph_refused_on q r h e =
+      let p = err_from_is_err_and r h in
+      subst (MakesGraph b ts ns cs es ns' cs' es') (ap Err (sym p.2) ∙ sym p.1) (graph_refused q e)
+
+  pub graph_made : (r : Result GraphResult Refusal) → GeneratesGraph b ts ns cs es ns' cs' es' r → MakesGraph b ts ns cs es ns' cs' es' r
+  graph_made r m = (m.answer, λ g h. m)
+
+  -- a graph that is given is kept as it was made
+  pub graph_kept : (r : Result GraphResult Refusal) → MakesGraph b ts ns cs es ns' cs' es' r → is_err r ≡ false → GeneratesGraph b ts ns cs es ns' cs' es' r
+  graph_kept (Ok g) m e = m.1 g refl
+  graph_kept (Err q) m e = absurd (false≢true (sym e))
+
+  -- and after a refusal the words are cleared
+  pub graph_cleared : (us vs ws : List ℕ) (r : Result GraphResult Refusal) → MakesGraph b ts ns cs es us vs ws r → is_err r ≡ true
+      → length us ≡ length ns → length vs ≡ length cs → length ws ≡ length es → ns' ≡ cleared_from 0 us → cs' ≡ cleared_from 0 vs → es' ≡ cleared_from 0 ws
+      → GeneratesGraph b ts ns cs es ns' cs' es' r
+  graph_cleared us vs ws (Ok g) m e l k j p q t = absurd (false≢true e)
+  graph_cleared us vs ws (Err f) m e l k j p q t =
+      rw (← l, ← k, ← j)
+      (makes_refused (generate_graph b ts (length us) (length vs) (length ws)) f (Err f) us vs ws ns' cs' es'
+      (rw (l, k, j) m.0) refl p q t)

@@ -1,21 +1,22 @@
 -- What a graph that is given says: it has room and its counts fit; where its full node is; and what is stored is read back and is not refused by 11. Rests
 -- on expansion's `AcceptedLaws`, path_count's `PathCountLaws` and the laws of `graph` and `numbered_tilings`. Assumes nothing.
-use Rattle.std.specs.Prelude.{◌≡◌, refl, Bool, true, false, cond, leb, get_or}
-use Rattle.std.proofs.Math.Path.{sym, ap, subst, ap₂, fun_ext}
+use Rattle.std.specs.Prelude.{◌≡◌, refl, Bool, true, false, cond, leb, get_or, None, Some, Result, Ok}
+use Rattle.std.proofs.Math.Path.{sym, ap, ap₂, subst, fun_ext}
 use Rattle.std.proofs.Common.{◌∙◌, ⊎_elim, arith, leb-true}
 use Rattle.std.proofs.Math.Bool.{So}
 use Rattle.std.proofs.lemmas.Bool.{false≢true}
 use mathlib.Core.List.Memᴰ.{cases_cons}
 use mathlib.Core.List.Memᴰ.{not-nil}
 use mathlib.Core.List.{List, [], ◌∷◌, Memᴰ as Mem}
-use Rattle.std.proofs.Math.Option.{none, some, none-ne-some}
+use Rattle.cells.specs.OptionLaws.{none-ne-some}
 use Prim.Native.Nat.{ℕ, ◌^◌, ◌≤◌, ◌<◌}
 use Rattle.std.proofs.Math.ListN.{length}
 use Rattle.std.proofs.lemmas.List.{length-map}
 use Rattle.cells.specs.ListLaws.{sets_in, length_words_for, sets_in_words_for}
 use Rattle.tiles.specs.declared.Tiles.{Tiles}
-use Rattle.refusal.specs.Refusal.{Answer, refused, given, bind_answer, refusal_of, value_or}
-use Rattle.refusal.specs.RefusalLaws.{refused_given, given_inj}
+use Rattle.refusal.specs.declared.Refusal.{Refusal}
+use Rattle.refusal.specs.Refusal.{Answer, refused, given, answer_of, map_answer, bind_answer, refusal_of, value_or}
+use Rattle.refusal.specs.RefusalLaws.{refused_given, given_inj, ok_of_given, map_given}
 use Rattle.tile.specs.Path.{Path}
 use Rattle.graph.proofs.GraphLaws.{length_edges_for, edges_in_edges_for}
 use Rattle.board.specs.declared.RectangularBoard.{RectangularBoard}
@@ -24,14 +25,14 @@ use Rattle.covers.specs.Counts.{Entry, boards, counts, full_from, full_node}
 use Rattle.covers.specs.Setting.{SumRule}
 use Rattle.covers.proofs.CountLaws.{full_node_some, full_node_none}
 use Rattle.graph.specs.Graph.{edges_in, node_room, edge_room}
-use Rattle.tiler.specs.declared.MadeGraph.{MadeGraph}
+use Rattle.graph.specs.declared.GraphResult.{GraphResult}
 use Rattle.graph.proofs.RoomLaws.{node_room_lem, edge_room_lem}
 use Rattle.path_count.specs.PathCounts.{count_in, count_limit}
 use Rattle.path_count.specs.PathCountLaws.{length_counts_for, count_in_counts_for}
 use Rattle.numbered_tilings.proofs.TilingLaws.{SoundGraph}
 use Rattle.layers.specs.LayerCounts.{too_large}
 use Rattle.expansion.specs.Plots.{accept_plot}
-use Rattle.tiler.specs.Graphs.{Graph, graph_of, judge_graph, generate_graph, Makes, path_count_at}
+use Rattle.tiler.specs.Graphs.{Graph, graph_of, judge_graph, generate_graph, result_of_graph, Makes, path_count_at}
 use Rattle.expansion.proofs.AcceptedLaws.{plot_refusal}
 
 -- a graph that is given has room, and its counts fit
@@ -48,7 +49,7 @@ judged_graph room edges_room g k e = go (leb (length g.nodes) room) refl (leb (l
     go true p true q false r h = (given_inj g k h, leb-true _ _ p, leb-true _ _ q, r)
 
 -- the full board's node is behind node 0, a node, and full
-pub node_behind : (full : ℕ → Bool) (ns : List ℕ) (v d : ℕ) → full_node full ns ≡ some v → (0 < v) × (v < length ns) × So (full (get_or ns v d))
+pub node_behind : (full : ℕ → Bool) (ns : List ℕ) (v d : ℕ) → full_node full ns ≡ Some v → (0 < v) × (v < length ns) × So (full (get_or ns v d))
 unfolding full_node full_from
 node_behind full [] v d e = absurd (none-ne-some v e)
 node_behind full (n ∷ ns) v d e = full_node_some full n ns v d e
@@ -83,7 +84,7 @@ pub as_many_lem : (es : List (Entry ℕ)) → length (counts es) ≡ length (boa
 as_many_lem es = length-map es (λ (e : Entry ℕ). e.1) ∙ sym (length-map es (λ (e : Entry ℕ). e.0))
 
 -- with no full node, only node 0 may be full
-pub only_start_lem : (full : ℕ → Bool) (s : ℕ) (ns : List ℕ) → get_or ns 0 s ≡ s → full_node full ns ≡ none → (t : ℕ) → Mem t ns → So (full t) → t ≡ s
+pub only_start_lem : (full : ℕ → Bool) (s : ℕ) (ns : List ℕ) → get_or ns 0 s ≡ s → full_node full ns ≡ None → (t : ℕ) → Mem t ns → So (full t) → t ≡ s
 only_start_lem full s [] first e t m f = absurd (not-nil m)
 only_start_lem full s (n ∷ ns) first e t m f =
     ⊎_elim (λ q. q ∙ first) (λ k. absurd (false≢true (sym (full_node_none full n ns e t k) ∙ f))) (cases_cons m)
@@ -96,11 +97,23 @@ pub record HasRoom (g : Graph) (n c e : ℕ) : Type 0 where
   pub as_many : length g.counts ≡ length g.nodes
   pub counts_fit : (v : ℕ) → path_count_at g.counts v < count_limit
 
-module _ (g : Graph) (n c e : ℕ) (nodes' counts' edges' : List ℕ) (r : MadeGraph) (k : Makes (given g) n c e nodes' counts' edges' r) (h : HasRoom g n c e) where
+-- a result that is answered stands for a graph that is given
+pub graph_answered : (a : Answer Graph) (n c e : ℕ) (nodes' counts' edges' : List ℕ) (r : Result GraphResult Refusal) → Makes a n c e nodes' counts' edges' r
+    → (graph : GraphResult) → r ≡ Ok graph → (g : Graph) × (a ≡ given g) × (result_of_graph g ≡ graph)
+graph_answered a n c e nodes' counts' edges' r k graph h = map_given result_of_graph a graph (sym k.answer ∙ ap answer_of h)
+
+module _ (g : Graph) (n c e : ℕ) (nodes' counts' edges' : List ℕ) (r : Result GraphResult Refusal) (k : Makes (given g) n c e nodes' counts' edges' r)
+    (h : HasRoom g n c e) where
+  -- the result of the graph comes back
+  pub result_back : r ≡ Ok (result_of_graph g)
+  unfolding map_answer
+  result_back = ok_of_given r (result_of_graph g) k.answer
+
   -- what is stored is read back
-  pub nodes_back : ((i : ℕ) → get_or g.nodes i 0 < 2 ^ 256) → sets_in nodes' r.graph.nodes ≡ g.nodes
+  pub nodes_back : ((i : ℕ) → get_or g.nodes i 0 < 2 ^ 256) → sets_in nodes' (length g.nodes) ≡ g.nodes
   unfolding value_or
-  nodes_back small = ap₂ sets_in k.nodes k.node_number ∙ sets_in_words_for g.nodes n (node_room_lem (length g.nodes) n c h.nodes_fit).0 small
+  nodes_back small =
+      ap (λ (ws : List ℕ). sets_in ws (length g.nodes)) k.nodes ∙ sets_in_words_for g.nodes n (node_room_lem (length g.nodes) n c h.nodes_fit).0 small
 
   pub counts_back : (v : ℕ) → count_in counts' v ≡ path_count_at g.counts v
   unfolding value_or
@@ -108,31 +121,28 @@ module _ (g : Graph) (n c e : ℕ) (nodes' counts' edges' : List ℕ) (r : MadeG
       ap (λ (ws : List ℕ). count_in ws v) k.counts
       ∙ count_in_counts_for g.counts c (omega (arith, h.as_many, (node_room_lem (length g.nodes) n c h.nodes_fit).1)) h.counts_fit v
 
-  pub edges_back : edges_in edges' r.graph.edges ≡ g.edges
+  pub edges_back : edges_in edges' (length g.edges) ≡ g.edges
   unfolding value_or
-  edges_back = ap₂ edges_in k.edges k.edge_number ∙ edges_in_edges_for g.edges e (edge_room_lem (length g.edges) e h.edges_fit)
+  edges_back = ap (λ (ws : List ℕ). edges_in ws (length g.edges)) k.edges ∙ edges_in_edges_for g.edges e (edge_room_lem (length g.edges) e h.edges_fit)
 
   -- the rule of sums, read off the words
-  sums_back : SumRule (length g.nodes) g.edges (path_count_at g.counts) → SumRule r.graph.nodes (edges_in edges' r.graph.edges) (count_in counts')
-  unfolding value_or
+  sums_back : SumRule (length g.nodes) g.edges (path_count_at g.counts) → SumRule (length g.nodes) (edges_in edges' (length g.edges)) (count_in counts')
   sums_back sums =
-      subst (λ (count : ℕ → ℕ). SumRule r.graph.nodes (edges_in edges' r.graph.edges) count) (fun_ext (λ v. sym (counts_back v)))
-      (subst (λ (es : List (ℕ × ℕ)). SumRule r.graph.nodes es (path_count_at g.counts)) (sym edges_back)
-      (subst (λ (x : ℕ). SumRule x g.edges (path_count_at g.counts)) (sym k.node_number) sums))
+      subst (λ (count : ℕ → ℕ). SumRule (length g.nodes) (edges_in edges' (length g.edges)) count) (fun_ext (λ v. sym (counts_back v)))
+      (subst (λ (es : List (ℕ × ℕ)). SumRule (length g.nodes) es (path_count_at g.counts)) (sym edges_back) sums)
 
   -- the words of a graph of which the rule of sums holds are sound
-  pub sound_words : ((v : ℕ) → g.complete ≡ some v → v < length g.nodes) → SumRule (length g.nodes) g.edges (path_count_at g.counts)
-      → SoundGraph r.graph (length nodes') counts' edges'
+  pub sound_words : ((v : ℕ) → g.complete ≡ Some v → v < length g.nodes) → SumRule (length g.nodes) g.edges (path_count_at g.counts)
+      → SoundGraph (result_of_graph g) (length nodes') counts' edges'
   unfolding value_or
   sound_words below sums =
       let longNodes : length nodes' ≡ n = ap length k.nodes ∙ length_words_for g.nodes n in
       let longCounts : length counts' ≡ c = ap length k.counts ∙ length_counts_for g.counts c in
       let longEdges : length edges' ≡ e = ap length k.edges ∙ length_edges_for g.edges e in
       record {
-        some_nodes = subst (λ (x : ℕ). 0 < x) (sym k.node_number) h.some_nodes;
-        nodes_lent = subst (λ (x : ℕ). x ≤ node_room (length nodes') (length counts')) (sym k.node_number)
-            (subst (λ (x : ℕ). length g.nodes ≤ x) (sym (ap₂ node_room longNodes longCounts)) h.nodes_fit);
-        edges_lent = subst (λ (x : ℕ). x ≤ edge_room (length edges')) (sym k.edge_number) (subst (λ (x : ℕ). length g.edges ≤ edge_room x) (sym longEdges) h.edges_fit);
-        full_below = λ v q. subst (λ (x : ℕ). v < x) (sym k.node_number) (below v (sym k.complete ∙ q));
+        some_nodes = h.some_nodes;
+        nodes_lent = subst (λ (x : ℕ). length g.nodes ≤ x) (sym (ap₂ node_room longNodes longCounts)) h.nodes_fit;
+        edges_lent = subst (λ (x : ℕ). length g.edges ≤ edge_room x) (sym longEdges) h.edges_fit;
+        full_below = below;
         sums = sums_back sums;
       }

@@ -5,7 +5,7 @@ use Rattle.std.proofs.Math.Path.{ap, ap₂}
 use Rattle.std.proofs.Common.{◌∙◌, le-leb, arith}
 use Rattle.std.proofs.Math.Bool.{So, cond}
 use mathlib.Core.List.{List, [], ◌∷◌, ◌++◌, map, flat_map}
-use Rattle.std.proofs.Math.Option.{none}
+use Rattle.std.specs.Prelude.{None}
 use Rattle.std.proofs.Math.Dec.{eqb}
 use Rattle.cells.specs.Lists.{any}
 use Rattle.refusal.specs.Refusal.{refused, given}
@@ -21,7 +21,7 @@ use Rattle.tiler.specs.Graphs.{Graph, entries_for, graph_of, judge_graph, graph_
 
 -- the graph of one node, which is not the full board's node
 abbrev pub only_start : Board → Graph
-only_start b = record { nodes = marks b ∷ []; counts = 1 ∷ []; edges = []; complete = none }
+only_start b = record { nodes = marks b ∷ []; counts = 1 ∷ []; edges = []; complete = None }
 
 module _ (b : Board) (paths : List Path) (ok : So (valid b)) (fixed : b.fixed < 2 ^ 256) (laid : b.laid < 2 ^ 256) (full : is_full b ≡ true) where
   no_children : children_at b paths (marks b) ≡ []
@@ -40,7 +40,7 @@ module _ (b : Board) (paths : List Path) (ok : So (valid b)) (fixed : b.fixed < 
   unfolding graph_of full_node full_from
   full_graph =
       ap (λ (es : List (Entry ℕ)). record { nodes = boards es; counts = counts es; edges = edges_of eqb (children_at b paths) (boards es); complete = full_node (full_at b) (boards es) }) one_node
-      ∙ ap (λ (es : List (ℕ × ℕ)). record { nodes = marks b ∷ []; counts = 1 ∷ []; edges = es; complete = none }) no_edges
+      ∙ ap (λ (es : List (ℕ × ℕ)). record { nodes = marks b ∷ []; counts = 1 ∷ []; edges = es; complete = None }) no_edges
 
   accepted : (nodes edges : ℕ) → 0 < nodes → judge_graph nodes edges (only_start b) ≡ given (only_start b)
   unfolding judge_graph too_large any

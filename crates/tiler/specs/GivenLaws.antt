@@ -1,12 +1,13 @@
 -- What is known of a graph that is given: board and tiles are not refused; it is the definition's, and so is its count; it has room, and the rule of sums
 -- holds of it; and so of the words that hold it. Rests on `AnswerLaws`, layers' `CountLaws` and covers' `Theorems`. Assumes nothing.
-use Rattle.std.specs.Prelude.{◌≡◌, false, ℕ, ◌^◌, ◌≤◌, ◌<◌, eqb, length, get_or}
+use Rattle.std.specs.Prelude.{◌≡◌, false, ℕ, ◌^◌, ◌≤◌, ◌<◌, eqb, length, get_or, Result, Ok}
 use Rattle.std.proofs.Common.{sym, ◌∙◌}
-use Rattle.std.proofs.Math.Path.{ap, ap₂, subst, fun_ext}
+use Rattle.std.proofs.Math.Path.{ap, subst, fun_ext}
 use mathlib.Core.List.{List, Memᴰ as Mem}
 use Rattle.cells.specs.Set.{Sound}
 use Rattle.tiles.specs.declared.Tiles.{Tiles}
-use Rattle.refusal.specs.Refusal.{Answer, given, value_or}
+use Rattle.refusal.specs.declared.Refusal.{Refusal}
+use Rattle.refusal.specs.Refusal.{Answer, given}
 use Rattle.tiles.specs.Paths.{paths_in}
 use Rattle.tile.specs.Path.{Path}
 use Rattle.board.specs.declared.RectangularBoard.{RectangularBoard}
@@ -17,18 +18,18 @@ use Rattle.covers.specs.Setting.{Laws, EqualSteps, SumRule, entries_of, graph_co
 use Rattle.covers.specs.Counts.{at_node, boards, counts, layers, edges_of, full_node}
 use Rattle.covers.proofs.Theorems.{graph_sum_rule}
 use Rattle.covers.proofs.SettingLaws.{some_node, node_ok}
-use Rattle.graph.specs.Graph.{node_room, edge_room, complete_node, count_from_graph}
-use Rattle.tiler.specs.declared.MadeGraph.{MadeGraph}
+use Rattle.graph.specs.declared.GraphResult.{GraphResult}
+use Rattle.graph.specs.Graph.{node_room, edge_room, count_from_graph}
 use Rattle.expansion.specs.Boards.{setting, setting_of, start_of, Accepted}
 use Rattle.layers.specs.LayerCounts.{too_large}
 use Rattle.layers.proofs.CountLaws.{small_counts}
 use Rattle.tiler.specs.Inner.{graph_in}
-use Rattle.tiler.specs.Graphs.{Graph, graph_of, judge_graph, generate_graph, Makes, GeneratesGraph, path_count_at, count_of_graph}
+use Rattle.tiler.specs.Graphs.{Graph, graph_of, judge_graph, generate_graph, Makes, GeneratesGraph, result_of_graph, path_count_at, count_of_graph}
 use Rattle.expansion.specs.Parts.{step_of}
 use Rattle.expansion.proofs.SettingLaws.{same_children}
 use Rattle.expansion.proofs.AcceptedLaws.{accepted_laws, accepted_steps, start_accepted, from_read}
 use Rattle.expansion.proofs.ExpansionLaws.{small_at}
-use Rattle.tiler.specs.AnswerLaws.{judged_graph, as_many_lem, HasRoom, counts_back}
+use Rattle.tiler.specs.AnswerLaws.{judged_graph, as_many_lem, HasRoom, graph_answered, counts_back}
 
 -- the graph of a board and tiles is that of their setting
 pub graph_setting : (b : Board) (paths : List Path) → graph_of b paths ≡ graph_in (setting b paths) (marks b)
@@ -98,13 +99,21 @@ module _ (b : RectangularBoard) (fixed : Sound b.fixed) (laid : Sound b.laid) (t
     graph_count_lem = ap count_of_graph (sym graph_is)
 
   -- words that hold a graph that is given
-  module _ (nodes counts edges nodes' counts' edges' : List ℕ) (r : MadeGraph) (made : GeneratesGraph b ts nodes counts edges nodes' counts' edges' r)
+  module _ (nodes counts edges nodes' counts' edges' : List ℕ) (r : Result GraphResult Refusal) (made : GeneratesGraph b ts nodes counts edges nodes' counts' edges' r)
       (g : Graph) (e : generate_graph b ts (length nodes) (length counts) (length edges) ≡ given g) where
     pub graph_stored : Makes (given g) (length nodes) (length counts) (length edges) nodes' counts' edges' r
     graph_stored = subst (λ (a : Answer Graph). Makes a (length nodes) (length counts) (length edges) nodes' counts' edges' r) e made
 
-    pub words_count : count_from_graph (complete_node r.graph.complete) counts' ≡ graph_count (setting_of b ts) (start_of b)
-    unfolding count_from_graph count_of_graph value_or
+    pub words_count : count_from_graph g.complete counts' ≡ graph_count (setting_of b ts) (start_of b)
+    unfolding count_from_graph count_of_graph
     words_count =
-        ap₂ at_node (fun_ext (counts_back g (length nodes) (length counts) (length edges) nodes' counts' edges' r graph_stored (graph_room (length nodes) (length counts) (length edges) g e))) graph_stored.complete
+        ap (λ (count : ℕ → ℕ). at_node count g.complete)
+        (fun_ext (counts_back g (length nodes) (length counts) (length edges) nodes' counts' edges' r graph_stored (graph_room (length nodes) (length counts) (length edges) g e)))
         ∙ graph_count_lem (length nodes) (length counts) (length edges) g e
+
+  -- a result that is answered is that of a graph that is given
+  pub graph_told : (nodes counts edges nodes' counts' edges' : List ℕ) (r : Result GraphResult Refusal) → GeneratesGraph b ts nodes counts edges nodes' counts' edges' r
+      → (graph : GraphResult) → r ≡ Ok graph
+      → (g : Graph) × (generate_graph b ts (length nodes) (length counts) (length edges) ≡ given g) × (result_of_graph g ≡ graph)
+  graph_told nodes counts edges nodes' counts' edges' r =
+      graph_answered (generate_graph b ts (length nodes) (length counts) (length edges)) (length nodes) (length counts) (length edges) nodes' counts' edges' r

@@ -1,11 +1,11 @@
 -- Definitions: the graph of a board and tiles, its node lists and cuttings; what `generate_graph` answers and leaves in the lent words, for every input;
 -- and what demand 3 says of it. Nodes, path counts and edges are those of `covers`, by the children of a board. What stands in quotation
 -- marks is 01's, from its section on the graph. Assumes nothing.
-use Rattle.std.specs.Prelude.{◌≡◌, false, cond, List, [], ℕ, eqb, leb, length, get_or}
-use Rattle.std.proofs.Math.Option.{Option, none}
+use Rattle.std.specs.Prelude.{◌≡◌, false, cond, List, [], ℕ, eqb, leb, length, get_or, Option, None, Result, Ok}
 use Rattle.cells.specs.Lists.{words_for}
 use Rattle.tiles.specs.declared.Tiles.{Tiles}
-use Rattle.refusal.specs.Refusal.{Answer, refused, given, bind_answer, refusal_of, value_or, verdict_number}
+use Rattle.refusal.specs.declared.Refusal.{Refusal}
+use Rattle.refusal.specs.Refusal.{Answer, refused, given, answer_of, map_answer, bind_answer, value_or}
 use Rattle.tile.specs.Path.{Path}
 use Rattle.tiles.specs.Paths.{paths_in}
 use Rattle.board.specs.declared.RectangularBoard.{RectangularBoard}
@@ -13,12 +13,12 @@ use Rattle.rectangle.specs.Board.{Board, marks, is_full, free_count}
 use Rattle.board.specs.Board.{board_of}
 use Rattle.children.specs.Children.{children, children_at, full_at, free_count_at}
 use Rattle.covers.specs.Counts.{Numbering, Entry, boards, counts, layers, edges_of, node_list_to, full_node, at_node, node_list}
-use Rattle.graph.specs.Graph.{node_room, edge_room, edges_for, complete_node, count_from_graph, marked_pieces_in}
+use Rattle.graph.specs.declared.GraphResult.{GraphResult}
+use Rattle.graph.specs.Graph.{node_room, edge_room, edges_for, count_from_graph, marked_pieces_in}
 use Rattle.path_count.specs.PathCounts.{counts_for}
 use Rattle.numbered_tilings.specs.Tilings.{bad_graph, node_list_in}
 use Rattle.expansion.specs.Plots.{accept_plot, IsCutting, HasFreeCell, AllEdgeJoined}
 use Rattle.layers.specs.LayerCounts.{too_large}
-use Rattle.tiler.specs.declared.MadeGraph.{MadeGraph}
 
 -- ---- the graph
 
@@ -32,7 +32,7 @@ pub record Graph : Type 0 where
 
 -- the graph of no nodes, which stands for a refused one
 abbrev pub no_graph : Graph
-no_graph = record { nodes = []; counts = []; edges = []; complete = none }
+no_graph = record { nodes = []; counts = []; edges = []; complete = None }
 
 -- the nodes with their path counts: the boards of the layers up to that of as many pieces as cells are free
 abbrev pub entries_for : Board → List Path → List (Entry ℕ)
@@ -80,25 +80,26 @@ unfolding accept_plot bind_answer graph_for node_room edge_room
 generate_graph b ts node_words count_words edge_words =
     bind_answer (accept_plot b ts) (λ p. graph_for p.0 p.1 (node_room node_words count_words) (edge_room edge_words))
 
--- the result and the words for an answer and so many lent words. A graph is stored with zeros behind the last node, count and edge; "After any
--- refusal all lent words are zero", and the result is that of no nodes
-pub record Makes (a : Answer Graph) (node_words count_words edge_words : ℕ) (nodes' counts' edges' : List ℕ) (r : MadeGraph) : Type 0 where
-  pub verdict : verdict_number r.verdict ≡ refusal_of a
-  pub node_number : r.graph.nodes ≡ length (value_or no_graph a).nodes
-  pub edge_number : r.graph.edges ≡ length (value_or no_graph a).edges
-  pub complete : complete_node r.graph.complete ≡ (value_or no_graph a).complete
+-- "The result carries the numbers of nodes and edges and the full board's node, or none"
+abbrev pub result_of_graph : Graph → GraphResult
+result_of_graph g = record { nodes = length g.nodes; edges = length g.edges; complete = g.complete }
+
+-- the result and the words for an answer and so many lent words: the refusal, or the result of the graph. A graph is stored with zeros behind the last
+-- node, count and edge; "After any refusal all lent words are zero"
+pub record Makes (a : Answer Graph) (node_words count_words edge_words : ℕ) (nodes' counts' edges' : List ℕ) (r : Result GraphResult Refusal) : Type 0 where
+  pub answer : answer_of r ≡ map_answer result_of_graph a
   pub nodes : nodes' ≡ words_for (value_or no_graph a).nodes node_words
   pub counts : counts' ≡ counts_for (value_or no_graph a).counts count_words
   pub edges : edges' ≡ edges_for (value_or no_graph a).edges edge_words
 
--- `generate_graph`: "The result carries the numbers of nodes and edges and the full board's node, or none"
-abbrev pub GeneratesGraph : RectangularBoard → Tiles → List ℕ → List ℕ → List ℕ → List ℕ → List ℕ → List ℕ → MadeGraph → Type 0
+-- what `generate_graph` answers and leaves
+abbrev pub GeneratesGraph : RectangularBoard → Tiles → List ℕ → List ℕ → List ℕ → List ℕ → List ℕ → List ℕ → Result GraphResult Refusal → Type 0
 GeneratesGraph b ts nodes counts edges nodes' counts' edges' r =
     Makes (generate_graph b ts (length nodes) (length counts) (length edges)) (length nodes) (length counts) (length edges) nodes' counts' edges' r
 
 -- demand 3 of `generate_graph`: a graph that is given is not refused by 11, and the numbers below its count number the cuttings
-pub record NumbersCuttings (b : RectangularBoard) (ts : Tiles) (nodes' counts' edges' : List ℕ) (r : MadeGraph) : Type 0 where
-  pub sound : verdict_number r.verdict ≡ 0 → bad_graph r.graph (length nodes') counts' edges' ≡ false
-  pub cuttings : verdict_number r.verdict ≡ 0 → HasFreeCell (board_of b) → AllEdgeJoined (paths_in ts)
-      → Numbering (IsCutting (board_of b) (paths_in ts)) (count_from_graph (complete_node r.graph.complete) counts')
-      (λ m. marked_pieces_in nodes' (node_list_in r.graph counts' edges' m))
+pub record NumbersCuttings (b : RectangularBoard) (ts : Tiles) (nodes' counts' edges' : List ℕ) (r : Result GraphResult Refusal) : Type 0 where
+  pub sound : (g : GraphResult) → r ≡ Ok g → bad_graph g (length nodes') counts' edges' ≡ false
+  pub cuttings : (g : GraphResult) → r ≡ Ok g → HasFreeCell (board_of b) → AllEdgeJoined (paths_in ts)
+      → Numbering (IsCutting (board_of b) (paths_in ts)) (count_from_graph g.complete counts')
+      (λ m. marked_pieces_in nodes' (node_list_in g counts' edges' m))

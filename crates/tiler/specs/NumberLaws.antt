@@ -1,11 +1,10 @@
 -- The tilings by number of a graph that is given: each node list is a chain of edges from node 0 to the full node, of at most one node more than there
 -- are free cells; they are those of the definition, and under demand 3's conditions they number the cuttings. The same of the words and the result that
 -- `generate_graph` leaves. Rests on `GivenLaws`, expansion's `CuttingLaws`, `Theorems` and covers' `Theorems`. Assumes nothing.
-use Rattle.std.specs.Prelude.{◌≡◌, Bool, true, false}
+use Rattle.std.specs.Prelude.{◌≡◌, Bool, true, false, Option, None, Some, Result, Ok}
 use Rattle.std.proofs.Math.Path.{refl, sym, ap, ap₂, fun_ext}
 use Rattle.std.proofs.Common.{◌∙◌, subst, arith}
 use mathlib.Core.List.{List, map, Memᴰ as Mem}
-use Rattle.std.proofs.Math.Option.{Option, none, some}
 use Prim.Native.Nat.{ℕ, ◌+◌, ◌≤◌, ◌<◌, min, ◌/◌}
 use Rattle.std.proofs.Math.Dec.{lit<}
 use Rattle.std.proofs.Math.ListN.{length, get_or}
@@ -17,7 +16,8 @@ use Rattle.cells.specs.Lists.{set_at}
 use Rattle.cells.specs.ListLaws.{sets_in}
 use Rattle.cells.specs.MemberLaws.{map_ext}
 use Rattle.tiles.specs.declared.Tiles.{Tiles}
-use Rattle.refusal.specs.Refusal.{given, value_or}
+use Rattle.refusal.specs.declared.Refusal.{Refusal}
+use Rattle.refusal.specs.Refusal.{given}
 use Rattle.tiles.specs.Paths.{paths_in}
 use Rattle.board.specs.declared.RectangularBoard.{RectangularBoard}
 use Rattle.board.specs.Board.{board_of}
@@ -29,17 +29,17 @@ use Rattle.covers.proofs.NumberingLaws.{renumber}
 use Rattle.covers.proofs.CountLaws.{tiling_length}
 use Rattle.covers.proofs.WalkLaws.{tiling_below, tiling_chain}
 use Rattle.path_count.specs.PathCounts.{count_limit}
-use Rattle.graph.specs.Graph.{complete_node, count_from_graph, marked_pieces, marked_pieces_in}
+use Rattle.graph.specs.declared.GraphResult.{GraphResult}
+use Rattle.graph.specs.Graph.{count_from_graph, marked_pieces, marked_pieces_in}
 use Rattle.numbered_tilings.specs.Tilings.{node_list_in}
-use Rattle.tiler.specs.declared.MadeGraph.{MadeGraph}
 use Rattle.expansion.specs.Boards.{setting, setting_of, start_of}
 use Rattle.tiler.specs.Inner.{graph_in, marked_pieces_of}
-use Rattle.tiler.specs.Graphs.{Graph, node_list_of, generate_graph, GeneratesGraph, path_count_at, count_of_graph}
+use Rattle.tiler.specs.Graphs.{Graph, node_list_of, generate_graph, GeneratesGraph, result_of_graph, path_count_at, count_of_graph}
 use Rattle.expansion.specs.Plots.{IsCutting, HasFreeCell, AllEdgeJoined}
 use Rattle.expansion.specs.Parts.{step_of}
 use Rattle.expansion.proofs.AcceptedLaws.{accepted_free}
 use Rattle.expansion.proofs.CuttingLaws.{cuttings_numbered}
-use Rattle.tiler.specs.GivenLaws.{plot_accepted, graph_is, graph_laws, graph_steps, graph_start, nodes_are, graph_sums, graph_count_lem, graph_stored, words_count}
+use Rattle.tiler.specs.GivenLaws.{plot_accepted, graph_is, graph_laws, graph_steps, graph_start, nodes_are, graph_sums, graph_count_lem, graph_told, words_count}
 use Rattle.tiler.specs.Theorems.{path_counts_fit, full_node_is_full, words_are_the_graph}
 
 module _ (b : RectangularBoard) (fixed : Sound b.fixed) (laid : Sound b.laid) (ts : Tiles) where
@@ -59,26 +59,26 @@ module _ (b : RectangularBoard) (fixed : Sound b.fixed) (laid : Sound b.laid) (t
     graph_count_small = go g.complete
       where
         go : (o : Option ℕ) → at_node (path_count_at g.counts) o < count_limit
-        go none = lit< tt
-        go (some v) = path_counts_fit b fixed laid ts node_words count_words edge_words g made v
+        go None = lit< tt
+        go (Some v) = path_counts_fit b fixed laid ts node_words count_words edge_words g made v
 
     -- the list with a number below the count
     module _ (m : ℕ) (below : m < count_of_graph g) where
-      full_node_lem : (v : ℕ) × (g.complete ≡ some v) × (v < length g.nodes) × (m < path_count_at g.counts v)
+      full_node_lem : (v : ℕ) × (g.complete ≡ Some v) × (v < length g.nodes) × (m < path_count_at g.counts v)
       unfolding count_of_graph at_node
       full_node_lem = go g.complete refl below
         where
           go : (o : Option ℕ) → g.complete ≡ o → m < at_node (path_count_at g.counts) o
-              → (v : ℕ) × (g.complete ≡ some v) × (v < length g.nodes) × (m < path_count_at g.counts v)
-          go none q l = absurd (omega arith)
-          go (some v) q l = (v, q, (full_node_is_full b fixed laid ts node_words count_words edge_words g made v q).1, l)
+              → (v : ℕ) × (g.complete ≡ Some v) × (v < length g.nodes) × (m < path_count_at g.counts v)
+          go None q l = absurd (omega arith)
+          go (Some v) q l = (v, q, (full_node_is_full b fixed laid ts node_words count_words edge_words g made v q).1, l)
 
-      list_to : (v : ℕ) → g.complete ≡ some v → node_list_to g.edges (path_count_at g.counts) v m ≡ node_list_of g m
+      list_to : (v : ℕ) → g.complete ≡ Some v → node_list_to g.edges (path_count_at g.counts) v m ≡ node_list_of g m
       unfolding node_list_of at_node
       list_to v q = ap (λ (o : Option ℕ). node_list g.edges (path_count_at g.counts) o m) (sym q)
 
       -- is a chain of edges from node 0 to the full node,
-      pub list_chain : (v : ℕ) × (g.complete ≡ some v) × Chain (λ p c. Mem (p, c) g.edges) 0 v (node_list_of g m)
+      pub list_chain : (v : ℕ) × (g.complete ≡ Some v) × Chain (λ p c. Mem (p, c) g.edges) 0 v (node_list_of g m)
       list_chain =
           let f = full_node_lem in (
             f.0,
@@ -146,39 +146,37 @@ module _ (b : RectangularBoard) (fixed : Sound b.fixed) (laid : Sound b.laid) (t
 
   -- ---- the words and the result that `generate_graph` leaves hold it
 
-  module _ (nodes counts edges nodes' counts' edges' : List ℕ) (r : MadeGraph) (made : GeneratesGraph b ts nodes counts edges nodes' counts' edges' r)
+  module _ (nodes counts edges nodes' counts' edges' : List ℕ) (r : Result GraphResult Refusal) (made : GeneratesGraph b ts nodes counts edges nodes' counts' edges' r)
       (g : Graph) (e : generate_graph b ts (length nodes) (length counts) (length edges) ≡ given g) where
     -- the count,
-    pub count_read : count_from_graph (complete_node r.graph.complete) counts' ≡ count_of_graph g
+    pub count_read : count_from_graph g.complete counts' ≡ count_of_graph g
     count_read =
         words_count b fixed laid ts nodes counts edges nodes' counts' edges' r made g e ∙ sym (graph_count_lem b fixed laid ts (length nodes) (length counts) (length edges) g e)
 
-    pub words_count_small : count_from_graph (complete_node r.graph.complete) counts' < count_limit
-    words_count_small = subst (λ (n : ℕ). n < count_limit) (sym count_read) (graph_count_small (length nodes) (length counts) (length edges) g e)
+    small_count : count_from_graph g.complete counts' < count_limit
+    small_count = subst (λ (n : ℕ). n < count_limit) (sym count_read) (graph_count_small (length nodes) (length counts) (length edges) g e)
 
     -- a node list,
-    pub list_same : (m : ℕ) → node_list_in r.graph counts' edges' m ≡ node_list_of g m
-    unfolding node_list_in node_list_of value_or
+    pub list_same : (m : ℕ) → node_list_in (result_of_graph g) counts' edges' m ≡ node_list_of g m
+    unfolding node_list_in node_list_of
     list_same m =
         let w = words_are_the_graph b fixed laid ts nodes counts edges nodes' counts' edges' r made g e in
-        ap₂ (λ (ds : List (ℕ × ℕ)) (count : ℕ → ℕ). node_list ds count (complete_node r.graph.complete) m) w.2 (fun_ext w.1)
-        ∙ ap (λ (o : Option ℕ). node_list g.edges (path_count_at g.counts) o m)
-        (graph_stored b fixed laid ts nodes counts edges nodes' counts' edges' r made g e).complete
+        ap₂ (λ (ds : List (ℕ × ℕ)) (count : ℕ → ℕ). node_list ds count g.complete m) w.3 (fun_ext w.2)
 
     -- the board of a node,
     node_at : (v : ℕ) → v < length g.nodes → set_at nodes' v ≡ get_or g.nodes v 0
     unfolding sets_in
     node_at v h =
-        let q = (words_are_the_graph b fixed laid ts nodes counts edges nodes' counts' edges' r made g e).0 in
-        let k = min r.graph.nodes (length nodes' / 4) in
+        let q = (words_are_the_graph b fixed laid ts nodes counts edges nodes' counts' edges' r made g e).1 in
+        let k = min (length g.nodes) (length nodes' / 4) in
         sym (get_d_list_of (set_at nodes') k v 0 (omega (arith, ap length q, length_list_of (set_at nodes') k))) ∙ ap (λ (ns : List ℕ). get_or ns v 0) q
 
-    module _ (m : ℕ) (h : m < count_from_graph (complete_node r.graph.complete) counts') where
+    module _ (m : ℕ) (h : m < count_from_graph g.complete counts') where
       below : m < count_of_graph g
       below = subst (λ (n : ℕ). m < n) count_read h
 
       -- and the pieces that the steps of a list mark
-      marked_same : marked_pieces_in nodes' (node_list_in r.graph counts' edges' m) ≡ marked_pieces_of g m
+      marked_same : marked_pieces_in nodes' (node_list_in (result_of_graph g) counts' edges' m) ≡ marked_pieces_of g m
       unfolding marked_pieces_in marked_pieces_of
       marked_same =
           ap (λ (vs : List ℕ). marked_pieces (map (set_at nodes') vs)) (list_same m)
@@ -186,12 +184,39 @@ module _ (b : RectangularBoard) (fixed : Sound b.fixed) (laid : Sound b.laid) (t
           (map_ext (set_at nodes') (λ v. get_or g.nodes v 0) (node_list_of g m) (λ v i. node_at v (list_below (length nodes) (length counts) (length edges) g e m below v i)))
 
       -- a node list has at most one node more than there are free cells
-      pub words_length : length (node_list_in r.graph counts' edges' m) ≤ free_count (board_of b) + 1
-      words_length =
+      short_list : length (node_list_in (result_of_graph g) counts' edges' m) ≤ free_count (board_of b) + 1
+      short_list =
           subst (λ (vs : List ℕ). length vs ≤ free_count (board_of b) + 1) (sym (list_same m)) (list_length (length nodes) (length counts) (length edges) g e m below)
 
     -- the numbers below the count number the cuttings
+    cuttings_read : HasFreeCell (board_of b) → AllEdgeJoined (paths_in ts)
+        → Numbering (IsCutting (board_of b) (paths_in ts)) (count_from_graph g.complete counts')
+        (λ m. marked_pieces_in nodes' (node_list_in (result_of_graph g) counts' edges' m))
+    cuttings_read free joined = renumber (sym count_read) marked_same (lists_number_cuttings (length nodes) (length counts) (length edges) g e free joined)
+
+  -- ---- the same, by the result that comes back
+
+  module _ (nodes counts edges nodes' counts' edges' : List ℕ) (r : Result GraphResult Refusal) (made : GeneratesGraph b ts nodes counts edges nodes' counts' edges' r)
+      (graph : GraphResult) (graph_given : r ≡ Ok graph) where
+    told : (g : Graph) × (generate_graph b ts (length nodes) (length counts) (length edges) ≡ given g) × (result_of_graph g ≡ graph)
+    told = graph_told b fixed laid ts nodes counts edges nodes' counts' edges' r made graph graph_given
+
+    pub words_count_small : count_from_graph graph.complete counts' < count_limit
+    words_count_small = subst (λ (x : GraphResult). count_from_graph x.complete counts' < count_limit) told.2
+        (small_count nodes counts edges nodes' counts' edges' r made told.0 told.1)
+
+    -- a node list has at most one node more than there are free cells
+    pub words_length : (m : ℕ) → m < count_from_graph graph.complete counts' → length (node_list_in graph counts' edges' m) ≤ free_count (board_of b) + 1
+    words_length m =
+        subst (λ (x : GraphResult). m < count_from_graph x.complete counts' → length (node_list_in x counts' edges' m) ≤ free_count (board_of b) + 1) told.2
+        (short_list nodes counts edges nodes' counts' edges' r made told.0 told.1 m)
+
+    -- the numbers below the count number the cuttings
     pub words_cuttings : HasFreeCell (board_of b) → AllEdgeJoined (paths_in ts)
-        → Numbering (IsCutting (board_of b) (paths_in ts)) (count_from_graph (complete_node r.graph.complete) counts')
-        (λ m. marked_pieces_in nodes' (node_list_in r.graph counts' edges' m))
-    words_cuttings free joined = renumber (sym count_read) marked_same (lists_number_cuttings (length nodes) (length counts) (length edges) g e free joined)
+        → Numbering (IsCutting (board_of b) (paths_in ts)) (count_from_graph graph.complete counts')
+        (λ m. marked_pieces_in nodes' (node_list_in graph counts' edges' m))
+    words_cuttings free joined =
+        subst
+        (λ (x : GraphResult).
+        Numbering (IsCutting (board_of b) (paths_in ts)) (count_from_graph x.complete counts') (λ m. marked_pieces_in nodes' (node_list_in x counts' edges' m)))
+        told.2 (cuttings_read nodes counts edges nodes' counts' edges' r made told.0 told.1 free joined)

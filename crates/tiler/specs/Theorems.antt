@@ -2,23 +2,24 @@
 -- of first finding; a path count is the number of child sequences that reach the board; our own graph meets every condition of refusal 11; the layer
 -- count is the number of child sequences to the full board; and both counts agree. Each statement is for every board and tiles of the code (a set of
 -- the code has words of 64 bits: `Sound`) and every number of lent words. Rests on `GivenLaws`, layers' `CountLaws` and covers' `Theorems`. Assumes nothing.
-use Rattle.std.specs.Prelude.{◌≡◌, ◌↔◌, false, get_or}
+use Rattle.std.specs.Prelude.{◌≡◌, ◌↔◌, false, get_or, None, Some, Result, Ok}
 use Rattle.std.proofs.Common.{sym, ap, ◌∙◌}
 use Rattle.std.proofs.Math.Path.{subst}
 use Rattle.std.proofs.Math.Bool.{So}
 use mathlib.Core.List.{List, ◌∷◌, flat_map, Memᴰ as Mem}
-use Rattle.std.proofs.Math.Option.{none, some}
 use Prim.Native.Nat.{ℕ, ◌<◌}
 use Rattle.std.proofs.Math.Dec.{eqb}
 use Rattle.std.proofs.Math.ListN.{length}
 use Rattle.cells.specs.FirstsLaws.{Once}
 use Rattle.cells.specs.Lists.{firsts}
 use Rattle.cells.specs.ListLaws.{sets_in}
-use Rattle.graph.specs.Graph.{edges_in, complete_node, count_from_graph}
+use Rattle.graph.specs.declared.GraphResult.{GraphResult}
+use Rattle.graph.specs.Graph.{edges_in, count_from_graph}
 use Rattle.cells.specs.Set.{Sound}
 use Rattle.cells.specs.WordLaws.{number_lt}
 use Rattle.tiles.specs.declared.Tiles.{Tiles}
-use Rattle.refusal.specs.Refusal.{given, verdict_number}
+use Rattle.refusal.specs.declared.Refusal.{Refusal}
+use Rattle.refusal.specs.Refusal.{given}
 use Rattle.tiles.specs.Paths.{paths_in}
 use Rattle.board.specs.declared.RectangularBoard.{RectangularBoard}
 use Rattle.board.specs.Board.{board_of}
@@ -28,20 +29,19 @@ use Rattle.covers.specs.Counts.{Exactly, ChildSequence, counts}
 use Rattle.covers.specs.Setting.{child_boards, Laws, EqualSteps, graph_count, graph_edges, nodes_of, path_count_of}
 use Rattle.covers.proofs.Theorems.{nodes_are_reached, nodes_by_first_finding, graph_edges_are_children, graph_edges_once, graph_tilings, full_counts_none, none_reached_counts_none, count_is_child_sequences}
 use Rattle.covers.proofs.SettingLaws.{start_node}
-use Rattle.tiler.specs.declared.MadeGraph.{MadeGraph}
 use Rattle.expansion.specs.Boards.{setting, setting_of, start_of, Accepted}
 use Rattle.path_count.specs.PathCounts.{count_in, count_limit}
 use Rattle.numbered_tilings.specs.Tilings.{bad_graph}
 use Rattle.numbered_tilings.proofs.TilingLaws.{sound_not_bad}
 use Rattle.layers.specs.LayerCounts.{count_tilings}
 use Rattle.tiler.specs.Inner.{graph_in}
-use Rattle.tiler.specs.Graphs.{Graph, generate_graph, GeneratesGraph, path_count_at, count_of_graph}
+use Rattle.tiler.specs.Graphs.{Graph, generate_graph, GeneratesGraph, result_of_graph, path_count_at, count_of_graph}
 use Rattle.expansion.specs.Parts.{step_of}
 use Rattle.expansion.proofs.SettingLaws.{same_children}
 use Rattle.expansion.proofs.AcceptedLaws.{accepted_laws, accepted_steps, accepted_at, start_accepted}
 use Rattle.layers.proofs.CountLaws.{layers_count}
-use Rattle.tiler.specs.AnswerLaws.{node_behind, given_graph, nodes_back, counts_back, edges_back, sound_words, only_start_lem}
-use Rattle.tiler.specs.GivenLaws.{graph_is, graph_laws, graph_steps, graph_start, nodes_are, nodes_small, graph_sums, graph_room, graph_count_lem, graph_stored, words_count}
+use Rattle.tiler.specs.AnswerLaws.{node_behind, result_back, nodes_back, counts_back, edges_back, sound_words, only_start_lem}
+use Rattle.tiler.specs.GivenLaws.{graph_is, graph_laws, graph_steps, graph_start, nodes_are, nodes_small, graph_sums, graph_room, graph_count_lem, graph_stored, words_count, graph_told}
 
 module _ (b : RectangularBoard) (fixed : Sound b.fixed) (laid : Sound b.laid) (ts : Tiles) where
   -- "child sequences that reach it": from the start to a board
@@ -106,14 +106,14 @@ module _ (b : RectangularBoard) (fixed : Sound b.fixed) (laid : Sound b.laid) (t
     path_counts_fit = (graph_room b fixed laid ts node_words count_words edge_words g made).counts_fit
 
     -- The full node is a node behind node 0, and full.
-    pub full_node_is_full : (v : ℕ) → g.complete ≡ some v → (0 < v) × (v < length g.nodes) × So (is_full (board_at (board_of b) (get_or g.nodes v (start_of b))))
+    pub full_node_is_full : (v : ℕ) → g.complete ≡ Some v → (0 < v) × (v < length g.nodes) × So (is_full (board_at (board_of b) (get_or g.nodes v (start_of b))))
     unfolding graph_in setting
     full_node_is_full v e =
         subst (λ (k : Graph). (0 < v) × (v < length k.nodes) × So (is_full (board_at (board_of b) (get_or k.nodes v (start_of b))))) is
         (node_behind (λ n. is_full (board_at (board_of b) n)) (nodes_of (setting_of b ts) (start_of b)) v (start_of b) (ap (λ (k : Graph). k.complete) is ∙ e))
 
     -- With none, no full board is reached but the start itself.
-    pub no_full_node : g.complete ≡ none → (t : ℕ) → Mem t g.nodes → So (is_full (board_at (board_of b) t)) → t ≡ start_of b
+    pub no_full_node : g.complete ≡ None → (t : ℕ) → Mem t g.nodes → So (is_full (board_at (board_of b) t)) → t ≡ start_of b
     unfolding graph_in setting
     no_full_node e t m full =
         only_start_lem (λ n. is_full (board_at (board_of b) n)) (start_of b) (nodes_of (setting_of b ts) (start_of b)) (start_node (setting_of b ts) laws (start_of b) ok)
@@ -126,28 +126,31 @@ module _ (b : RectangularBoard) (fixed : Sound b.fixed) (laid : Sound b.laid) (t
 
   -- ---- 2. The words and the result that `generate_graph` leaves, where it does not refuse
 
-  module _ (nodes counts edges nodes' counts' edges' : List ℕ) (r : MadeGraph) (made : GeneratesGraph b ts nodes counts edges nodes' counts' edges' r) where
-    -- They read back as the graph.
+  module _ (nodes counts edges nodes' counts' edges' : List ℕ) (r : Result GraphResult Refusal) (made : GeneratesGraph b ts nodes counts edges nodes' counts' edges' r) where
+    -- The result of the graph comes back, and the words read back as the graph.
     pub words_are_the_graph : (g : Graph) → generate_graph b ts (length nodes) (length counts) (length edges) ≡ given g
-        → (sets_in nodes' r.graph.nodes ≡ g.nodes) × ((v : ℕ) → count_in counts' v ≡ path_count_at g.counts v) × (edges_in edges' r.graph.edges ≡ g.edges)
+        → (r ≡ Ok (result_of_graph g)) × (sets_in nodes' (length g.nodes) ≡ g.nodes) × ((v : ℕ) → count_in counts' v ≡ path_count_at g.counts v)
+        × (edges_in edges' (length g.edges) ≡ g.edges)
     words_are_the_graph g e =
         let k = graph_stored b fixed laid ts nodes counts edges nodes' counts' edges' r made g e in
         let h = graph_room b fixed laid ts (length nodes) (length counts) (length edges) g e in (
+          result_back g (length nodes) (length counts) (length edges) nodes' counts' edges' r k h,
           nodes_back g (length nodes) (length counts) (length edges) nodes' counts' edges' r k h (nodes_small b fixed laid ts (length nodes) (length counts) (length edges) g e),
           counts_back g (length nodes) (length counts) (length edges) nodes' counts' edges' r k h,
           edges_back g (length nodes) (length counts) (length edges) nodes' counts' edges' r k h,
         )
 
     -- Our own graph is not refused by 11.
-    pub own_graph_is_sound : verdict_number r.verdict ≡ 0 → bad_graph r.graph (length nodes') counts' edges' ≡ false
-    own_graph_is_sound fine =
-        let a = given_graph b ts (length nodes) (length counts) (length edges) (sym made.verdict ∙ fine) in
-        sound_not_bad r.graph (length nodes') counts' edges'
+    pub own_graph_is_sound : (graph : GraphResult) → r ≡ Ok graph → bad_graph graph (length nodes') counts' edges' ≡ false
+    own_graph_is_sound graph graph_given =
+        let a = graph_told b fixed laid ts nodes counts edges nodes' counts' edges' r made graph graph_given in
+        subst (λ (x : GraphResult). bad_graph x (length nodes') counts' edges' ≡ false) a.2
+        (sound_not_bad (result_of_graph a.0) (length nodes') counts' edges'
         (sound_words a.0 (length nodes) (length counts) (length edges) nodes' counts' edges' r
         (graph_stored b fixed laid ts nodes counts edges nodes' counts' edges' r made a.0 a.1)
         (graph_room b fixed laid ts (length nodes) (length counts) (length edges) a.0 a.1)
         (λ v e. (full_node_is_full (length nodes) (length counts) (length edges) a.0 a.1 v e).1)
-        (graph_sums b fixed laid ts (length nodes) (length counts) (length edges) a.0 a.1))
+        (graph_sums b fixed laid ts (length nodes) (length counts) (length edges) a.0 a.1)))
 
   -- ---- 3. The layer count that is given
 
@@ -197,8 +200,9 @@ module _ (b : RectangularBoard) (fixed : Sound b.fixed) (laid : Sound b.laid) (t
     counts_agree node_words count_words edge_words g made = graph_count_lem b fixed laid ts node_words count_words edge_words g made ∙ sym count_is
 
     -- and over the result and the count words that `generate_graph` leaves, as `count_tilings_from_graph` reads them.
-    pub calls_agree : (nodes counts edges nodes' counts' edges' : List ℕ) (r : MadeGraph) → GeneratesGraph b ts nodes counts edges nodes' counts' edges' r
-        → verdict_number r.verdict ≡ 0 → count_from_graph (complete_node r.graph.complete) counts' ≡ n
-    calls_agree nodes counts edges nodes' counts' edges' r made fine =
-        let a = given_graph b ts (length nodes) (length counts) (length edges) (sym made.verdict ∙ fine) in
-        words_count b fixed laid ts nodes counts edges nodes' counts' edges' r made a.0 a.1 ∙ sym count_is
+    pub calls_agree : (nodes counts edges nodes' counts' edges' : List ℕ) (r : Result GraphResult Refusal) → GeneratesGraph b ts nodes counts edges nodes' counts' edges' r
+        → (graph : GraphResult) → r ≡ Ok graph → count_from_graph graph.complete counts' ≡ n
+    calls_agree nodes counts edges nodes' counts' edges' r made graph graph_given =
+        let a = graph_told b fixed laid ts nodes counts edges nodes' counts' edges' r made graph graph_given in
+        subst (λ (x : GraphResult). count_from_graph x.complete counts' ≡ n) a.2
+        (words_count b fixed laid ts nodes counts edges nodes' counts' edges' r made a.0 a.1 ∙ sym count_is)

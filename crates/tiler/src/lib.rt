@@ -13,20 +13,13 @@ ghost use Rattle.cuttings.specs.Cuttings.{AnswersCuttings, IsNumberOfCuttings};
 ghost use Rattle.tiler.specs.Graphs.{GeneratesGraph, NumbersCuttings};
 
 use board::RectangularBoard;
-use expansion::Judged;
 use graph::GraphResult;
-use layers::Count;
-use refusal::Verdict;
+use path_count::PathCount;
+use refusal::Refusal;
 use tiles::Tiles;
 
 mod building;
-
-// A graph, or a refusal and a graph of no nodes.
-#[derive(Clone, Copy, Drop)]
-pub struct MadeGraph {
-    pub verdict: Verdict,
-    pub graph: GraphResult,
-}
+mod growing;
 
 // The graph of the boards that are reached: nodes, four words each, by first finding; beside each its
 // path count; and edges, as pairs of a parent and a child. The words behind them are zero, and all of
@@ -40,15 +33,15 @@ pub fn generate_graph(
     nodes: &mut [u64],
     counts: &mut [u64],
     edges: &mut [u64],
-) -> MadeGraph
+) -> Result<GraphResult, Refusal>
     ensures answer { GeneratesGraph board tiles nodes.old counts.old edges.old nodes.new counts.new edges.new result }
     ensures cuttings { NumbersCuttings board tiles nodes.new counts.new edges.new result }
 {
-    let judged = expansion::judge(board, tiles);
-    match judged {
-        Judged::Size(_) => building::made(board, tiles, nodes, counts, edges),
-        Judged::Refused(refusal) => building::refused(refusal, nodes, counts, edges),
+    let made = building::made(board, tiles, nodes, counts, edges);
+    if made.is_err() {
+        building::clear(nodes, counts, edges);
     }
+    made
 }
 
 // The figure called cuttings: 1 for a board with no free cell, otherwise the layer count. It is lent
@@ -62,7 +55,7 @@ pub fn count_cuttings(
     counts_a: &mut [u64],
     boards_b: &mut [u64],
     counts_b: &mut [u64],
-) -> Count
+) -> Result<PathCount, Refusal>
     ensures answer { AnswersCuttings board tiles boards_a.old counts_a.old boards_b.old counts_b.old boards_a.new counts_a.new boards_b.new counts_b.new result }
     ensures cuttings { IsNumberOfCuttings board tiles result }
 {

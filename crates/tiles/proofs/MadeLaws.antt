@@ -1,5 +1,5 @@
--- Laws of the calls that make tiles: when made tiles are those that `MakesTiles` and `AddsTile` ask for; and the loop that collects an orbit, with the
--- tiles that `tile` makes for it. Rests on `StoredLaws`, `OrbitLaws` and the laws of one tile. Assumes nothing.
+-- Laws of the calls that make tiles: when made tiles are those that `MakesTiles` asks for; and the loop that collects an orbit, with the tiles that
+-- `tile` makes for it. Rests on `StoredLaws`, `OrbitLaws` and the laws of one tile. Assumes nothing.
 use mathlib.Core.Path.{◌≡◌, refl, sym, ap, ap₂, ◌∙◌, subst}
 use mathlib.Core.Bool.{Bool, true, false, So}
 use mathlib.Core.List.Memᴰ.{head as here}
@@ -15,19 +15,20 @@ use Rattle.cells.specs.Lists.{holds, add_new, add_firsts, firsts}
 use Rattle.cells.specs.FirstsLaws.{add_new_old, add_new_new, add_firsts_append, length_add_firsts}
 use Rattle.cells.specs.ArrayLaws.{length_list_of, get_d_snoc}
 use Rattle.tile.specs.declared.Tile.{Tile}
-use Rattle.tile.specs.declared.MadeTile.{MadeTile}
+use Rattle.refusal.specs.declared.Refusal.{Refusal}
+use Rattle.refusal.specs.RefusalLaws.{given_inj, is_ok_given}
+use Rattle.std.specs.Prelude.{Result, Ok, IsOk}
 use Rattle.tiles.specs.declared.Tiles.{Tiles}
-use Rattle.tiles.specs.declared.MadeTiles.{MadeTiles}
 use Rattle.direction.specs.declared.Axis.TheVariants as A
-use Rattle.refusal.specs.Refusal.{Answer, refused, given, refusal_of, value_or, map_answer, verdict_number}
-use Rattle.tile.specs.Path.{Path, codes_ok, rotated, reflected, path_in, read_tile, read_path, tile_of, MakesTile}
-use Rattle.tiles.specs.Paths.{turns, same_path, orbit, path_at, paths_in, tiles_of, appended, MakesTiles, AddsTile}
+use Rattle.refusal.specs.Refusal.{Answer, given, map_answer, answer_of}
+use Rattle.tile.specs.Path.{Path, codes_ok, rotated, reflected, path_in, read_tile, tile_of, MakesTile}
+use Rattle.tiles.specs.Paths.{turns, same_path, orbit, path_at, paths_in, tiles_of}
 use Rattle.tile.specs.Inner.{CleanTile}
 use Rattle.tiles.specs.Inner.{Clean, Short}
 use Rattle.tiles.specs.OrbitLaws.{length_turns, turns_all}
 use Rattle.tile.specs.PathLaws.{length_rotated, length_reflected, codes_ok_rotated, codes_ok_reflected}
-use Rattle.tile.specs.StoredLaws.{read_path_given, read_tile_given, path_in_tile_of, clean_tile_of, length_path_in}
-use Rattle.tiles.specs.StoredLaws.{paths_in_tiles_of, clean_tiles_of, count_tiles_of, short_paths_in, with_tile_given, with_tile_many}
+use Rattle.tile.specs.StoredLaws.{read_tile_given, path_in_tile_of, clean_tile_of, length_path_in}
+use Rattle.tiles.specs.StoredLaws.{paths_in_tiles_of, clean_tiles_of, count_tiles_of, short_paths_in}
 
 -- ---- the orbit is collected
 
@@ -49,14 +50,22 @@ length_add_new_le : (ps : List Path) (p : Path) → length (add_new same_path ps
 unfolding add_firsts
 length_add_new_le ps p = (length_add_firsts same_path ps (p ∷ [])).1
 
--- a tile that is made of a path, and one that is made of an accepted tile's path
-pub made_of_path : (p : Path) → length p ≤ 32 → So (codes_ok p) → (r : MadeTile) → MakesTile (read_path p) r → r.tile ≡ tile_of p
-unfolding value_or
-made_of_path p h ok r m = m.tile ∙ ap (λ (a : Answer Path). tile_of (value_or [] a)) (read_path_given p h ok)
+-- a tile that is made of a path is made, and stores it
+module _ (a : Answer Path) (p : Path) (e : a ≡ given p) (r : Result Tile Refusal) (m : MakesTile a r) where
+  made : answer_of r ≡ given (tile_of p)
+  unfolding map_answer
+  made = m ∙ ap (map_answer tile_of) e
 
-pub made_of_tile : (f : Path → Path) (t : Tile) → t.len ≤ 32 → So (codes_ok (path_in t)) → (r : MadeTile) → MakesTile (map_answer f (read_tile t)) r → r.tile ≡ tile_of (f (path_in t))
-unfolding value_or map_answer
-made_of_tile f t h ok r m = m.tile ∙ ap (λ (a : Answer Path). tile_of (value_or [] (map_answer f a))) (read_tile_given t h ok)
+  pub made_is_ok : IsOk r
+  made_is_ok = is_ok_given r (tile_of p) made
+
+  pub made_is : (t : Tile) → r ≡ Ok t → t ≡ tile_of p
+  made_is t q = given_inj t (tile_of p) (sym (ap answer_of q) ∙ made)
+
+-- the image of an accepted tile's path
+pub image_given : (f : Path → Path) (t : Tile) → t.len ≤ 32 → So (codes_ok (path_in t)) → map_answer f (read_tile t) ≡ given (f (path_in t))
+unfolding map_answer
+image_given f t h ok = ap (map_answer f) (read_tile_given t h ok)
 
 -- after i turns: what is collected, the tile that is next, and that what is left comes to the same
 pub record Collected (ps : List Path) (p : Path) (i : ℕ) (out : Tiles) (next : Tile) : Type 0 where
@@ -73,20 +82,20 @@ turns_more : (ps : List Path) (p : Path) (i : ℕ) → i < 4 → add_firsts same
 unfolding turns add_firsts
 turns_more ps p i h = let e : 4 - i ≡ suc (4 - (i + 1)) = omega arith in ap (λ (k : ℕ). add_firsts same_path ps (turns k p)) e
 
-pub collected_step : (ps : List Path) (p : Path) (i : ℕ) (out out' : Tiles) (next : Tile) (made : MadeTile) → Collected ps p i out next → i < 4
-    → out' ≡ tiles_of (add_new same_path (paths_in out) (path_in next)) → MakesTile (map_answer rotated (read_tile next)) made → Collected ps p (i + 1) out' made.tile
-collected_step ps p i out out' next made c h e m =
-    let q = made_of_tile rotated next c.clean_tile.short c.ok made m in
+pub collected_step : (ps : List Path) (p : Path) (i : ℕ) (out out' : Tiles) (next turned : Tile) (made : Result Tile Refusal) → Collected ps p i out next → i < 4
+    → out' ≡ tiles_of (add_new same_path (paths_in out) (path_in next)) → MakesTile (map_answer rotated (read_tile next)) made → made ≡ Ok turned → Collected ps p (i + 1) out' turned
+collected_step ps p i out out' next turned made c h e m u =
+    let q = made_is _ (rotated (path_in next)) (image_given rotated next c.clean_tile.short c.ok) made m turned u in
     let short : length (path_in next) ≤ 32 = omega (arith, length_path_in next, c.clean_tile.short) in
     let all = short_add_new (paths_in out) (path_in next) (short_paths_in out c.clean) short in
     let long = length_add_new_le (paths_in out) (path_in next) in
     let count = length_list_of (path_at out.lens out.codes) out.count in
     let few = c.few in
-    let turned : length (rotated (path_in next)) ≤ 32 = omega (arith, length_rotated (path_in next)) in
-    let path : path_in made.tile ≡ rotated (path_in next) = ap path_in q ∙ path_in_tile_of (rotated (path_in next)) turned in
+    let room : length (rotated (path_in next)) ≤ 32 = omega (arith, length_rotated (path_in next)) in
+    let path : path_in turned ≡ rotated (path_in next) = ap path_in q ∙ path_in_tile_of (rotated (path_in next)) room in
     record {
       clean = subst Clean (sym e) (clean_tiles_of (add_new same_path (paths_in out) (path_in next)) all (omega arith));
-      clean_tile = subst CleanTile (sym q) (clean_tile_of (rotated (path_in next)) turned);
+      clean_tile = subst CleanTile (sym q) (clean_tile_of (rotated (path_in next)) room);
       ok = subst (λ (r : Path). So (codes_ok r)) (sym path) (codes_ok_rotated (path_in next) c.ok);
       few = subst (λ (ts : Tiles). ts.count ≤ 4 + (i + 1)) (sym e) (subst (λ (n : ℕ). n ≤ 4 + (i + 1)) (sym (count_tiles_of (add_new same_path (paths_in out) (path_in next)))) (omega arith));
       left = c.left
@@ -161,25 +170,6 @@ module _ (p : Path) (short : length p ≤ 32) (ok : So (codes_ok p)) (none : Til
 
 -- ---- made tiles
 
-pub makes_no_tiles : (a : Answer (List Path)) (r : MadeTiles) → a ≡ refused 5 → r.tiles ≡ tiles_of [] → verdict_number r.verdict ≡ 5 → MakesTiles a r
-unfolding refusal_of value_or
-makes_no_tiles a r e t v = record { verdict = v ∙ sym (ap refusal_of e); tiles = t ∙ ap tiles_of (sym (ap (value_or []) e)) }
-
-pub makes_tiles : (a : Answer (List Path)) (r : MadeTiles) (ps : List Path) → a ≡ given ps → r.tiles ≡ tiles_of ps → verdict_number r.verdict ≡ 0 → MakesTiles a r
-unfolding refusal_of value_or
-makes_tiles a r ps e t v = record { verdict = v ∙ sym (ap refusal_of e); tiles = t ∙ ap tiles_of (sym (ap (value_or []) e)) }
-
--- ---- tiles with one more
-
-module _ (ts : Tiles) (t : Tile) (r : MadeTiles) where
-  pub adds_refused : 64 ≤ ts.count → r.tiles ≡ tiles_of [] → verdict_number r.verdict ≡ 6 → AddsTile ts t r
-  unfolding refusal_of value_or
-  adds_refused h s v =
-      let e = with_tile_many ts t h in
-      record { verdict = v ∙ sym (ap refusal_of e); tiles = s ∙ sym (ap (value_or (tiles_of [])) e) }
-
-  pub adds_given : ts.count < 64 → r.tiles ≡ appended ts t → verdict_number r.verdict ≡ 0 → AddsTile ts t r
-  unfolding refusal_of value_or
-  adds_given h s v =
-      let e = with_tile_given ts t h in
-      record { verdict = v ∙ sym (ap refusal_of e); tiles = s ∙ sym (ap (value_or (tiles_of [])) e) }
+pub makes_tiles : (a : Answer (List Path)) (r : Tiles) (ps : List Path) → a ≡ given ps → r ≡ tiles_of ps → given r ≡ map_answer tiles_of a
+unfolding map_answer
+makes_tiles a r ps e t = ap given t ∙ sym (ap (map_answer tiles_of) e)

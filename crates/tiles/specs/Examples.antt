@@ -1,13 +1,11 @@
 -- Examples of the definitions, by computation. Codes: 0 Up, 1 Down, 2 Left, 3 Right, 4 UpLeft, 5 UpRight, 6 DownRight, 7 DownLeft.
-use Rattle.std.specs.Prelude.{◌≡◌, refl, true, false, List, [], ◌∷◌, ◌++◌, map, length, replicate, take}
-use Rattle.refusal.specs.Refusal.{refused, given, map_answer, refusal_of, value_or}
+use Rattle.std.specs.Prelude.{◌≡◌, refl, Ok, Err, Bool, true, false, List, [], ◌∷◌, ◌++◌, map, length, replicate, take}
+use Rattle.refusal.specs.Refusal.{refused, given, map_answer, refusal_of, value_or, answer_of}
 use Rattle.refusal.specs.declared.Refusal.TheVariants as R
-use Rattle.refusal.specs.declared.Verdict.TheVariants as Verdicts
 use Rattle.tiles.specs.declared.Tiles.{Tiles}
-use Rattle.tiles.specs.declared.Contains.TheVariants as H
 use Rattle.direction.specs.Direction.{step, rotate, reflect}
 use Rattle.tile.specs.Path.{Path, l_path, t_path, tile_of}
-use Rattle.tiles.specs.Paths.{shared_count, equal_counts, same_path, images, orbit, read_tiles, read_equal_tiles, tiles_of, overlay, with_tile, tile_at, MakesTiles, AddsTile, contains_single, contains_answer}
+use Rattle.tiles.specs.Paths.{shared_count, equal_counts, same_path, images, orbit, read_tiles, read_equal_tiles, tiles_of, overlay, with_tile, tile_at, MakesTiles, AddsTile, contains_single}
 
 -- ---- equally many cells: Right covers 2 cells and Right, Right covers 3; UpLeft and Left cover 2 each
 right_unequal : equal_counts ((3 ∷ []) ∷ (3 ∷ 3 ∷ []) ∷ []) ≡ false
@@ -128,17 +126,18 @@ second_told = (refl, refl)
 
 -- ---- the answers of the code
 
--- "Refusal 5 gives no tiles"
-made_refused : MakesTiles (refused 5) (record { verdict = Verdicts.Refused R.BadTile; tiles = tiles_of [] })
-unfolding refusal_of value_or
-made_refused = record { verdict = refl; tiles = refl }
+-- a refusal gives no tiles
+made_refused : MakesTiles (refused 5) (Err R.BadTile)
+unfolding map_answer
+made_refused = refl
 
 -- neither does a 65th tile
-added_refused : AddsTile (record { count = 64; lens = []; codes = [] }) (tile_of []) (record { verdict = Verdicts.Refused R.TooManyTiles; tiles = tiles_of [] })
-unfolding with_tile refusal_of value_or
-added_refused = record { verdict = refl; tiles = refl }
+added_refused : AddsTile (record { count = 64; lens = []; codes = [] }) (tile_of []) (Err R.TooManyTiles)
+unfolding with_tile
+added_refused = refl
 
 -- a single tile is among them, or none
-singles : (contains_single ((3 ∷ []) ∷ [] ∷ []) ≡ true) × (contains_single ((3 ∷ []) ∷ []) ≡ false) × (contains_answer (H.Is true) ≡ given true) × (contains_answer (H.Refused R.TooManyTiles) ≡ refused 6)
+singles : (contains_single ((3 ∷ []) ∷ [] ∷ []) ≡ true) × (contains_single ((3 ∷ []) ∷ []) ≡ false)
+    × (answer_of {A = Bool} (Ok true) ≡ given true) × (answer_of {A = Bool} (Err R.TooManyTiles) ≡ refused 6)
 unfolding contains_single
 singles = (refl, refl, refl, refl)

@@ -1,6 +1,8 @@
 -- Definitions: tiles together, as a list of paths: whether a single tile is among them, equal numbers of cells, the orbit of a tile; and what the struct
 -- `Tiles` of the code stands for, a count, 64 lengths and 2,048 codes, 32 for each tile, any numbers: `read_tiles` gives the paths, or 01's refusal, and
 -- `tiles_of` stores paths. Reading what was stored gives it back (`read_tiles_tiles_of`). Assumes nothing.
+use Rattle.std.specs.Prelude.{Result}
+use Rattle.refusal.specs.declared.Refusal.{Refusal}
 use Rattle.std.specs.Prelude.{◌≡◌, Bool, true, false, not, ◌&&◌, cond, ℕ, zero, suc, ◌+◌, ◌-◌, ◌*◌, eqb, leb, ltb, length, get_or, take, drop, set}
 use mathlib.Core.List.{List, [], ◌∷◌, ◌++◌, Memᴰ as Mem, flat_map, map}
 use Rattle.cells.specs.Lists.{any, firsts, list_of, all_below, padded}
@@ -8,10 +10,7 @@ use Rattle.direction.specs.declared.Axis.TheVariants as A
 use Rattle.tile.specs.Path.{Path, cell_count, is_single, rotated, reflected, is_path}
 use Rattle.tile.specs.declared.Tile.{Tile}
 use Rattle.tiles.specs.declared.Tiles.{Tiles}
-use Rattle.tiles.specs.declared.MadeTiles.{MadeTiles}
-use Rattle.tiles.specs.declared.Contains.{Contains}
-use Rattle.tiles.specs.declared.Contains.TheVariants as H
-use Rattle.refusal.specs.Refusal.{Answer, refused, given, bind_answer, refusal_number, verdict_number, refusal_of, value_or}
+use Rattle.refusal.specs.Refusal.{Answer, refused, given, bind_answer, map_answer, answer_of}
 
 -- whether one of the tiles is a single tile
 unfoldable pub contains_single : List Path → Bool
@@ -118,17 +117,10 @@ tile_at ts i = record { len = get_or ts.lens i 0; codes = list_of (λ j. get_or 
 
 -- ---- the answers of the code
 
--- made tiles: the refusal's number, 0 for none, and the paths stored; a refusal hands back no tiles
-pub record MakesTiles (a : Answer (List Path)) (r : MadeTiles) : Type 0 where
-  pub verdict : verdict_number r.verdict ≡ refusal_of a
-  pub tiles : r.tiles ≡ tiles_of (value_or [] a)
+-- made tiles: the paths stored, or the refusal
+abbrev pub MakesTiles : Answer (List Path) → Result Tiles Refusal → Type 0
+MakesTiles a r = answer_of r ≡ map_answer tiles_of a
 
 -- tiles with one more, likewise
-pub record AddsTile (ts : Tiles) (t : Tile) (r : MadeTiles) : Type 0 where
-  pub verdict : verdict_number r.verdict ≡ refusal_of (with_tile ts t)
-  pub tiles : r.tiles ≡ value_or (tiles_of []) (with_tile ts t)
-
--- what `contains_single_tile` answers
-abbrev pub contains_answer : Contains → Answer Bool
-contains_answer (H.Is b) = given b
-contains_answer (H.Refused r) = refused (refusal_number r)
+abbrev pub AddsTile : Tiles → Tile → Result Tiles Refusal → Type 0
+AddsTile ts t r = answer_of r ≡ with_tile ts t

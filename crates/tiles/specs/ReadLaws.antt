@@ -1,6 +1,6 @@
 -- Laws of reading tiles: what `read_tiles` answers, that what it gives is stored paths in range, and that each of the tiles is read as its path and
 -- its cells are counted. Rests on `Paths`, the laws of one tile and the laws of arrays. Assumes nothing.
-use Rattle.std.specs.Prelude.{◌≡◌, Bool, true, false, ℕ, ◌+◌, ◌*◌, ◌≤◌, ◌<◌, leb, length, get_or, take, drop}
+use Rattle.std.specs.Prelude.{◌≡◌, Result, Ok, Err, IsOk, Bool, true, false, ℕ, ◌+◌, ◌*◌, ◌≤◌, ◌<◌, leb, length, get_or, take, drop}
 use Rattle.std.proofs.Math.Path.{refl, sym, ap}
 use Rattle.std.proofs.Common.{◌∙◌, subst, arith, le-leb, leb-true, length-take, length-drop, ext_get_or, get_or-take, get_or-drop, length-take-le}
 use Rattle.std.proofs.Math.Bool.{So, and-eq-true_iff}
@@ -11,15 +11,13 @@ use Rattle.cells.specs.Lists.{list_of, all_below}
 use Rattle.cells.specs.ArrayLaws.{length_list_of, get_d_list_of, all_below_at}
 use Rattle.tile.specs.declared.Tile.{Tile}
 use Rattle.tiles.specs.declared.Tiles.{Tiles}
-use Rattle.refusal.specs.Refusal.{refused, given, refusal_of, value_or, refusal_number, map_answer}
-use Rattle.tile.specs.Path.{Path, codes_ok, cell_count, is_path, path_in, read_tile, cell_count_answer}
+use Rattle.refusal.specs.Refusal.{refused, given, refusal_of, value_or, refusal_number, map_answer, answer_of}
+use Rattle.tile.specs.Path.{Path, codes_ok, cell_count, is_path, path_in, read_tile}
 use Rattle.tiles.specs.Paths.{path_at, sound_at, paths_in, read_tiles, tile_at}
 use Rattle.tiles.specs.Inner.{Storable}
-use Rattle.refusal.specs.RefusalLaws.{clash, refused_given, given_inj}
+use Rattle.refusal.specs.RefusalLaws.{clash, refused_given, given_inj, is_ok_given}
 use Rattle.cells.specs.MemberLaws.{mem_list_of}
 use Rattle.refusal.specs.declared.Refusal.{Refusal}
-use Rattle.tile.specs.declared.CellCount.{CellCount}
-use Rattle.tile.specs.declared.CellCount.TheVariants as C
 use Rattle.tile.specs.StoredLaws.{is_path_good, is_path_is, read_tile_given}
 
 -- ---- a sound tile
@@ -144,13 +142,16 @@ module _ (ts : Tiles) (long : length ts.codes ≡ 2048) (ok : read_tiles ts ≡ 
       read_tile_given (tile_at ts i) (subst (λ (n : ℕ). n ≤ 32) (sym (len_tile_at ts i)) sound.0) (ap codes_ok is ∙ sound.1) ∙ ap given is
 
   -- and its cells are counted
-  module _ (t : Tile) (at : t ≡ tile_at ts i) (a : CellCount) (e : cell_count_answer a ≡ map_answer cell_count (read_tile t)) where
-    tile_count : cell_count_answer a ≡ given (cell_count (path_at ts.lens ts.codes i))
+  module _ (t : Tile) (at : t ≡ tile_at ts i) (a : Result ℕ Refusal) (e : answer_of a ≡ map_answer cell_count (read_tile t)) where
+    tile_count : answer_of a ≡ given (cell_count (path_at ts.lens ts.codes i))
     unfolding map_answer
     tile_count = e ∙ ap (map_answer cell_count) (ap read_tile at ∙ read_tile_tile_at)
 
-    pub tile_count_is : (n : ℕ) → a ≡ C.Is n → n ≡ cell_count (path_at ts.lens ts.codes i)
-    tile_count_is n q = given_inj n (cell_count (path_at ts.lens ts.codes i)) (sym (ap cell_count_answer q) ∙ tile_count)
+    pub tile_count_is : (n : ℕ) → a ≡ Ok n → n ≡ cell_count (path_at ts.lens ts.codes i)
+    tile_count_is n q = given_inj n (cell_count (path_at ts.lens ts.codes i)) (sym (ap answer_of q) ∙ tile_count)
 
-    pub tile_count_refused : (q : Refusal) → a ≡ C.Refused q → ⊥
-    tile_count_refused q s = refused_given (refusal_number q) (cell_count (path_at ts.lens ts.codes i)) (sym (ap cell_count_answer s) ∙ tile_count)
+    pub tile_count_refused : (q : Refusal) → a ≡ Err q → ⊥
+    tile_count_refused q s = refused_given (refusal_number q) (cell_count (path_at ts.lens ts.codes i)) (sym (ap answer_of s) ∙ tile_count)
+
+    pub tile_count_ok : IsOk a
+    tile_count_ok = is_ok_given a (cell_count (path_at ts.lens ts.codes i)) tile_count

@@ -7,35 +7,23 @@
 #![tactic(auto)]
 
 ghost use Rattle.std.specs.Prelude.{◌≡◌, []};
-ghost use Rattle.refusal.specs.Refusal.{map_answer, refusal_of, verdict_number};
-ghost use Rattle.tile.specs.Path.{read_tile, cell_count_answer};
-ghost use Rattle.tiles.specs.Paths.{shared_count, contains_single, orbit, read_tiles, read_equal_tiles, tiles_of, tile_at, MakesTiles, AddsTile, contains_answer};
+ghost use Rattle.refusal.specs.Refusal.{map_answer, refusal_of, verdict_number, answer_of};
+ghost use Rattle.tile.specs.Path.{read_tile};
+ghost use Rattle.tiles.specs.Paths.{shared_count, contains_single, orbit, read_tiles, read_equal_tiles, tiles_of, tile_at, MakesTiles, AddsTile};
 
 use direction::Axis;
-use refusal::{Refusal, Verdict};
-use tile::{CellCount, Tile};
+use refusal::Refusal;
+use tile::Tile;
 
 mod collection;
 
 // The paths of count tiles: tile i has the first lens[i] of the 32 codes from 32 * i on.
+// Kept: arrays side by side, in fixed memory (no heap); `read_tiles_tiles_of` names the fields.
 #[derive(Clone, Copy, Drop)]
 pub struct Tiles {
     pub count: usize,
     pub lens: [usize; 64],
     pub codes: [u8; 2048],
-}
-
-// Tiles, or a refusal and no tiles. (An enum cannot hold an array.)
-#[derive(Clone, Copy, Drop)]
-pub struct MadeTiles {
-    pub verdict: Verdict,
-    pub tiles: Tiles,
-}
-
-#[derive(Clone, Copy, Drop)]
-pub enum Contains {
-    Is(bool),
-    Refused(Refusal),
 }
 
 impl Tiles {
@@ -52,98 +40,73 @@ impl Tiles {
 
     // The tile, its three clockwise turns, its Horizontal reflection and that one's turns, first
     // appearances kept. The Rust's `TileCollection::from`, whose order is hashed.
-    pub fn orbit(tile: Tile) -> MadeTiles
+    #[tactic(auto, using(tile::proofs::MadeLaws::short_tile))]
+    pub fn orbit(tile: Tile) -> Result<Tiles, Refusal>
         ensures { MakesTiles (map_answer orbit (read_tile tile)) result }
     {
-        let Verdict::Accepted = tile.check() else {
-            return MadeTiles {
-                verdict: Verdict::Refused(Refusal::BadTile),
-                tiles: Tiles::new(),
-            };
-        };
-        let len = tile.len;
-        let codes = tile.codes;
-        let first = Tile::new(&codes[..len]);
-        let mirror = tile.reflect(Axis::Horizontal);
-        let half = collection::with_turns(Tiles::new(), first.tile);
-        MadeTiles {
-            verdict: Verdict::Accepted,
-            tiles: collection::with_turns(half, mirror.tile),
-        }
+        tile.check()?;
+        let first = Tile::new(&tile.codes[..tile.len]).unwrap();
+        let mirror = tile.reflect(Axis::Horizontal).unwrap();
+        let half = collection::with_turns(Tiles::new(), first);
+        Ok(collection::with_turns(half, mirror))
     }
 
     // The tiles with one more behind them, as they stand; refusal 6 for a 65th.
-    pub fn with_tile(self, tile: Tile) -> MadeTiles
+    #[tactic(auto, unfolding(crate::specs::Paths::with_tile))]
+    pub fn with_tile(self, tile: Tile) -> Result<Tiles, Refusal>
         ensures { AddsTile self tile result }
     {
-        let count = self.count;
-        if count < 64 {
-            return MadeTiles {
-                verdict: Verdict::Accepted,
-                tiles: collection::appended(self, tile),
-            };
+        if 64 <= self.count {
+            return Err(Refusal::TooManyTiles);
         }
-        MadeTiles {
-            verdict: Verdict::Refused(Refusal::TooManyTiles),
-            tiles: Tiles::new(),
-        }
+        Ok(collection::appended(self, tile))
     }
 
     // Tile i as it stands, the single tile for 64 and more. The Rust's boxed iterator.
     pub fn get(self, i: usize) -> Tile
         ensures { result ≡ tile_at self i }
     {
-        let lens = self.lens;
-        let codes = self.codes;
-        if i < 64 {
-            return Tile {
-                len: lens[i],
-                codes: collection::part(&codes, 32 * i),
-            };
+        if 64 <= i {
+            return Tile::box_tile();
         }
-        Tile::box_tile()
+        Tile {
+            len: self.lens[i],
+            codes: collection::part(&self.codes, 32 * i),
+        }
     }
 
     // Whether there are at most 64 tiles, each a path; refusal 6, and then 5, otherwise.
-    pub fn check(self) -> Verdict
+    #[tactic(auto, unfolding(crate::specs::Paths::read_tiles, refusal::specs::Refusal::refusal_of))]
+    pub fn check(self) -> Result<(), Refusal>
         ensures { verdict_number result ≡ refusal_of (read_tiles self) }
     {
-        let count = self.count;
-        if 64 < count {
-            return Verdict::Refused(Refusal::TooManyTiles);
+        if 64 < self.count {
+            return Err(Refusal::TooManyTiles);
         }
-        if collection::all_sound(self) {
-            return Verdict::Accepted;
+        if !collection::all_sound(self) {
+            return Err(Refusal::BadTile);
         }
-        Verdict::Refused(Refusal::BadTile)
+        Ok(())
     }
 
     // Whether one of the tiles is a single tile.
-    pub fn contains_single_tile(self) -> Contains
-        ensures { contains_answer result ≡ map_answer contains_single (read_tiles self) }
+    pub fn contains_single_tile(self) -> Result<bool, Refusal>
+        ensures { answer_of result ≡ map_answer contains_single (read_tiles self) }
     {
-        let verdict = self.check();
-        match verdict {
-            Verdict::Accepted => Contains::Is(collection::has_single(self)),
-            Verdict::Refused(refusal) => Contains::Refused(refusal),
-        }
+        self.check()?;
+        Ok(collection::has_single(self))
     }
 
     // The number of cells that each of the tiles covers, 0 with no tiles; refusal 6, then 5, then 7
     // for two tiles with different numbers of cells.
-    pub fn count_cells(self) -> CellCount
-        ensures { cell_count_answer result ≡ map_answer shared_count (read_equal_tiles self) }
+    pub fn count_cells(self) -> Result<usize, Refusal>
+        ensures { answer_of result ≡ map_answer shared_count (read_equal_tiles self) }
     {
-        let verdict = self.check();
-        match verdict {
-            Verdict::Accepted => {
-                let cells = collection::first_count(self);
-                if collection::all_cover(self, cells) {
-                    return CellCount::Is(cells);
-                }
-                CellCount::Refused(Refusal::UnequalTiles)
-            }
-            Verdict::Refused(refusal) => CellCount::Refused(refusal),
+        self.check()?;
+        let cells = collection::first_count(self);
+        if !collection::all_cover(self, cells) {
+            return Err(Refusal::UnequalTiles);
         }
+        Ok(cells)
     }
 }

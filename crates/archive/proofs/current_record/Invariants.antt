@@ -1,12 +1,12 @@
-use Prim.Native.Nat.{◌-◌}
-use lib.ListN.{length}
+use Rattle.std.proofs.Common.{◌≡◌}
+use Rattle.std.specs.Slice.Iter.{chunks_rest, chunks_size}
+use Rattle.std.specs.Iterator.Adapters.{enumerate_source, enumerate_count}
 use Rattle.archive.specs.Archive.{current_record}
-use Rattle.archive.specs.Inner.{candidate_of}
 use Rattle.archive.proofs.ReadingLaws.{Ahead, to_compare}
 use Rattle.archive.proofs.current_record.Given as goal
 
-abbrev pub invariant-loop-at : goal.invariant-loop-at
-invariant-loop-at l = Ahead l.file (current_record l.file l.id) (to_compare l.file l.id (candidate_of l.current)) l.place l.at
-
-abbrev pub decreases-loop-at : goal.decreases-loop-at
-decreases-loop-at l = length l.file - l.at
+abbrev pub invariant-loop-place : goal.invariant-loop-place
+invariant-loop-place l = record {
+  size : chunks_size (enumerate_source l.place-iterator) ≡ 24;
+  ahead : Ahead (current_record l.file l.id) (to_compare l.file l.id l.current) (enumerate_count l.place-iterator) (chunks_rest (enumerate_source l.place-iterator));
+}

@@ -3,11 +3,11 @@
 use Rattle.expansion.proofs.PlotLaws.{words_read, words_accepted, words_refused}
 use Rattle.expansion.proofs.child_words.Goals as goal
 
+pub returns-then-is_err : goal.returns-then-is_err
+returns-then-is_err c = words_refused _ _ c.check.ensures c.if-is_err.ensures.value
+
 pub most_children-requires : goal.most_children-requires
-most_children-requires c = (words_read _ _ c.check-verdict.ensures c.in-Accepted.is).1
+most_children-requires c = words_read _ _ c.check.ensures c.if-is_err.ensures.value
 
-pub returns-in-Accepted : goal.returns-in-Accepted
-returns-in-Accepted c = words_accepted _ _ c.check-verdict.ensures c.in-Accepted.is _ c.most_children.ensures.0
-
-pub returns-in-Refused : goal.returns-in-Refused
-returns-in-Refused c = words_refused _ _ c.check-verdict.ensures _ c.in-Refused.is
+pub returns : goal.returns
+returns c = words_accepted _ (words_read _ _ c.check.ensures c.if-is_err.ensures.value) _ c.most_children.ensures.0

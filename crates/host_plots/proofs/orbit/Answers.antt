@@ -3,12 +3,12 @@
 use Rattle.host_plots.proofs.HostLaws.{orbit_accepted, orbit_unshaped}
 use Rattle.host_plots.proofs.orbit.Goals as goal
 
-pub returns-in-Accepted : goal.returns-in-Accepted
-returns-in-Accepted c =
-    orbit_accepted c.args.tile.now c.args.tiles.now c.args.answer.now _ c.of_orbit-verdict.ensures
-    c.in-Accepted.is _ c.tile_from.ensures c.orbit.ensures
+pub returns-in-Ok : goal.returns-in-Ok
+returns-in-Ok c =
+    orbit_accepted c.args.tile.now c.args.tiles.now c.args.answer.now _ c.of_orbit.ensures
+    c.in-Ok.is _ c.tile_from.ensures c.orbit.ensures
 
-pub returns-in-Refused : goal.returns-in-Refused
-returns-in-Refused c =
-    orbit_unshaped c.args.tile.now c.args.tiles.now c.args.answer.now _ c.of_orbit-verdict.ensures _
-    c.in-Refused.is _ c.new.ensures c.put_tiles.ensures c.refuse.ensures
+pub returns-in-Err : goal.returns-in-Err
+returns-in-Err c =
+    orbit_unshaped c.args.tile.now c.args.tiles.now c.args.answer.now _ c.of_orbit.ensures _
+    c.in-Err.is _ c.new.ensures c.put_tiles.ensures c.refuse.ensures

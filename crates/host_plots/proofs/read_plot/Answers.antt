@@ -3,12 +3,12 @@
 use Rattle.host_plots.proofs.HostLaws.{plot_accepted, plot_unshaped}
 use Rattle.host_plots.proofs.read_plot.Goals as goal
 
-pub returns-in-Accepted : goal.returns-in-Accepted
-returns-in-Accepted c =
-    plot_accepted c.args.file.now c.args.board.now c.args.tiles.now c.args.answer.now _ c.of_file-verdict.ensures
-    c.in-Accepted.is c.read_plot.ensures
+pub returns-in-Ok : goal.returns-in-Ok
+returns-in-Ok c =
+    plot_accepted c.args.file.now c.args.board.now c.args.tiles.now c.args.answer.now _ c.of_file.ensures
+    c.in-Ok.is c.read_plot.ensures
 
-pub returns-in-Refused : goal.returns-in-Refused
-returns-in-Refused c =
-    plot_unshaped c.args.file.now c.args.board.now c.args.tiles.now c.args.answer.now _ c.of_file-verdict.ensures _
-    c.in-Refused.is _ c.new.ensures c.clear_from.ensures c.put_tiles.ensures c.refuse.ensures
+pub returns-in-Err : goal.returns-in-Err
+returns-in-Err c =
+    plot_unshaped c.args.file.now c.args.board.now c.args.tiles.now c.args.answer.now _ c.of_file.ensures _
+    c.in-Err.is _ c.new.ensures c.clear_from.ensures c.put_tiles.ensures c.refuse.ensures

@@ -1,13 +1,16 @@
 -- `host_records::count_records` meets its contract: the answer words, then the call below.
 -- Assumes nothing.
-use Rattle.host_records.proofs.AnswerLaws.{counted_number, counted_broken, counted_short}
+use Rattle.archive.specs.Archive.{answered, refused_at, map_outcome}
+use Rattle.host_records.proofs.AnswerLaws.{counted, counted_short}
 use Rattle.host_records.proofs.count_records.Goals as goal
 
 pub returns-then-answer-lt1 : goal.returns-then-answer-lt1
 returns-then-answer-lt1 c = counted_short c.args.file.now _ _ _ c.if-answer-lt1.true c.refuse.ensures
 
-pub returns-in-Number : goal.returns-in-Number
-returns-in-Number c = counted_number c.args.file.now _ _ _ _ _ c.if-answer-lt1.false c.count_records-count.ensures c.in-Number.is c.number.ensures
+pub returns-in-Ok : goal.returns-in-Ok
+unfolding map_outcome
+returns-in-Ok c = counted c.args.file.now _ _ _ (answered c.in-Ok.count) c.if-answer-lt1.false c.in-Ok.ensures c.give.ensures
 
-pub returns-in-Broken : goal.returns-in-Broken
-returns-in-Broken c = counted_broken c.args.file.now _ _ _ _ _ c.if-answer-lt1.false c.count_records-count.ensures c.in-Broken.is c.broken.ensures
+pub returns-in-Err : goal.returns-in-Err
+unfolding map_outcome
+returns-in-Err c = counted c.args.file.now _ _ _ (refused_at 13 c.in-Err.broken.place) c.if-answer-lt1.false c.in-Err.ensures c.broken.ensures

@@ -7,4 +7,4 @@ pub returns-then-answer-lt5 : goal.returns-then-answer-lt5
 returns-then-answer-lt5 c = current_short c.args.file.now _ _ _ c.args.id c.if-answer-lt5.true c.refuse.ensures
 
 pub returns : goal.returns
-returns c = current_found_lem c.args.file.now _ _ _ c.current_record-found.result c.args.id c.if-answer-lt5.false c.current_record-found.ensures c.found.ensures
+returns c = current_found_lem c.args.file.now _ _ _ c.current_record.result c.args.id c.if-answer-lt5.false c.current_record.ensures c.found.ensures

@@ -1,18 +1,8 @@
--- `host_tiles::lens_from` meets its contract: the lengths are filled in order (`Filled`).
+-- `host_tiles::lens_from` meets its contract: each of the lengths is the byte that it is made of.
 -- Assumes nothing.
-use mathlib.Core.Path.{refl}
-use lib.ListN.{get_or-replicate}
-use Rattle.cells.specs.ArrayLaws.{filled_start, filled_step, filled_end}
-use native.Mathlib.Omega.{arith}
-use borrow.Author.Rules.{rules}
+use Rattle.std.proofs.Common.{rules}
+use Rattle.tile.proofs.CodeLaws.{made_of}
 use Rattle.host_tiles.proofs.lens_from.Goals as goal
 
-pub loop-i-init : goal.loop-i-init
-loop-i-init c =
-    (search rules, filled_start 0 _ (λ k. 0) 64 0 _ refl (λ k h. get_or-replicate 64 k 0 0 h) (λ k h. absurd (omega arith)))
-
-pub loop-i-preserved : goal.loop-i-preserved
-loop-i-preserved c = let inv = c.loop-i.invariant in (omega arith, filled_step 0 _ _ 64 _ _ _ inv.1 (omega arith) c.byte_at.ensures)
-
 pub returns : goal.returns
-returns c = filled_end 0 _ _ 64 _ _ c.loop-i.invariant.1 (λ k h i. absurd (omega arith))
+returns c = made_of _ _ _ _ 0 (λ x y q called. search rules) 64 c.from_fn.ensures.items

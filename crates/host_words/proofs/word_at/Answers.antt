@@ -1,8 +1,7 @@
--- `host_words::word_at` meets its contract: what is not lent reads as 0.
+-- `host_words::word_at` meets its contract: the word, or 0.
 -- Assumes nothing.
-use Rattle.host_words.proofs.InputLaws.{past}
-use borrow.Author.Rules.{rules}
+use Rattle.std.proofs.Common.{ap, ◌∙◌, unwrap_or, arith}
 use Rattle.host_words.proofs.word_at.Goals as goal
 
 pub returns : goal.returns
-returns c = search (rules, past)
+returns c = c.unwrap_or.ensures ∙ ap (λ o. unwrap_or o 0) c.copied.ensures ∙ c.get.ensures.lookup.4 (omega arith) 0

@@ -16,6 +16,6 @@ returns-clause-answer c = record {
 
 pub returns-clause-cuttings : goal.returns-clause-cuttings
 returns-clause-cuttings c =
-    let fixed : Sound c.args.board.fixed = record { s0 = search (rules, c.well_formed); s1 = search (rules, c.well_formed); s2 = search (rules, c.well_formed); s3 = search (rules, c.well_formed) } in
-    let laid : Sound c.args.board.laid = record { s0 = search (rules, c.well_formed); s1 = search (rules, c.well_formed); s2 = search (rules, c.well_formed); s3 = search (rules, c.well_formed) } in
+    let fixed : Sound c.args.board.fixed = search (rules, c.well_formed) in
+    let laid : Sound c.args.board.laid = search (rules, c.well_formed) in
     counts_cuttings _ fixed laid _ _ _ _ _ _ _ _ _ _ (returns-clause-answer c)

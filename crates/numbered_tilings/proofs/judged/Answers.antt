@@ -1,9 +1,7 @@
 -- `numbered_tilings::judged` meets its contract: the tests stand in the order of the refusals, and a graph without a cause of 11 lets the list be walked.
 -- Assumes nothing.
-use mathlib.Core.Path.{◌≡◌, sym, ◌∙◌}
-use mathlib.Core.Bool.{false}
-use Rattle.numbered_tilings.specs.Tilings.{bad_graph}
-use Rattle.numbered_tilings.proofs.WalkLoops.{walkable, answers_bad, answers_none, answers_short, answers_given}
+use Rattle.std.proofs.Common.{sym, ◌∙◌}
+use Rattle.numbered_tilings.proofs.WalkLoops.{edges_lent_lem, walkable, answers_bad, answers_none, answers_short, answers_given}
 use borrow.Author.Tests.{ltb-true, ltb-false}
 use Rattle.numbered_tilings.proofs.judged.Goals as goal
 
@@ -12,26 +10,23 @@ returns-then-is_bad_graph c = answers_bad _ _ _ _ _ _ (sym c.is_bad_graph.ensure
 
 pub returns-then-not-less : goal.returns-then-not-less
 returns-then-not-less c =
-    let sound : let args = c.args in bad_graph args.graph args.nodes args.counts.now args.edges.now ≡ false = sym c.is_bad_graph.ensures ∙ c.if-is_bad_graph.false in
-    answers_none _ _ _ _ _ (sound) _ c.count_tilings_from_graph-count.ensures _
+    answers_none _ _ _ _ _ (sym c.is_bad_graph.ensures ∙ c.if-is_bad_graph.false) _ c.count_tilings_from_graph-count.ensures _
     (ltb-false _ _ (sym c.less.ensures ∙ c.if-not-less.true))
+
+pub invariant_of-words : goal.invariant_of-words
+invariant_of-words c = record { lent = edges_lent_lem _ _ _ _ 0 (sym c.is_bad_graph.ensures ∙ c.if-is_bad_graph.false) }
 
 pub list_length-size-requires : goal.list_length-size-requires
 list_length-size-requires c =
-    let sound : let args = c.args in bad_graph args.graph args.nodes args.counts.now args.edges.now ≡ false = sym c.is_bad_graph.ensures ∙ c.if-is_bad_graph.false in
-    walkable _ _ _ _ _ (sound) _ c.count_tilings_from_graph-count.ensures
-    (ltb-true _ _ (sym c.less.ensures ∙ c.if-not-less.false)) _ c.last_node-last.ensures
+    walkable _ _ _ _ _ (sym c.is_bad_graph.ensures ∙ c.if-is_bad_graph.false) _ c.count_tilings_from_graph-count.ensures
+    (ltb-true _ _ (sym c.less.ensures ∙ c.if-not-less.false)) _ c.unwrap_or.ensures
 
 pub returns-then-room-size : goal.returns-then-room-size
 returns-then-room-size c =
-    let sound : let args = c.args in bad_graph args.graph args.nodes args.counts.now args.edges.now ≡ false = sym c.is_bad_graph.ensures ∙ c.if-is_bad_graph.false in
-    answers_short _ _ _ _ _ (sound) _ c.count_tilings_from_graph-count.ensures
-    (ltb-true _ _ (sym c.less.ensures ∙ c.if-not-less.false)) _ c.last_node-last.ensures _ _ c.list_length-size.ensures
-    c.if-room-size.true
+    answers_short _ _ _ _ _ (sym c.is_bad_graph.ensures ∙ c.if-is_bad_graph.false) _ c.count_tilings_from_graph-count.ensures
+    (ltb-true _ _ (sym c.less.ensures ∙ c.if-not-less.false)) _ c.unwrap_or.ensures _ _ c.list_length-size.ensures c.if-room-size.true
 
 pub returns : goal.returns
 returns c =
-    let sound : let args = c.args in bad_graph args.graph args.nodes args.counts.now args.edges.now ≡ false = sym c.is_bad_graph.ensures ∙ c.if-is_bad_graph.false in
-    answers_given _ _ _ _ _ (sound) _ c.count_tilings_from_graph-count.ensures
-    (ltb-true _ _ (sym c.less.ensures ∙ c.if-not-less.false)) _ c.last_node-last.ensures _ _ c.list_length-size.ensures
-    c.if-room-size.false
+    answers_given _ _ _ _ _ (sym c.is_bad_graph.ensures ∙ c.if-is_bad_graph.false) _ c.count_tilings_from_graph-count.ensures
+    (ltb-true _ _ (sym c.less.ensures ∙ c.if-not-less.false)) _ c.unwrap_or.ensures _ _ c.list_length-size.ensures c.if-room-size.false

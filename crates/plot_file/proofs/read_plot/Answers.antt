@@ -1,35 +1,15 @@
--- `plot_file::read_plot` meets its contract. A turn of the loop reads the record at the reader's position. It ends with the position and the plot so far in the
--- place of those before (`Going`), and the position behind where it was; or it returns.
+-- `plot_file::read_plot` meets its contract: the plot of the records, or their refusal with the 0 by 0 board and no tiles.
 -- Assumes nothing.
-use Rattle.std.proofs.Common.{ap, arith}
-use Rattle.plot_file.proofs.StepLaws.{going_first, going_on, going_end, going_refused, plot_is}
+use Rattle.std.proofs.Common.{refl, ap}
+use Rattle.refusal.specs.Refusal.{map_answer, refusal_of, value_or}
+use Rattle.plot_file.specs.PlotFile.{Plot}
 use Rattle.plot_file.proofs.read_plot.Goals as goal
 
-pub loop-place-init : goal.loop-place-init
-loop-place-init c =
-    (ap (λ s. s.now) c.new-reader.ensures.0, rw c.new-reader.ensures.1 (going_first _ _ c.no_plot-plot.ensures.1))
+pub returns-in-Ok : goal.returns-in-Ok
+unfolding map_answer refusal_of value_or
+returns-in-Ok c = rw (← c.in-Ok.ensures) (record { verdict = refl; board = refl; tiles = c.in-Ok.field-0.kept.is })
 
-pub next_record-step-requires : goal.next_record-step-requires
-next_record-step-requires c =
-    (rw c.loop-place.invariant.0 c.loop-place.invariant.1.inside, c.loop-place.invariant.1.kept)
-
-pub loop-place-smaller : goal.loop-place-smaller
-loop-place-smaller c =
-    let read = rw c.loop-place.invariant.0 at c.next_record-step.ensures in
-    let on = going_on _ _ _ _ c.loop-place.invariant.1 read c.in-At.place c.in-At.is in
-    omega (arith, on.0.inside, on.1)
-
-pub loop-place-preserved : goal.loop-place-preserved
-loop-place-preserved c =
-    let read = rw c.loop-place.invariant.0 at c.next_record-step.ensures in
-    (c.loop-place.invariant.0, (going_on _ _ _ _ c.loop-place.invariant.1 read c.in-At.place c.in-At.is).0)
-
-pub returns-in-End : goal.returns-in-End
-returns-in-End c =
-    let read = rw c.loop-place.invariant.0 at c.next_record-step.ensures in
-    plot_is _ _ _ (going_end _ _ _ _ c.loop-place.invariant.1 read c.in-End.is) c.made.ensures
-
-pub returns-in-Refused : goal.returns-in-Refused
-returns-in-Refused c =
-    let read = rw c.loop-place.invariant.0 at c.next_record-step.ensures in
-    plot_is _ _ _ (going_refused _ _ _ _ c.loop-place.invariant.1 read c.in-Refused.refusal c.in-Refused.is) c.unread.ensures
+pub returns-in-Err : goal.returns-in-Err
+unfolding map_answer refusal_of value_or
+returns-in-Err c =
+    rw (← c.in-Err.ensures) (record { verdict = refl; board = ap (λ (p : Plot). p.board) c.no_plot.ensures.0; tiles = c.no_plot.ensures.1 })

@@ -5,7 +5,7 @@ use borrow.Author.Rules.{rules}
 use Rattle.single_tiling.proofs.get_single_tiling.Goals as goal
 
 pub search-requires : goal.search-requires
-search-requires c = judged_free _ _ _ _ c.judge-judged.ensures _ c.in-Number.is (search rules)
+search-requires c = judged_free _ _ _ _ c.judge-judged.ensures _ c.in-Ok.is (search rules)
 
-pub returns-in-Refused : goal.returns-in-Refused
-returns-in-Refused c = gets_refused _ _ _ _ _ (judged_refused _ _ _ _ c.judge-judged.ensures _ c.in-Refused.is) c.clear_from.ensures
+pub returns-in-Err : goal.returns-in-Err
+returns-in-Err c = gets_refused _ _ _ _ _ (judged_refused _ _ _ _ c.judge-judged.ensures _ c.in-Err.is) c.clear_from.ensures

@@ -4,6 +4,8 @@ use mathlib.Core.Path.{sym, subst}
 use Prim.Native.Nat.{ℕ, ◌≤◌}
 use Rattle.board.proofs.SoundLaws.{board_sound}
 use Rattle.rectangle.proofs.FreeLaws.{free_le}
+use Rattle.refusal.specs.RefusalLaws.{is_ok_given}
+use Rattle.single_tiling.proofs.JudgeLaws.{single_told, single_is}
 use Rattle.single_tiling.proofs.SearchLaws.{searched_held, walk_full, walk_no_sum, walk_first}
 use Rattle.single_tiling.proofs.walk.Goals as goal
 
@@ -20,10 +22,13 @@ returns-then-not-is_sum c =
     let sound = board_sound _ c.well_formed.0 in
     walk_no_sum _ sound.0 sound.1 _ _ _ c.requires _ _ c.if-not-is_sum.true c.is_sum.ensures
 
+pub unwrap-single-requires : goal.unwrap-single-requires
+unwrap-single-requires c = is_ok_given _ _ (single_told _ c.requires.tiles _ c.contains_single_tile.ensures)
+
 pub descend-requires : goal.descend-requires
 descend-requires c =
     let sound = board_sound _ c.well_formed.0 in
-    searched_held _ sound.0 sound.1 _ _ _ c.requires _ c.has_single-single.ensures
+    searched_held _ sound.0 sound.1 _ _ _ c.requires _ (single_is _ c.requires.tiles _ c.contains_single_tile.ensures _ c.unwrap-single.ensures)
 
 pub returns : goal.returns
 returns c =

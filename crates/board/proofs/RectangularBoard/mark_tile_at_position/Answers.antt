@@ -4,4 +4,4 @@ use Rattle.board.proofs.MadeLaws.{lay_parts}
 use Rattle.board.proofs.RectangularBoard.mark_tile_at_position.Goals as goal
 
 pub returns : goal.returns
-returns c = lay_parts _ _ _ _ c.of_words.ensures.0 c.union-self.ensures
+returns c = lay_parts c.args.self _ _ c.union-self.ensures

@@ -1,13 +1,8 @@
-use mathlib.Core.Path.{◌≡◌}
-use mathlib.Core.Bool.{true}
-use Prim.Native.Nat.{◌-◌, ◌≤◌}
+use Rattle.std.proofs.Common.{◌≡◌, true}
 use Rattle.cells.specs.Lists.{all_below}
 use Rattle.rectangle.specs.Board.{mark_ok}
 use Rattle.board.specs.Board.{board_of}
 use Rattle.board.proofs.shape.marks_ok.Given as goal
 
 abbrev pub invariant-loop-cell : goal.invariant-loop-cell
-invariant-loop-cell l = (l.cell ≤ 256) × (all_below (mark_ok (board_of l.board)) l.cell ≡ true)
-
-abbrev pub decreases-loop-cell : goal.decreases-loop-cell
-decreases-loop-cell l = 256 - l.cell
+invariant-loop-cell l = all_below (mark_ok (board_of l.board)) l.cell ≡ true

@@ -1,17 +1,22 @@
--- `board::shape::shape_marks` meets its contract: the cells are added in order.
+-- `board::shape::shape_marks` meets its contract: the set is filled in the order of its cells.
 -- Assumes nothing.
-use mathlib.Core.Path.{◌∙◌}
-use borrow.Author.Rules.{rules}
-use native.Mathlib.Omega.{arith}
+use Rattle.std.proofs.Common.{Bool, cond, ap, ◌∙◌, arith}
+use Rattle.cells.specs.Set.{number, with_cell}
 use Rattle.cells.specs.ListLaws.{value_none}
 use Rattle.board.proofs.ShapeLaws.{filled_none, filled_more, filled_all}
 use Rattle.board.proofs.shape.shape_marks.Goals as goal
+use Rattle.board.proofs.shape.shape_marks.Goals.{then-is_shape_mark, else-is_shape_mark}
 
 pub loop-cell-init : goal.loop-cell-init
-loop-cell-init c = (search rules, filled_none _ _ (c.of_words-set.ensures.0 ∙ value_none))
+loop-cell-init c = filled_none _ _ (c.of_words-set.ensures.0 ∙ value_none)
 
 pub loop-cell-preserved : goal.loop-cell-preserved
-loop-cell-preserved c = (omega arith, filled_more _ _ _ _ _ c.loop-cell-test.true c.loop-cell.invariant.1 c.is_shape_mark.ensures c.with_cell_if-set.ensures)
+loop-cell-preserved c =
+    let l = c.loop-cell in
+    elim c.if-is_shape_mark.branch [
+      | then-is_shape_mark w ↦ filled_more _ (number l.set) _ _ c.loop-cell-test.true l.invariant (ap number w.set-is ∙ w.with_cell-set.ensures ∙ ap (λ (t : Bool). cond t (with_cell (number l.set) l.cell) (number l.set)) w.if-is_shape_mark.ensures)
+      | else-is_shape_mark w ↦ filled_more _ (number l.set) _ _ c.loop-cell-test.true l.invariant (ap number w.set-is ∙ ap (λ (t : Bool). cond t (with_cell (number l.set) l.cell) (number l.set)) w.if-is_shape_mark.ensures)
+    ]
 
 pub returns : goal.returns
-returns c = filled_all _ _ _ c.loop-cell.invariant.1 c.loop-cell.invariant.0 c.loop-cell-test.false
+returns c = filled_all _ _ _ c.loop-cell.invariant (omega arith) c.loop-cell-test.false

@@ -6,7 +6,4 @@ use Rattle.board.proofs.ShapeLaws.{bits}
 use Rattle.board.proofs.shape.shape_marks.Given as goal
 
 abbrev pub invariant-loop-cell : goal.invariant-loop-cell
-invariant-loop-cell l = (l.cell ≤ 256) × (number l.set ≡ from_bits l.cell (bits (shape_mark l.width l.height l.rows l.low l.high)))
-
-abbrev pub decreases-loop-cell : goal.decreases-loop-cell
-decreases-loop-cell l = 256 - l.cell
+invariant-loop-cell l = number l.set ≡ from_bits l.cell (bits (shape_mark l.width l.height l.rows l.low l.high))

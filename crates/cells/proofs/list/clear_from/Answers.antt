@@ -1,25 +1,13 @@
--- `cells::list::clear_from` meets its contract: the words are set to zero in order.
+-- `cells::list::clear_from` meets its contract: zeros are written behind the place.
 -- Assumes nothing.
-use Rattle.cells.specs.ArrayLaws.{filled_step}
-use Rattle.cells.proofs.ListLoops.{cleared_start, cleared_zero, cleared_end}
-use borrow.Author.Rules.{rules}
+use Rattle.std.proofs.Common.{rules, ◌∙◌, ap}
+use lib.ListN.{replicate}
 use native.Mathlib.Omega.{arith}
+use Rattle.cells.proofs.ListLoops.{cleared_filled, cleared_none}
 use Rattle.cells.proofs.list.clear_from.Goals as goal
 
-pub loop-i-init : goal.loop-i-init
-loop-i-init c = (search rules, cleared_start _ _)
+pub returns-then-from-words : goal.returns-then-from-words
+returns-then-from-words c = cleared_filled _ _ _ c.if-from-words.true (c.fill.ensures.after (λ y e. e) ∙ ap (λ n. replicate n 0) (search rules))
 
-pub bounds-words-i : goal.bounds-words-i
-bounds-words-i c = omega (arith, c.loop-i.invariant.1.long)
-
-pub loop-i-smaller : goal.loop-i-smaller
-loop-i-smaller c = omega (arith, c.loop-i.invariant.1.long)
-
-pub loop-i-preserved : goal.loop-i-preserved
-loop-i-preserved c = (omega arith, filled_step 0 _ _ _ _ _ 0 c.loop-i.invariant.1 (omega (arith, c.loop-i.invariant.1.long)) (cleared_zero _ _ _ c.loop-i.invariant.0))
-
-pub shape_of-words : goal.shape_of-words
-shape_of-words c = c.loop-i.invariant.1.long
-
-pub returns : goal.returns
-returns c = cleared_end _ _ _ _ c.loop-i.invariant.1 (omega (arith, c.loop-i.invariant.1.long))
+pub returns-else-from-words : goal.returns-else-from-words
+returns-else-from-words c = cleared_none _ _ (omega (arith, c.if-from-words.false))

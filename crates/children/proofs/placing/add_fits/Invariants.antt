@@ -1,8 +1,4 @@
-use mathlib.Core.Path.{◌≡◌}
-use mathlib.Core.List.{List}
-use Prim.Native.Nat.{ℕ, ◌+◌, ◌-◌, ◌≤◌}
-use lib.Dec.{eqb}
-use lib.ListN.{length}
+use Rattle.std.proofs.Common.{◌≡◌, ℕ, List, eqb, length}
 use Rattle.cells.specs.Lists.{add_firsts}
 use Rattle.board.specs.Board.{board_of}
 use Rattle.children.specs.Inner.{Keeps}
@@ -10,7 +6,4 @@ use Rattle.children.proofs.PlacingLaws.{point_children}
 use Rattle.children.proofs.placing.add_fits.Given as goal
 
 abbrev pub invariant-loop-point : goal.invariant-loop-point
-invariant-loop-point l = (l.point ≤ length l.path + 1) × (length l.out ≡ length l.initial.out) × ((ns : List ℕ) → Keeps ns l.initial.out l.initial.state → Keeps (add_firsts eqb ns (point_children (board_of l.board) l.cell l.path l.point)) l.out l.state)
-
-abbrev pub decreases-loop-point : goal.decreases-loop-point
-decreases-loop-point l = length l.path + 1 - l.point
+invariant-loop-point l = (length l.out ≡ length l.initial.out) × ((ns : List ℕ) → Keeps ns l.initial.out l.initial.state → Keeps (add_firsts eqb ns (point_children (board_of l.board) l.cell l.path l.point)) l.out l.state)

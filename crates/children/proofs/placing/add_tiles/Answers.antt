@@ -1,17 +1,14 @@
 -- `children::placing::add_tiles` meets its contract: the tiles are put down in order.
 -- Assumes nothing.
-use mathlib.Core.Path.{◌≡◌, refl, sym, subst}
+use Rattle.std.proofs.Common.{◌≡◌, length, refl, sym, subst, arith, rules}
 use mathlib.Core.Bool.{So}
-use lib.ListN.{length}
-use borrow.Author.Rules.{rules}
-use native.Mathlib.Omega.{arith}
 use Rattle.tiles.specs.ReadLaws.{sound_tile}
 use Rattle.tile.specs.Path.{Path, is_path}
 use Rattle.children.proofs.PlacingLaws.{keeps_none, tiles_none, tiles_more, tiles_all, part_path, part_sound}
 use Rattle.children.proofs.placing.add_tiles.Goals as goal
 
 pub loop-i-init : goal.loop-i-init
-loop-i-init c = (search rules, refl, tiles_none _ _ _ _ _ _ (keeps_none _))
+loop-i-init c = (refl, tiles_none _ _ _ _ _ _ (keeps_none _))
 
 pub overflow_add-end : goal.overflow_add-end
 overflow_add-end c = let short = (sound_tile _ c.requires.2 _ c.loop-i-test.true).0 in let few = c.requires.3 in omega arith
@@ -23,10 +20,7 @@ pub add_fits-state-requires : goal.add_fits-state-requires
 add_fits-state-requires c = (c.requires.0, c.requires.1, subst (λ (p : Path). So (is_path p)) (sym (part_path c.args.tiles.lens c.args.tiles.codes c.loop-i.i)) (part_sound _ c.requires.2 _ c.loop-i-test.true))
 
 pub loop-i-preserved : goal.loop-i-preserved
-loop-i-preserved c = (omega arith, search rules, tiles_more _ _ _ _ _ _ _ _ (part_path c.args.tiles.lens c.args.tiles.codes c.loop-i.i) (c.add_fits-state.ensures _ c.loop-i.invariant.2))
-
-pub shape_of-out : goal.shape_of-out
-shape_of-out c = c.loop-i.invariant.1
+loop-i-preserved c = (search rules, tiles_more _ _ _ _ _ _ _ _ (part_path c.args.tiles.lens c.args.tiles.codes c.loop-i.i) (c.add_fits-state.ensures _ c.loop-i.invariant.1))
 
 pub returns : goal.returns
-returns c = tiles_all _ _ _ _ _ _ _ _ c.loop-i.invariant.0 c.loop-i-test.false c.loop-i.invariant.2
+returns c = tiles_all _ _ _ _ _ _ _ _ (omega arith) c.loop-i-test.false c.loop-i.invariant.1

@@ -1,11 +1,7 @@
-use Prim.Native.Nat.{◌-◌, ◌≤◌}
 use Rattle.cells.specs.Set.{number}
 use Rattle.cells.specs.ArrayLaws.{Filled}
 use Rattle.choice.specs.Choice.{neighbour_count}
 use Rattle.choice.proofs.counts.neighbour_counts.Given as goal
 
 abbrev pub invariant-loop-cell : goal.invariant-loop-cell
-invariant-loop-cell l = (l.cell ≤ 256) × Filled 0 (neighbour_count l.width l.height (number l.laid)) (λ k. 0) 256 l.cell l.counts
-
-abbrev pub decreases-loop-cell : goal.decreases-loop-cell
-decreases-loop-cell l = 256 - l.cell
+invariant-loop-cell l = Filled 0 (neighbour_count l.width l.height (number l.laid)) (λ k. 0) 256 l.cell l.counts

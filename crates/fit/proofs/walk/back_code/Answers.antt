@@ -1,10 +1,14 @@
 -- `fit::walk::back_code` meets its contract: a code 0 to 7 has its opposite, and is not refused.
 -- Assumes nothing.
-use Rattle.fit.proofs.WalkLaws.{told_back, told_back_no_refusal}
+use Rattle.std.proofs.Common.{sym, ap, ◌∙◌}
+use Rattle.refusal.specs.Refusal.{answer_of}
+use Rattle.refusal.specs.RefusalLaws.{is_ok_given}
+use Rattle.direction.specs.DirectionLaws.{on_code_given}
+use Rattle.fit.proofs.WalkLaws.{told_back}
 use Rattle.fit.proofs.walk.back_code.Goals as goal
 
-pub returns-in-Is : goal.returns-in-Is
-returns-in-Is c = told_back _ _ c.opposite-answer.ensures c.requires _ c.in-Is.is
+pub unwrap-requires : goal.unwrap-requires
+unwrap-requires c = is_ok_given _ _ (c.opposite.ensures ∙ on_code_given _ _ c.requires)
 
-pub returns-in-Refused : goal.returns-in-Refused
-returns-in-Refused c = absurd (told_back_no_refusal _ _ c.opposite-answer.ensures c.requires _ c.in-Refused.is)
+pub returns : goal.returns
+returns c = told_back _ _ c.requires (sym (ap answer_of c.unwrap.ensures) ∙ c.opposite.ensures)

@@ -1,28 +1,19 @@
 -- `fit::walk::tile_fits_at_position` meets its contract: the place itself, the walk back and the walk on cover what the tile's cells do.
 -- Assumes nothing.
-use mathlib.Core.Path.{sym, ◌∙◌}
+use Rattle.std.proofs.Common.{sym, ◌∙◌}
 use Rattle.fit.proofs.WalkLaws.{fit_marked, fit_stops, fit_goes}
 use Rattle.fit.proofs.walk.tile_fits_at_position.Goals as goal
 
 pub returns-then-has_cell : goal.returns-then-has_cell
 returns-then-has_cell c =
-    fit_marked _ _ _ _ _ _ _ c.requires.2 c.requires.3 c.requires.4 (sym c.has_cell.ensures ∙ c.if-has_cell.true)
+    fit_marked _ _ _ _ _ _ _ c.requires.2 c.requires.3 c.requires.4 (sym c.if-has_cell.ensures)
 
-pub returns-in_default : goal.returns-in_default
-returns-in_default c =
-    fit_stops _ _ _ _ _ _ _ c.requires.2 c.requires.3 c.requires.4
-    (sym c.has_cell.ensures ∙ c.if-has_cell.false) _ _
-    c.of_words.ensures.0
-    c.with_cell-first.ensures _
-    c.walk_back-behind.ensures c.in_default.is
+pub returns-in_err-behind : goal.returns-in_err-behind
+returns-in_err-behind c =
+    rw c.from_residual.ensures
+    (fit_stops _ _ _ _ _ _ _ c.requires.2 c.requires.3 c.requires.4 (sym c.if-has_cell.ensures) _ _ c.of_words.ensures.0 c.with_cell-first.ensures _ c.walk_back.ensures c.in_err-behind.was)
 
 pub returns : goal.returns
 returns c =
-    fit_goes _ _ _ _ _ _ _ c.requires.2 c.requires.3 c.requires.4
-    (sym c.has_cell.ensures
-    ∙ c.if-has_cell.false) _ _
-    c.of_words.ensures.0
-    c.with_cell-first.ensures _
-    c.walk_back-behind.ensures _ _ _ _
-    c.in-Piece.is _
-    c.of_words-set.ensures.0 _ c.walk_on.ensures
+    c.walk_on.ensures
+    ∙ fit_goes _ _ _ _ _ _ _ c.requires.2 c.requires.3 c.requires.4 (sym c.if-has_cell.ensures) _ _ c.of_words.ensures.0 c.with_cell-first.ensures _ c.walk_back.ensures _ c.in_ok-behind.was

@@ -1,5 +1,4 @@
 use lib.IntN.{pos}
-use lib.ListN.{length}
 use Rattle.cells.specs.Set.{number}
 use Rattle.direction.specs.Direction.{at}
 use Rattle.rectangle.specs.Parts.{free_in}
@@ -9,9 +8,6 @@ use Rattle.fit.proofs.WalkLaws.{Walking}
 use Rattle.fit.proofs.walk.walk_back.Given as goal
 
 abbrev pub invariant-loop-i : goal.invariant-loop-i
-invariant-loop-i l = Walking (cover (free_in l.width l.height (number l.marks)) (number l.initial.covered) (back (at (pos l.initial.r) (pos l.initial.c)) l.path l.initial.i))
-    (cover (free_in l.width l.height (number l.marks)) (number l.covered) (back (at (pos l.r) (pos l.c)) l.path l.i))
-    l.width l.height l.r l.c l.i (length l.path)
-
-abbrev pub decreases-loop-i : goal.decreases-loop-i
-decreases-loop-i l = l.i
+invariant-loop-i l = Walking (cover (free_in l.width l.height (number l.marks)) (number l.fn.set) (back (at (pos l.row) (pos l.col)) l.path l.start))
+    (cover (free_in l.width l.height (number l.marks)) (number l.covered) (back (at (pos l.place.0) (pos l.place.1)) l.path l.i))
+    l.width l.height l.place.0 l.place.1

@@ -3,8 +3,8 @@
 use Rattle.host_counts.proofs.ToldLaws.{result_node, result_none}
 use Rattle.host_counts.proofs.calls.accept_graph.Goals as goal
 
-pub returns-in-Node : goal.returns-in-Node
-returns-in-Node c = result_node _ _ _ c.in-Node.is c.accept.ensures
+pub returns-in-Some : goal.returns-in-Some
+returns-in-Some c = result_node _ _ _ c.in-Some.is c.accept.ensures
 
-pub returns-in-Nothing : goal.returns-in-Nothing
-returns-in-Nothing c = result_none _ _ _ c.in-Nothing.is c.accept-in-Nothing.ensures
+pub returns-in-None : goal.returns-in-None
+returns-in-None c = result_none _ _ _ c.in-None.is c.accept-in-None.ensures

@@ -3,10 +3,8 @@
 use Rattle.host_plots.proofs.ToldLaws.{orbit_told, orbit_refused}
 use Rattle.host_plots.proofs.calls.orbit.Goals as goal
 
-pub returns-in-Accepted : goal.returns-in-Accepted
-returns-in-Accepted c =
-    orbit_told _ _ c.orbit-made.ensures c.args.tiles.now _ _ _ c.put_tiles.ensures _ c.in-Accepted.is c.accept.ensures
+pub returns-in-Ok : goal.returns-in-Ok
+returns-in-Ok c = orbit_told _ _ c.orbit.ensures c.args.tiles.now _ _ _ _ _ c.in-Ok.is c.put_tiles.ensures c.accept.ensures
 
-pub returns-in-Refused : goal.returns-in-Refused
-returns-in-Refused c =
-    orbit_refused _ _ c.orbit-made.ensures c.args.tiles.now _ _ _ c.put_tiles.ensures _ _ c.in-Refused.is c.refuse.ensures
+pub returns-in-Err : goal.returns-in-Err
+returns-in-Err c = orbit_refused _ _ c.orbit.ensures c.args.tiles.now _ _ _ _ _ c.in-Err.is _ c.new.ensures c.put_tiles-in-Err.ensures c.refuse.ensures

@@ -3,16 +3,16 @@
 use Rattle.host_tilings.proofs.ToldLaws.{list_told, list_refused, gives_number}
 use Rattle.host_tilings.proofs.calls.tiling.Goals as goal
 
-pub returns-in-Length : goal.returns-in-Length
-returns-in-Length c =
-    let list = c.tiling_by_number-list.result in
-    let handed = gives_number c.args.graph c.args.nodes.now c.args.counts.now c.args.edges.now c.args.m.now c.args.out.now _ list _ c.requires c.of_words-number.ensures c.tiling_by_number-list.ensures.answer in
+pub returns-in-Ok : goal.returns-in-Ok
+returns-in-Ok c =
+    let list = c.tiling_by_number.result in
+    let handed = gives_number c.args.graph c.args.nodes.now c.args.counts.now c.args.edges.now c.args.m.now c.args.out.now _ list _ c.requires c.of_words-number.ensures c.tiling_by_number.ensures.answer in
     list_told c.args.graph c.args.nodes.now c.args.counts.now c.args.edges.now c.args.m.now c.args.out.now _ _ _ list handed
-    (λ i. (c.type_inv.counts i).fits) _ _ c.in-Length.is c.accept.ensures
+    (λ i. (c.type_inv.counts i).fits) _ _ c.in-Ok.is c.accept.ensures
 
-pub returns-in-Refused : goal.returns-in-Refused
-returns-in-Refused c =
-    let list = c.tiling_by_number-list.result in
-    let handed = gives_number c.args.graph c.args.nodes.now c.args.counts.now c.args.edges.now c.args.m.now c.args.out.now _ list _ c.requires c.of_words-number.ensures c.tiling_by_number-list.ensures.answer in
+pub returns-in-Err : goal.returns-in-Err
+returns-in-Err c =
+    let list = c.tiling_by_number.result in
+    let handed = gives_number c.args.graph c.args.nodes.now c.args.counts.now c.args.edges.now c.args.m.now c.args.out.now _ list _ c.requires c.of_words-number.ensures c.tiling_by_number.ensures.answer in
     list_refused c.args.graph c.args.nodes.now c.args.counts.now c.args.edges.now c.args.m.now c.args.out.now _ _ _ list handed
-    (λ i. (c.type_inv.counts i).fits) _ _ c.in-Refused.is c.refuse.ensures
+    (λ i. (c.type_inv.counts i).fits) _ _ c.in-Err.is c.refuse.ensures

@@ -1,12 +1,7 @@
-use mathlib.Core.Path.{◌≡◌}
-use mathlib.Core.Bool.{false}
-use Prim.Native.Nat.{ℕ, ◌-◌, ◌≤◌, ◌<◌}
+use Rattle.std.proofs.Common.{◌≡◌, ℕ, ◌<◌, false}
 use Rattle.graph.specs.Graph.{edge_at}
 use Rattle.numbered_tilings.specs.Tilings.{bad_edge}
 use Rattle.numbered_tilings.proofs.check.has_bad_edge.Given as goal
 
 abbrev pub invariant-loop-i : goal.invariant-loop-i
-invariant-loop-i l = (l.i ≤ l.count) × ((j : ℕ) → j < l.i → bad_edge l.n (edge_at l.edges j) ≡ false)
-
-abbrev pub decreases-loop-i : goal.decreases-loop-i
-decreases-loop-i l = l.count - l.i
+invariant-loop-i l = (j : ℕ) → j < l.i → bad_edge l.words.graph.nodes (edge_at l.words.edges.now j) ≡ false

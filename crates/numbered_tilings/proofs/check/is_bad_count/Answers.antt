@@ -6,5 +6,4 @@ use Rattle.numbered_tilings.proofs.check.is_bad_count.Goals as goal
 
 pub returns-then-v-eq0 : goal.returns-then-v-eq0
 returns-then-v-eq0 c =
-    let args = c.args in
-    first_told _ (count_in args.counts.now) _ _ _ c.if-v-eq0.true c.get.ensures c.of_words.ensures _ c.equal.ensures
+    first_told _ (count_in c.args.words.counts.now) _ _ _ c.if-v-eq0.true c.get.ensures c.of_words.ensures _ c.equal.ensures

@@ -5,7 +5,9 @@ use Rattle.numbered_tilings.proofs.WalkLoops.{Backfilled}
 use Rattle.numbered_tilings.proofs.walk.write_list.Given as goal
 
 abbrev pub invariant-loop-v : goal.invariant-loop-v
-invariant-loop-v l = Backfilled (list_of (edge_at l.edges) l.count) (count_in l.counts) l.n l.last (count_value l.initial.left) l.size l.initial.out l.v (count_value l.left) l.at l.out
+invariant-loop-v l =
+    let words = l.words in
+    Backfilled (list_of (edge_at words.edges.now) words.graph.edges) (count_in words.counts.now) words.graph.nodes l.last (count_value l.initial.left) l.size l.initial.out l.v (count_value l.left) l.at l.out
 
 abbrev pub decreases-loop-v : goal.decreases-loop-v
 decreases-loop-v l = l.v

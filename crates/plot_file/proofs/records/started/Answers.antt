@@ -1,11 +1,11 @@
--- `plot_file::records::started` meets its contract: the verdict decides.
+-- `plot_file::records::started` meets its contract: no tiles, and where to go on.
 -- Assumes nothing.
-use mathlib.Core.Path.{refl}
-use Rattle.plot_file.proofs.StepLaws.{steps_board, steps_no_board}
+use Rattle.plot_file.proofs.StepLaws.{starts}
+use Rattle.plot_file.proofs.TilesLaws.{none_clean}
 use Rattle.plot_file.proofs.records.started.Goals as goal
 
-pub returns-in-Accepted : goal.returns-in-Accepted
-returns-in-Accepted c = steps_board _ _ _ _ c.in-Accepted.is refl refl c.new.ensures
+pub invariant_of-result : goal.invariant_of-result
+invariant_of-result c = record { kept = none_clean _ c.new.ensures }
 
-pub returns-in-Refused : goal.returns-in-Refused
-returns-in-Refused c = steps_no_board _ _ _ _ _ c.in-Refused.is c.refuse.ensures
+pub returns : goal.returns
+returns c = starts _ _ _ c.new.ensures

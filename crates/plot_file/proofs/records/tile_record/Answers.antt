@@ -1,26 +1,19 @@
--- `plot_file::records::tile_record` meets its contract: the body decides, and then the room (`reads_tiles`).
+-- `plot_file::records::tile_record` meets its contract: the body decides, and then the room (`tile_added`).
 -- Assumes nothing.
-use Rattle.tile.specs.Path.{path_in}
-use Rattle.plot_file.proofs.ReadLaws.{tile_body_refused}
-use Rattle.plot_file.proofs.StepLaws.{body_path, body_not, reads_refused, reads_tiles}
+use Rattle.plot_file.proofs.StepLaws.{body_clean, body_path, tile_refused, tile_added}
 use Rattle.plot_file.proofs.TilesLaws.{for_clean}
 use Rattle.plot_file.proofs.records.tile_record.Goals as goal
 
+pub returns-in_err-tile : goal.returns-in_err-tile
+returns-in_err-tile c = tile_refused _ _ _ _ c.read_body.ensures _ _ c.in_err-tile.was c.from_residual.ensures.1
+
 pub tiles_for-requires : goal.tiles_for-requires
 tiles_for-requires c =
-    let read = c.read_body-body.ensures in
-    (read.tile, (body_path _ _ _ read c.in-Accepted.is).1)
+    let read = c.read_body.ensures in
+    (body_clean _ _ read _ _ c.in_ok-tile.was, (body_path _ _ read _ _ c.in_ok-tile.was).1)
 
 pub added-requires : goal.added-requires
-added-requires c =
-    let body = c.read_body-body in
-    let read = body.ensures in
-    (c.requires.1, for_clean c.args.whole (path_in body.result.tile) (body_path _ _ _ read c.in-Accepted.is).0 _ c.tiles_for.ensures)
+added-requires c = for_clean c.args.whole _ (body_path _ _ c.read_body.ensures _ _ c.in_ok-tile.was).0 _ c.tiles_for.ensures
 
-pub returns-in-Accepted : goal.returns-in-Accepted
-returns-in-Accepted c =
-    reads_tiles _ _ c.args.whole _ _ _ _ c.read_body-body.ensures c.in-Accepted.is c.tiles_for.ensures c.added.ensures
-
-pub returns-in-Refused : goal.returns-in-Refused
-returns-in-Refused c =
-    reads_refused _ _ _ _ _ (tile_body_refused _ _ _ _ (body_not _ _ _ c.read_body-body.ensures _ c.in-Refused.is)) c.refuse.ensures
+pub returns : goal.returns
+returns c = tile_added _ c.args.whole _ _ c.read_body.ensures _ _ _ c.in_ok-tile.was _ c.tiles_for.ensures c.added.ensures

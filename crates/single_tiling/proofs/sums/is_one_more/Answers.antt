@@ -1,36 +1,27 @@
 -- `single_tiling::sums::is_one_more` meets its contract: the sizes are tested in order.
 -- Assumes nothing.
-use mathlib.Core.Path.{sym}
-use native.Mathlib.Omega.{arith}
-use borrow.Author.Rules.{rules}
-use borrow.Author.Count.{below_none, below_more}
-use lib.ListN.{get_or}
-use Rattle.cells.specs.ArrayLaws.{any_list_of, none_list_of}
-use Rattle.single_tiling.proofs.SumSteps.{one_more, not_marked, too_large_lem}
+use Rattle.std.proofs.Common.{refl, sym, ◌∙◌}
+use Rattle.std.proofs.Math.Bool.{and-false}
+use Rattle.std.proofs.lemmas.Bool.{le-leb, lt-leb}
+use Rattle.cells.specs.FirstsLaws.{any_miss, any_hit, any_end}
 use Rattle.single_tiling.proofs.sums.is_one_more.Goals as goal
+use Rattle.single_tiling.proofs.sums.is_one_more.Goals.{else-size-n-via-then-size-n+else-table-n, else-size-n-via-else-size-n}
 
-pub loop-i-init : goal.loop-i-init
-loop-i-init c = (search rules, below_none _)
+pub loop-size-init : goal.loop-size-init
+loop-size-init c = refl
 
-pub returns-then-table-n-eq1 : goal.returns-then-table-n-eq1
-returns-then-table-n-eq1 c =
-    sym
-    (any_list_of _ _ _ _ c.loop-i-test.true
-    (one_more c.args.table.now c.args.n (get_or c.args.sizes.now c.loop-i.i 0) c.if-size-n.true c.if-table-n-eq1.true))
+pub returns-then-table-n : goal.returns-then-table-n
+returns-then-table-n c =
+    sym (c.loop-size.invariant ∙ any_hit _ _ _ 0 c.loop-size-test.true (rw (le-leb _ _ c.if-size-n.true, c.if-table-n.true)))
 
-pub loop-i-preserved-else-table-n-eq1 : goal.loop-i-preserved-else-table-n-eq1
-loop-i-preserved-else-table-n-eq1 c = (
-  search rules,
-  below_more _ _ c.loop-i.invariant.1
-      (not_marked c.args.table.now c.args.n (get_or c.args.sizes.now c.loop-i.i 0) c.if-table-n-eq1.false),
-)
-
-pub loop-i-preserved : goal.loop-i-preserved
-loop-i-preserved c = (
-  search rules,
-  below_more _ _ c.loop-i.invariant.1
-      (too_large_lem c.args.table.now c.args.n (get_or c.args.sizes.now c.loop-i.i 0) c.if-size-n.false),
-)
+pub loop-size-preserved : goal.loop-size-preserved
+loop-size-preserved c =
+    c.loop-size.invariant
+    ∙ any_miss _ _ _ 0 c.loop-size-test.true
+    (elim c.else-size-n.branch [
+      | else-size-n-via-then-size-n+else-table-n w ↦ rw (w.if-table-n.false) (and-false _)
+      | else-size-n-via-else-size-n w ↦ rw (lt-leb _ _ w.if-size-n.false)
+    ])
 
 pub returns : goal.returns
-returns c = let inv = c.loop-i.invariant in sym (none_list_of _ _ _ (λ k h. inv.1 k (omega arith)))
+returns c = sym (c.loop-size.invariant ∙ any_end _ _ _ 0 c.loop-size-test.false c.loop-size.auto.size-index-end)

@@ -1,12 +1,8 @@
-use mathlib.Core.Path.{◌≡◌}
-use mathlib.Core.Bool.{false, ◌&&◌}
-use Prim.Native.Nat.{ℕ, ◌-◌, ◌≤◌, ◌<◌}
-use lib.Dec.{eqb, leb}
-use lib.ListN.{get_or}
+use Rattle.std.proofs.Common.{◌≡◌, ℕ, false, ◌&&◌, ◌-◌, leb, get_or, drop}
+use Rattle.cells.specs.Lists.{any}
 use Rattle.single_tiling.proofs.sums.is_one_more.Given as goal
 
-abbrev pub invariant-loop-i : goal.invariant-loop-i
-invariant-loop-i l = (l.i ≤ l.count) × ((k : ℕ) → k < l.i → (leb (get_or l.sizes k 0) l.n && eqb (get_or l.table (l.n - get_or l.sizes k 0) 0) 1) ≡ false)
-
-abbrev pub decreases-loop-i : goal.decreases-loop-i
-decreases-loop-i l = l.count - l.i
+abbrev pub invariant-loop-size : goal.invariant-loop-size
+invariant-loop-size l =
+    any (λ (a : ℕ). leb a l.n && get_or l.table (l.n - a) false) l.sizes
+    ≡ any (λ (a : ℕ). leb a l.n && get_or l.table (l.n - a) false) (drop l.size-index l.sizes)

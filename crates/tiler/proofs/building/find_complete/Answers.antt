@@ -4,25 +4,19 @@ use mathlib.Core.Path.{sym, subst}
 use Rattle.expansion.specs.Boards.{From}
 use Rattle.cells.specs.SearchLaws.{missed_more}
 use Rattle.tiler.proofs.FinishLaws.{full_at_lem, complete_found, complete_none}
-use borrow.Author.Rules.{rules}
 use native.Mathlib.Omega.{arith}
 use Rattle.tiler.proofs.building.find_complete.Goals as goal
 
-pub loop-i-init : goal.loop-i-init
-loop-i-init c = (search rules, λ k a b. absurd (omega arith))
-
 pub is_full-requires : goal.is_full-requires
-is_full-requires c = subst (From _) (sym c.get.ensures) (c.requires _ c.loop-i-test.true)
+is_full-requires c = subst (From _) (sym c.get.ensures) (c.requires _ (omega arith))
 
 pub returns-then-is_full : goal.returns-then-is_full
 returns-then-is_full c =
-    complete_found _ _ c.loop-i.invariant.1 _ c.loop-i.invariant.0 c.loop-i-test.true
+    complete_found _ _ c.loop-i.invariant _ (omega arith) (omega arith)
     (full_at_lem c.args.board _ _ _ _ c.is_full.ensures c.get.ensures c.if-is_full.true)
 
 pub loop-i-preserved : goal.loop-i-preserved
-loop-i-preserved c =
-    let test = full_at_lem c.args.board _ _ _ _ c.is_full.ensures c.get.ensures c.if-is_full.false in
-    (omega (arith, c.loop-i.invariant.0), missed_more _ _ _ c.loop-i.invariant.1 test)
+loop-i-preserved c = missed_more _ _ _ c.loop-i.invariant (full_at_lem c.args.board _ _ _ _ c.is_full.ensures c.get.ensures c.if-is_full.false)
 
 pub returns : goal.returns
-returns c = complete_none _ _ c.loop-i.invariant.1 _ c.loop-i-test.false
+returns c = complete_none _ _ c.loop-i.invariant _ (omega arith)

@@ -7,25 +7,20 @@ use native.Mathlib.Omega.{arith}
 use Rattle.tiler.proofs.building.pass_edges.Goals as goal
 
 pub loop-i-init : goal.loop-i-init
-loop-i-init c = (search rules, refl, pass_none _ _ _ _ c.requires.2)
+loop-i-init c = (refl, pass_none _ _ _ _ c.requires.2)
 
-pub pass_edge-requires : goal.pass_edge-requires
-pass_edge-requires c = omega (arith, c.loop-i-test.true, c.requires.0)
-
--- t is what is known in the loop, s at the start
 pub returns-then-pass_edge : goal.returns-then-pass_edge
 returns-then-pass_edge c =
-    pass_large _ _ _ _ _ _ _ c.loop-i-test.true c.loop-i.invariant.2 (c.requires.1 _ c.loop-i-test.true) c.pass_edge.ensures c.if-pass_edge.true
+    pass_large _ _ _ _ _ _ _ (omega arith) c.loop-i.invariant.1 (c.requires.1 _ (omega arith)) c.pass_edge.ensures c.if-pass_edge.true
 
 pub loop-i-preserved : goal.loop-i-preserved
 loop-i-preserved c = (
-  omega arith,
   search rules,
-  pass_more _ _ _ _ _ _ _ c.loop-i-test.true c.loop-i.invariant.2 (c.requires.1 _ c.loop-i-test.true) c.pass_edge.ensures c.if-pass_edge.false,
+  pass_more _ _ _ _ _ _ _ (omega arith) c.loop-i.invariant.1 (c.requires.1 _ (omega arith)) c.pass_edge.ensures c.if-pass_edge.false,
 )
 
 pub shape_of-counts : goal.shape_of-counts
-shape_of-counts c = c.loop-i.invariant.1
+shape_of-counts c = c.loop-i.invariant.0
 
 pub returns : goal.returns
-returns c = pass_done _ _ _ _ _ c.loop-i.invariant.0 c.loop-i-test.false c.loop-i.invariant.2
+returns c = pass_done _ _ _ _ _ (omega arith) (omega arith) c.loop-i.invariant.1

@@ -1,12 +1,9 @@
--- `tiles::Tiles::with_tile` meets its contract: the count tells whether there is room (`adds_given`, `adds_refused`).
+-- `tiles::Tiles::with_tile` meets its contract: below 64 there is room (`with_tile_given`).
 -- Assumes nothing.
-use mathlib.Core.Path.{refl}
-use Rattle.tiles.proofs.MadeLaws.{adds_given, adds_refused}
-use native.Mathlib.Omega.{arith}
+use Rattle.std.proofs.Common.{ap, sym, ◌∙◌, arith}
+use Rattle.refusal.specs.Refusal.{given}
+use Rattle.tiles.specs.StoredLaws.{with_tile_given}
 use Rattle.tiles.proofs.Tiles.with_tile.Goals as goal
 
-pub returns-then-count-lt64 : goal.returns-then-count-lt64
-returns-then-count-lt64 c = adds_given c.args.self c.args.tile _ (omega arith) c.appended.ensures refl
-
 pub returns : goal.returns
-returns c = adds_refused _ _ _ c.if-count-lt64.false c.new.ensures refl
+returns c = ap given c.appended.ensures ∙ sym (with_tile_given c.args.self c.args.tile (omega arith))

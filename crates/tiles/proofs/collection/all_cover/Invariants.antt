@@ -1,11 +1,7 @@
-use mathlib.Core.Path.{◌≡◌}
-use Prim.Native.Nat.{ℕ, ◌≤◌, ◌<◌, ◌-◌}
+use Rattle.std.proofs.Common.{◌≡◌, ℕ, ◌<◌}
 use Rattle.tile.specs.Path.{cell_count}
 use Rattle.tiles.specs.Paths.{path_at}
 use Rattle.tiles.proofs.collection.all_cover.Given as goal
 
 abbrev pub invariant-loop-i : goal.invariant-loop-i
-invariant-loop-i l = (l.i ≤ l.count) × ((k : ℕ) → k < l.i → cell_count (path_at l.tiles.lens l.tiles.codes k) ≡ l.cells)
-
-abbrev pub decreases-loop-i : goal.decreases-loop-i
-decreases-loop-i l = l.count - l.i
+invariant-loop-i l = (k : ℕ) → k < l.i → cell_count (path_at l.tiles.lens l.tiles.codes k) ≡ l.cells

@@ -1,2 +1,0 @@
--- What belongs to no one function's proof.
-pub mod InputLaws

@@ -1,0 +1,9 @@
+-- `tile::codes::rotated` meets its contract: the answered code, or the code itself where it is no direction.
+-- Assumes nothing.
+use Rattle.std.proofs.Common.{◌∙◌}
+use Rattle.direction.specs.DirectionLaws.{rotate_past}
+use Rattle.tile.proofs.CodeLaws.{unwrap_or_on_code}
+use Rattle.tile.proofs.codes.rotated.Goals as goal
+
+pub returns : goal.returns
+returns c = c.unwrap_or.ensures ∙ unwrap_or_on_code _ _ _ c.rotate.ensures (rotate_past _)
