@@ -4,7 +4,7 @@ use Rattle.std.specs.Option.{ok_or}
 use mathlib.Core.Path.{◌≡◌, refl, sym, ap, ◌∙◌}
 use mathlib.Core.Bool.{true, false}
 use mathlib.Core.List.{List, []}
-use Prim.Native.Nat.{ℕ, ◌*◌, ◌/◌, ◌^◌, ◌≤◌, ◌<◌}
+use Prim.Native.Nat.{ℕ, ◌*◌, ◌/◌, ◌^◌, ◌<◌}
 use native.Mathlib.Omega.{arith}
 use borrow.Author.Tests.{le-leb, lt-leb}
 use lib.Dec.{leb}
@@ -19,7 +19,7 @@ use Rattle.refusal.specs.Refusal.{refused, given, map_answer, bind_answer, refus
 use Rattle.refusal.specs.RefusalLaws.{refused_of, refused_value}
 use Rattle.tiles.specs.declared.Tiles.{Tiles}
 use Rattle.tiles.specs.Paths.{paths_in, read_tiles}
-use Rattle.rectangle.specs.Board.{Board, valid}
+use Rattle.rectangle.specs.Board.{valid}
 use Rattle.rectangle.proofs.BoardLaws.{accept_board_given}
 use Rattle.board.specs.declared.RectangularBoard.{RectangularBoard}
 use Rattle.board.specs.Board.{board_of, read_board}

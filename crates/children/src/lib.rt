@@ -14,6 +14,8 @@ use tiles::Tiles;
 
 mod placing;
 
+use placing::{Parent, TestedTiles};
+
 // The children, four words each, both kinds of marks together. The words behind the last child are
 // zero, and all of them after a refusal: 4, 6, 5, and 8 for more children than the words hold.
 pub fn place_tile(board: RectangularBoard, tiles: Tiles, out: &mut [u64]) -> Result<usize, Refusal>
@@ -38,5 +40,10 @@ fn store_children(board: RectangularBoard, tiles: Tiles, out: &mut [u64]) -> Res
 {
     board.check()?;
     tiles.check()?;
-    placing::add_children(out, board, tiles).ok_or(Refusal::NoRoom)
+    let parent = Parent {
+        board,
+        marked: board.marks(),
+    };
+    let tested = TestedTiles { tiles };
+    placing::add_children(out, parent, tested).ok_or(Refusal::NoRoom)
 }

@@ -1,5 +1,4 @@
-// The children of a board, written into lent words in order, equal ones once. Private helpers; they
-// ask that board and tiles have been tested.
+// The children of a board, written into lent words in order, equal ones once. Private helpers.
 ghost use Rattle.std.specs.Prelude.{◌≡◌, true, not, ◌&&◌, List, [], map, ℕ, ◌≤◌, eqb, length};
 ghost use Rattle.std.proofs.Math.Bool.{So};
 ghost use Rattle.cells.specs.Lists.{add_new, add_firsts};
@@ -16,6 +15,23 @@ ghost use Rattle.children.specs.Inner.{child_of, fits_of_all, Keeps};
 use board::RectangularBoard;
 use cells::{Cells, list};
 use tiles::Tiles;
+
+// A board whose children are sought: it has been tested, and its marks of both kinds stand together.
+#[derive(Clone, Copy, Drop)]
+pub struct Parent {
+    pub board: RectangularBoard,
+    pub marked: Cells,
+    ghost sound: { valid (board_of board) ≡ true },
+    ghost both: { number marked ≡ marks (board_of board) },
+}
+
+// Tiles that have been tested.
+#[derive(Clone, Copy, Drop)]
+pub struct TestedTiles {
+    pub tiles: Tiles,
+    ghost sound: { read_tiles tiles ≡ given (paths_in tiles) },
+    ghost few: { tiles.count ≤ 64 },
+}
 
 // One child more, unless it is stored already.
 fn add_child(out: &mut [u64], stored: Option<usize>, child: Cells) -> Option<usize>
@@ -36,87 +52,80 @@ fn add_child(out: &mut [u64], stored: Option<usize>, child: Cells) -> Option<usi
 fn add_fit(
     out: &mut [u64],
     stored: Option<usize>,
-    board: RectangularBoard,
-    marked: Cells,
+    parent: Parent,
     path: &[u8],
     point: usize,
     cell: usize,
 ) -> Option<usize>
-    requires { (valid (board_of board) ≡ true) × (number marked ≡ marks (board_of board)) × So (is_path path.now) × (point ≤ length path.now) }
-    ensures { (ns : List ℕ) → Keeps ns out.old stored → Keeps (add_firsts eqb ns (map (child_of (board_of board)) (fit_at (board_of board) path.now point cell))) out.new result }
+    requires { So (is_path path.now) × (point ≤ length path.now) }
+    ensures { (ns : List ℕ) → Keeps ns out.old stored → Keeps (add_firsts eqb ns (map (child_of (board_of parent.board)) (fit_at (board_of parent.board) path.now point cell))) out.new result }
 {
     let Some(piece) = fit::tile_fits_at_position(
-        marked,
-        board.width,
-        board.height,
+        parent.marked,
+        parent.board.width,
+        parent.board.height,
         path,
         point,
         cell,
     ) else {
         return stored;
     };
-    add_child(out, stored, board.mark_tile_at_position(piece).marks())
+    add_child(
+        out,
+        stored,
+        parent.board.mark_tile_at_position(piece).marks(),
+    )
 }
 
 // The children that a tile makes with each point of its path on a cell.
 fn add_fits(
     out: &mut [u64],
     stored: Option<usize>,
-    board: RectangularBoard,
-    marked: Cells,
+    parent: Parent,
     path: &[u8],
     cell: usize,
 ) -> Option<usize>
-    requires { (valid (board_of board) ≡ true) × (number marked ≡ marks (board_of board)) × So (is_path path.now) }
-    ensures { (ns : List ℕ) → Keeps ns out.old stored → Keeps (add_firsts eqb ns (map (child_of (board_of board)) (fits_of (board_of board) cell path.now))) out.new result }
+    requires { So (is_path path.now) }
+    ensures { (ns : List ℕ) → Keeps ns out.old stored → Keeps (add_firsts eqb ns (map (child_of (board_of parent.board)) (fits_of (board_of parent.board) cell path.now))) out.new result }
 {
     let mut state = stored;
     for point in 0..=path.len() {
-        state = add_fit(out, state, board, marked, path, point, cell);
+        state = add_fit(out, state, parent, path, point, cell);
     }
     state
 }
 
 // The children that the tiles make on a cell.
-fn add_tiles(
-    out: &mut [u64],
-    board: RectangularBoard,
-    marked: Cells,
-    tiles: Tiles,
-    cell: usize,
-) -> Option<usize>
-    requires { (valid (board_of board) ≡ true) × (number marked ≡ marks (board_of board)) × (read_tiles tiles ≡ given (paths_in tiles)) × (tiles.count ≤ 64) }
-    ensures { Keeps (add_firsts eqb [] (map (child_of (board_of board)) (fits_of_all (board_of board) cell (paths_in tiles)))) out.new result }
+fn add_tiles(out: &mut [u64], parent: Parent, tested: TestedTiles, cell: usize) -> Option<usize>
+    ensures { Keeps (add_firsts eqb [] (map (child_of (board_of parent.board)) (fits_of_all (board_of parent.board) cell (paths_in tested.tiles)))) out.new result }
 {
     let mut state = Some(0);
-    for i in 0..tiles.count {
+    for i in 0..tested.tiles.count {
         let from = 32 * i;
-        let end = from + tiles.lens[i];
-        state = add_fits(out, state, board, marked, &tiles.codes[from..end], cell);
+        let end = from + tested.tiles.lens[i];
+        state = add_fits(out, state, parent, &tested.tiles.codes[from..end], cell);
     }
     state
 }
 
 // Whether the highest count is 4 and no tile is single.
-fn is_pruned(count: u8, tiles: Tiles) -> bool
-    requires { read_tiles tiles ≡ given (paths_in tiles) }
-    ensures { result ≡ (eqb count 4 && not (contains_single (paths_in tiles))) }
+fn is_pruned(count: u8, tested: TestedTiles) -> bool
+    ensures { result ≡ (eqb count 4 && not (contains_single (paths_in tested.tiles))) }
 {
-    count == 4 && !tiles.contains_single_tile().unwrap()
+    count == 4 && !tested.tiles.contains_single_tile().unwrap()
 }
 
 // The children of a board.
-pub fn add_children(out: &mut [u64], board: RectangularBoard, tiles: Tiles) -> Option<usize>
-    requires { (valid (board_of board) ≡ true) × (read_tiles tiles ≡ given (paths_in tiles)) × (tiles.count ≤ 64) }
-    ensures { Keeps (children (board_of board) (paths_in tiles)) out.new result }
+pub fn add_children(out: &mut [u64], parent: Parent, tested: TestedTiles) -> Option<usize>
+    ensures { Keeps (children (board_of parent.board) (paths_in tested.tiles)) out.new result }
 {
-    let marked = board.marks();
-    let found = choice::chosen_cell(board.width, board.height, marked, board.laid).unwrap();
+    let board = parent.board;
+    let found = choice::chosen_cell(board.width, board.height, parent.marked, board.laid).unwrap();
     let Some((cell, count)) = found else {
         return Some(0);
     };
-    if is_pruned(count, tiles) {
+    if is_pruned(count, tested) {
         return Some(0);
     }
-    add_tiles(out, board, marked, tiles, cell)
+    add_tiles(out, parent, tested, cell)
 }

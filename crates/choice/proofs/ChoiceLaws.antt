@@ -8,7 +8,7 @@ use Prim.Native.Nat.{ℕ, ◌+◌, ◌*◌, ◌/◌, ◌%◌, min, ◌≤◌, �
 use mir.Val.{bool_byte}
 use native.Mathlib.Numerals.{add-one}
 use native.Mathlib.Omega.{arith}
-use borrow.Author.Tests.{lt-ltb, le-ltb, eq-eqb, ne_eqb}
+use borrow.Author.Tests.{lt-ltb, le-ltb}
 use lib.Dec.{eqb}
 use Rattle.cells.specs.Set.{has_cell}
 use Rattle.cells.specs.Lists.{list_of}
@@ -16,6 +16,7 @@ use Rattle.cells.specs.ArrayLaws.{list_of_snoc}
 use Rattle.direction.specs.Direction.{shift, step}
 use Rattle.rectangle.specs.Board.{position_of, inside}
 use Rattle.rectangle.specs.Parts.{place_if, place_after}
+use Rattle.rectangle.proofs.BoardLaws.{inside_iff}
 use Rattle.rectangle.proofs.PlaceLaws.{Placed, place_false, place_placed, placed_cell, place_after_is}
 use Rattle.choice.specs.Inner.{array_count, Looked}
 use Rattle.choice.specs.Choice.{one, outer, laid_beside, neighbour_count, columns, higher, best_of, cell_with_count_by}
@@ -76,6 +77,10 @@ module _ (w h row col : ℕ) where
   outer_is p q e f = ap₂ (λ (a b : ℕ). min (a + b) 1) e f ∙ capped _ _ ∙ ap one (sym by_edges)
 
 -- ---- the count of a cell
+
+-- a cell of a rectangle is one of the 256
+pub inside_small : (w h cell : ℕ) → h ≤ 16 → So (inside w h (position_of cell)) → cell < 256
+inside_small w h cell l i = let s = (inside_iff w h (cell / 16) (cell % 16)).0 i in omega (arith, s.0)
 
 pub count_sum : (w h laid cell : ℕ) → So (inside w h (position_of cell)) → (o u d l r : ℕ) → o ≡ one (outer w h (cell / 16) (cell % 16)) → u ≡ one (laid_beside w h laid cell 0) → d ≡ one (laid_beside w h laid cell 1) → l ≡ one (laid_beside w h laid cell 2) → r ≡ one (laid_beside w h laid cell 3) → o + (u + (d + (l + r))) ≡ neighbour_count w h laid cell
 count_sum w h laid cell i o u d l r a b c e f = rw (a, b, c, e, f) (sym (count_inside w h laid cell i))

@@ -1,18 +1,20 @@
-// The neighbour counts. Private helpers; they ask that the size has been tested.
+// The neighbour counts. Private helpers.
 ghost use Rattle.std.specs.Prelude.{◌≡◌, ◌||◌, ◌+◌, ◌≤◌, ◌<◌, eqb};
 ghost use Rattle.cells.specs.Set.{number};
 ghost use Rattle.cells.specs.Lists.{list_of};
+ghost use Rattle.direction.specs.Direction.{code_of};
 ghost use Rattle.choice.specs.Choice.{one, outer, laid_beside, neighbour_count};
 
 use cells::Cells;
+use direction::Direction;
+use rectangle::Rectangle;
 
 // 1 for a laid mark one step from a cell, else 0.
-fn laid_beside(laid: Cells, width: usize, height: usize, cell: usize, code: u8) -> u8
-    requires { (width ≤ 16) × (height ≤ 16) × (cell < 256) × (code < 8) }
-    ensures { (result ≡ one (laid_beside width height (number laid) cell code)) × (result ≤ 1) }
+fn laid_beside(laid: Cells, rectangle: Rectangle, cell: usize, direction: Direction) -> u8
+    requires { cell < 256 }
+    ensures { (result ≡ one (laid_beside rectangle.width rectangle.height (number laid) cell (code_of direction))) × (result ≤ 1) }
 {
-    let Some((r, c)) = rectangle::move_in_direction(width, height, cell / 16, cell % 16, code)
-    else {
+    let Some((r, c)) = rectangle.step(cell / 16, cell % 16, direction) else {
         return 0;
     };
     u8::from(laid.has_cell(16 * r + c))
@@ -27,37 +29,35 @@ fn edge_mark(count: usize, at: usize) -> u8
 }
 
 // 1 in the outer rows and columns, corners too, else 0.
-fn outer_mark(width: usize, height: usize, row: usize, col: usize) -> u8
+fn outer_mark(rectangle: Rectangle, row: usize, col: usize) -> u8
     requires { (row < 16) × (col < 16) }
-    ensures { (result ≡ one (outer width height row col)) × (result ≤ 1) }
+    ensures { (result ≡ one (outer rectangle.width rectangle.height row col)) × (result ≤ 1) }
 {
-    let edges = edge_mark(height, row) + edge_mark(width, col);
+    let edges = edge_mark(rectangle.height, row) + edge_mark(rectangle.width, col);
     edges.min(1)
 }
 
 // The neighbour count of a cell; 0 outside the rectangle.
-fn count_at(laid: Cells, width: usize, height: usize, cell: usize) -> u8
-    requires { (width ≤ 16) × (height ≤ 16) × (cell < 256) }
-    ensures { result ≡ neighbour_count width height (number laid) cell }
+fn count_at(laid: Cells, rectangle: Rectangle, cell: usize) -> u8
+    ensures { result ≡ neighbour_count rectangle.width rectangle.height (number laid) cell }
 {
-    if !rectangle::is_inside(width, height, cell) {
+    if !rectangle.has_cell(cell) {
         return 0;
     }
-    let up = laid_beside(laid, width, height, cell, 0);
-    let down = laid_beside(laid, width, height, cell, 1);
-    let left = laid_beside(laid, width, height, cell, 2);
-    let right = laid_beside(laid, width, height, cell, 3);
-    outer_mark(width, height, cell / 16, cell % 16) + (up + (down + (left + right)))
+    let up = laid_beside(laid, rectangle, cell, Direction::Up);
+    let down = laid_beside(laid, rectangle, cell, Direction::Down);
+    let left = laid_beside(laid, rectangle, cell, Direction::Left);
+    let right = laid_beside(laid, rectangle, cell, Direction::Right);
+    outer_mark(rectangle, cell / 16, cell % 16) + (up + (down + (left + right)))
 }
 
 // The neighbour counts of the 256 cells.
-pub fn neighbour_counts(laid: Cells, width: usize, height: usize) -> [u8; 256]
-    requires { (width ≤ 16) × (height ≤ 16) }
-    ensures { result ≡ list_of (neighbour_count width height (number laid)) 256 }
+pub fn neighbour_counts(laid: Cells, rectangle: Rectangle) -> [u8; 256]
+    ensures { result ≡ list_of (neighbour_count rectangle.width rectangle.height (number laid)) 256 }
 {
     let mut counts = [0u8; 256];
     for cell in 0..256 {
-        counts[cell] = count_at(laid, width, height, cell);
+        counts[cell] = count_at(laid, rectangle, cell);
     }
     counts
 }

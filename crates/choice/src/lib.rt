@@ -8,6 +8,7 @@ ghost use Rattle.cells.specs.Set.{number};
 ghost use Rattle.choice.specs.Parts.{chosen_for};
 
 use cells::Cells;
+use rectangle::Rectangle;
 use refusal::Refusal;
 
 mod counts;
@@ -23,9 +24,9 @@ pub fn chosen_cell(
 ) -> Result<Option<(usize, u8)>, Refusal>
     ensures { answer_of result ≡ chosen_for width height (number marks) (number laid) }
 {
-    if !rectangle::size_ok(width, height) {
+    let Some(rectangle) = Rectangle::of_size(width, height) else {
         return Err(Refusal::BadBoard);
-    }
-    let counts = counts::neighbour_counts(laid, width, height);
-    Ok(scan::choose(marks, &counts, width, height))
+    };
+    let counts = counts::neighbour_counts(laid, rectangle);
+    Ok(scan::choose(marks, &counts, rectangle))
 }

@@ -1,6 +1,6 @@
 -- What the walks of the code come to: the place one step on if it is free, the walks back and on, and the fit by the two walks.
 -- Rests on `FitLaws` and on the laws of places. Assumes nothing.
-use Rattle.std.specs.Prelude.{None, Option, Some}
+use Rattle.std.specs.Prelude.{None, Option, Some, Result, Ok, Err, IsOk}
 use mathlib.Core.Path.{◌≡◌, refl, sym, ap, ap₂, subst, ◌∙◌}
 use mathlib.Core.Bool.{Bool, true, false, So, not, and-eq-true_iff}
 use mathlib.Core.List.{List, [], ◌∷◌, ◌++◌, flat_map, append-nil}
@@ -14,17 +14,19 @@ use Rattle.std.proofs.lemmas.List.{take_all}
 use Rattle.cells.specs.declared.Cells.{Cells}
 use Rattle.cells.specs.Set.{has_cell, with_cell, value, number}
 use Rattle.cells.specs.ListLaws.{value_none}
-use Rattle.refusal.specs.Refusal.{given}
-use Rattle.refusal.specs.RefusalLaws.{given_inj}
-use Rattle.direction.specs.Direction.{Position, at, shift, step, opposite, on_code}
-use Rattle.direction.specs.DirectionLaws.{on_code_given, opposite_lt}
+use Rattle.refusal.specs.declared.Refusal.{Refusal}
+use Rattle.refusal.specs.Refusal.{map_answer, answer_of, refusal_number}
+use Rattle.refusal.specs.RefusalLaws.{given_inj, refused_given}
+use Rattle.direction.specs.declared.Direction.{Direction}
+use Rattle.direction.specs.Direction.{Position, at, shift, step, opposite, code_of, Decodes}
+use Rattle.direction.specs.DirectionLaws.{on_code_given}
 use Rattle.tile.specs.Path.{codes_ok, is_path, Path}
 use Rattle.tile.specs.PathLaws.{codes_ok_at}
 use Rattle.tile.specs.StoredLaws.{is_path_is}
 use Rattle.rectangle.specs.Board.{cell_of, inside}
 use Rattle.rectangle.specs.Parts.{free_in, place_if, place_after}
 use Rattle.rectangle.proofs.BoardLaws.{inside_iff}
-use Rattle.rectangle.proofs.PlaceLaws.{Placed, place_false, place_placed, place_true, placed, placed_cell, place_after_is}
+use Rattle.rectangle.proofs.PlaceLaws.{Placed, code_lt, place_false, place_placed, place_true, placed, placed_cell, place_after_is}
 use Rattle.fit.specs.Fit.{cover, moved, offset, point_at}
 use Rattle.fit.specs.Parts.{fit_pieces}
 use Rattle.fit.specs.Inner.{back, onward, walked}
@@ -36,50 +38,55 @@ path_codes codes e = (is_path_is codes e).1
 
 -- ---- the place one step on from a place of a board, if it has no mark
 
-module _ (w h m row col code : ℕ) (k : (w ≤ 16) × (h ≤ 16) × (row < h) × (col < w) × (code < 8)) where
+module _ (w h m row col : ℕ) (d : Direction) (hr : row < 16) (hc : col < 16) where
   -- its position
   ahead : Position
-  ahead = shift (at (pos row) (pos col)) (step code)
+  ahead = shift (at (pos row) (pos col)) (step (code_of d))
 
-  stepped : place_after w h row col code ≡ place_if (inside w h) ahead
+  stepped : place_after w h row col (code_of d) ≡ place_if (inside w h) ahead
   unfolding ahead
-  stepped = place_after_is w h row col code (omega arith) (omega arith) k.4
+  stepped = place_after_is w h row col (code_of d) hr hc (code_lt d)
 
-  pub free_nowhere : place_after w h row col code ≡ None → None ≡ place_if (free_in w h m) (shift (at (pos row) (pos col)) (step code))
+  pub free_nowhere : place_after w h row col (code_of d) ≡ None → None ≡ place_if (free_in w h m) (shift (at (pos row) (pos col)) (step (code_of d)))
   unfolding ahead place_if free_in
   free_nowhere f = rw (place_false (inside w h) ahead (sym f ∙ stepped))
 
-  pub step_placed : (r c : ℕ) → place_after w h row col code ≡ Some (r, c) → Placed w h (shift (at (pos row) (pos col)) (step code)) r c
+  pub step_placed : (r c : ℕ) → place_after w h row col (code_of d) ≡ Some (r, c) → Placed w h (shift (at (pos row) (pos col)) (step (code_of d))) r c
   unfolding ahead
-  step_placed r c f = place_placed w h ahead r c (place_after w h row col code) stepped f
+  step_placed r c f = place_placed w h ahead r c (place_after w h row col (code_of d)) stepped f
 
-  pub free_marked : (r c : ℕ) → place_after w h row col code ≡ Some (r, c) → true ≡ has_cell m (16 * r + c) → None ≡ place_if (free_in w h m) (shift (at (pos row) (pos col)) (step code))
+  pub free_marked : (r c : ℕ) → place_after w h row col (code_of d) ≡ Some (r, c) → true ≡ has_cell m (16 * r + c) → None ≡ place_if (free_in w h m) (shift (at (pos row) (pos col)) (step (code_of d)))
   unfolding place_if free_in
   free_marked r c f t = let s = step_placed r c f in rw (s.is_inside, placed_cell w h _ r c s, ← t)
 
-  pub free_open : (r c : ℕ) → place_after w h row col code ≡ Some (r, c) → false ≡ has_cell m (16 * r + c) → ◌≡◌ {A = Option (ℕ × ℕ)} (Some (r, c)) (place_if (free_in w h m) (shift (at (pos row) (pos col)) (step code)))
+  pub free_open : (r c : ℕ) → place_after w h row col (code_of d) ≡ Some (r, c) → false ≡ has_cell m (16 * r + c) → ◌≡◌ {A = Option (ℕ × ℕ)} (Some (r, c)) (place_if (free_in w h m) (shift (at (pos row) (pos col)) (step (code_of d))))
   unfolding place_if free_in
-  free_open r c f t = let s = step_placed r c f in let place : ◌≡◌ {A = ℕ × ℕ} (nat_abs (shift (at (pos row) (pos col)) (step code)).row, nat_abs (shift (at (pos row) (pos col)) (step code)).col) (r, c) = ap (λ (q : Position). (nat_abs q.row, nat_abs q.col)) s.is_at in
+  free_open r c f t = let s = step_placed r c f in let place : ◌≡◌ {A = ℕ × ℕ} (nat_abs (shift (at (pos row) (pos col)) (step (code_of d))).row, nat_abs (shift (at (pos row) (pos col)) (step (code_of d))).col) (r, c) = ap (λ (q : Position). (nat_abs q.row, nat_abs q.col)) s.is_at in
       rw (s.is_inside, placed_cell w h _ r c s, ← t) (ap Some (sym place))
 
-pub free_in_placed : (w h m : ℕ) (p : Position) (r c : ℕ) → place_if (free_in w h m) p ≡ Some (r, c) → Placed w h p r c
+free_in_placed : (w h m : ℕ) (p : Position) (r c : ℕ) → place_if (free_in w h m) p ≡ Some (r, c) → Placed w h p r c
 unfolding free_in
 free_in_placed w h m p r c e =
     let s = place_true (free_in w h m) p r c (sym e) in
     placed w h p r c ((and-eq-true_iff (inside w h p) (not (has_cell m (cell_of p)))).0 s.0).0 s.1 s.2
 
--- ---- the opposite code
+-- ---- the direction of a code
 
-pub told_back : (code other : ℕ) → code < 8 → given other ≡ on_code code (opposite code) → (other ≡ opposite code) × (other < 8)
-told_back code other h e =
-    let s : other ≡ opposite code = given_inj other (opposite code) (e ∙ on_code_given code (opposite code) h) in
-    (s, omega (arith, opposite_lt code h))
+-- a code 0 to 7 has one
+pub decoded_ok : (code : ℕ) (r : Result Direction Refusal) → Decodes code r → code < 8 → IsOk r
+unfolding map_answer
+decoded_ok code (Ok d) e h = refl
+decoded_ok code (Err f) e h = absurd (refused_given (refusal_number f) code (e ∙ on_code_given code code h))
+
+pub decoded_is : (code : ℕ) (r : Result Direction Refusal) (d : Direction) → Decodes code r → code < 8 → r ≡ Ok d → code_of d ≡ code
+unfolding map_answer
+decoded_is code r d e h f = given_inj (code_of d) code (sym (ap (λ (x : Result Direction Refusal). map_answer code_of (answer_of x)) f) ∙ e ∙ on_code_given code code h)
 
 -- ---- the positions that are left of a walk
 
-pub onward_next : (p : Position) (path : Path) (i : ℕ) → i < length path → onward p (drop i path) ≡ shift p (step (get_or path i 0)) ∷ onward (shift p (step (get_or path i 0))) (drop (i + 1) path)
+pub onward_next : (p : Position) (path : Path) (i code : ℕ) → i < length path → code ≡ get_or path i 0 → onward p (drop i path) ≡ shift p (step code) ∷ onward (shift p (step code)) (drop (i + 1) path)
 unfolding onward
-onward_next p path i h = rw (add-one, drop-cons path i 0)
+onward_next p path i code h e = rw (e, add-one, drop-cons path i 0)
 
 pub onward_none : (p : Position) (path : Path) (i : ℕ) → length path ≤ i → onward p (drop i path) ≡ []
 unfolding onward
@@ -106,39 +113,29 @@ rest_ok start i path ok h =
     let n : start + i < length path = omega (arith, length-drop start path) in
     rw (rest_is start path, get_or-drop) (codes_ok_at path (start + i) ok n)
 
--- ---- where a walk stands: on the place of row r and column c; what is left gives what the whole walk gives
+-- ---- where a walk stands: what is left of it gives what the whole walk gives
 
-pub record Walking (whole rest : List ℕ) (w h r c : ℕ) : Type 0 where
-  pub row : r < h
-  pub col : c < w
-  pub same : rest ≡ whole
-
-module _ (w h m : ℕ) (whole : List ℕ) (s : Cells) (l : List Position) (r c : ℕ) (k : Walking whole (cover (free_in w h m) (number s) l) w h r c) where
+module _ (w h m : ℕ) (whole : List ℕ) (s : Cells) (l : List Position) (k : cover (free_in w h m) (number s) l ≡ whole) where
   -- the next place is not free
   pub walk_stops : (p : Position) (ps : List Position) → l ≡ p ∷ ps → None ≡ place_if (free_in w h m) p → [] ≡ whole
   walk_stops p ps e f =
       sym (cover_blocked (free_in w h m) (number s) p ps (place_false (free_in w h m) p f))
       ∙ ap (cover (free_in w h m) (number s)) (sym e)
-      ∙ k.same
+      ∙ k
 
   -- it is free
-  pub walk_goes : (p : Position) (next : Position → List Position) → l ≡ p ∷ next p → (a b : ℕ) → place_if (free_in w h m) p ≡ Some (a, b) → (t : Cells) → number t ≡ with_cell (number s) (16 * a + b) → Walking whole (cover (free_in w h m) (number t) (next (at (pos a) (pos b)))) w h a b
+  pub walk_goes : (p : Position) (next : Position → List Position) → l ≡ p ∷ next p → (a b : ℕ) → place_if (free_in w h m) p ≡ Some (a, b) → (t : Cells) → number t ≡ with_cell (number s) (16 * a + b) → cover (free_in w h m) (number t) (next (at (pos a) (pos b))) ≡ whole
   walk_goes p next e a b f t u =
       let o = free_in_placed w h m p a b f in
       let free = (place_true (free_in w h m) p a b (sym f)).0 in
-      record {
-        row = o.row;
-        col = o.col;
-        same =
-            ap₂ (λ (y : ℕ) (q : Position). cover (free_in w h m) y (next q)) (u ∙ ap (with_cell (number s)) (sym (placed_cell w h p a b o))) (sym o.is_at)
-            ∙ sym (cover_free (free_in w h m) (number s) p (next p) free)
-            ∙ ap (cover (free_in w h m) (number s)) (sym e)
-            ∙ k.same;
-      }
+      ap₂ (λ (y : ℕ) (q : Position). cover (free_in w h m) y (next q)) (u ∙ ap (with_cell (number s)) (sym (placed_cell w h p a b o))) (sym o.is_at)
+      ∙ sym (cover_free (free_in w h m) (number s) p (next p) free)
+      ∙ ap (cover (free_in w h m) (number s)) (sym e)
+      ∙ k
 
   -- there is none
   pub walk_ends : l ≡ [] → number s ∷ [] ≡ whole
-  walk_ends e = sym (cover_end (free_in w h m) (number s)) ∙ ap (cover (free_in w h m) (number s)) (sym e) ∙ k.same
+  walk_ends e = sym (cover_end (free_in w h m) (number s)) ∙ ap (cover (free_in w h m) (number s)) (sym e) ∙ k
 
 -- ---- the fit, by its two walks
 

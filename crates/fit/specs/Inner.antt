@@ -1,9 +1,10 @@
 -- Definitions that laws and contracts of private functions cite, and `walked`, which the law `walked_moved` compares with the definition of the fit.
 -- Assumes nothing.
-use Rattle.std.specs.Prelude.{cond, ◌&&◌, List, [], ◌∷◌, ◌++◌, ℕ, zero, suc, leb, length, get_or, drop}
+use Rattle.std.specs.Prelude.{cond, Option, None, Some, ◌&&◌, List, [], ◌∷◌, ◌++◌, ℕ, zero, suc, leb, length, get_or, drop}
 use Rattle.direction.specs.Direction.{Position, shift, step, opposite}
 use Rattle.tile.specs.Path.{Path, is_path}
 use Rattle.rectangle.specs.Board.{Board, size_ok}
+use Rattle.fit.specs.declared.place.Place.{Place}
 use Rattle.fit.specs.Fit.{fit_at}
 
 -- the board of the same size with no marks at all
@@ -30,3 +31,8 @@ onward p (code ∷ path) = shift p (step code) ∷ onward (shift p (step code)) 
 unfoldable pub walked : Path → ℕ → Position → List Position
 unfolding back onward
 walked path j p = p ∷ back p path j ++ onward p (drop j path)
+
+-- the row and the column of a place
+abbrev pub place_of : Option Place → Option (ℕ × ℕ)
+place_of None = None
+place_of (Some p) = Some (p.row, p.col)

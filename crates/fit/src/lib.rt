@@ -7,8 +7,13 @@ ghost use Rattle.cells.specs.Set.{number};
 ghost use Rattle.fit.specs.Parts.{fit_in, fit_pieces};
 
 use cells::Cells;
+use rectangle::Rectangle;
 
+mod place;
 mod walk;
+
+use place::Place;
+use walk::{Ground, PathPoint};
 
 // The piece that a path makes with point start on a cell, in a rectangle with some marks. Nothing fits on
 // a size that no board has or on a cell outside, and nothing is made of codes that are no path or by a
@@ -27,14 +32,18 @@ pub fn tile_fits_at_position(
     if path.len() < start {
         return None;
     }
-    if !rectangle::size_ok(width, height) {
-        return None;
-    }
-    if !rectangle::is_inside(width, height, cell) {
+    let rectangle = Rectangle::of_size(width, height)?;
+    if !rectangle.has_cell(cell) {
         return None;
     }
     if !tile::is_path(path) {
         return None;
     }
-    walk::tile_fits_at_position(marks, width, height, path, start, cell / 16, cell % 16)
+    let ground = Ground { rectangle, marks };
+    let point = PathPoint { path, start };
+    let place = Place {
+        row: cell / 16,
+        col: cell % 16,
+    };
+    ground.fit(point, place)
 }

@@ -3,4 +3,5 @@ pub mod StepLaws
 pub mod BoardLaws
 pub mod FreeLaws
 pub mod PlaceLaws
+pub mod SizeLaws
 pub mod Examples

@@ -3,10 +3,23 @@
 use Rattle.std.specs.Prelude.{◌≡◌, refl, Option, None, Some, Bool, true, false, cond, ℕ, ◌+◌, ◌*◌, ◌<◌, pos, nat_abs}
 use Rattle.std.proofs.Common.{sym, ap, ap₂, ◌∙◌, arith, lt-ltb}
 use Rattle.std.proofs.Math.Bool.{So}
-use Rattle.direction.specs.Direction.{Position, at, shift, step}
+use Rattle.direction.specs.declared.Direction.{Direction}
+use Rattle.direction.specs.declared.Direction.TheVariants as D
+use Rattle.direction.specs.Direction.{Position, at, shift, step, code_of}
 use Rattle.rectangle.specs.Board.{cell_of, inside}
 use Rattle.rectangle.specs.Parts.{place_if, place_after}
 use Rattle.rectangle.proofs.BoardLaws.{inside_parts}
+
+-- the code of a direction is one of the eight
+pub code_lt : (d : Direction) → code_of d < 8
+code_lt D.Up = omega arith
+code_lt D.Down = omega arith
+code_lt D.Left = omega arith
+code_lt D.Right = omega arith
+code_lt D.UpLeft = omega arith
+code_lt D.UpRight = omega arith
+code_lt D.DownRight = omega arith
+code_lt D.DownLeft = omega arith
 
 -- from a row and a column that a board has, by a direction
 pub place_after_is : (w h row col code : ℕ) → row < 16 → col < 16 → code < 8 → place_after w h row col code ≡ place_if (inside w h) (shift (at (pos row) (pos col)) (step code))

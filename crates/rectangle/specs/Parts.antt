@@ -1,9 +1,10 @@
--- Definitions: free positions by a number of marks, and where one step leads in a rectangle, by which functions answer that serve the crates above. No
--- contract of a call outside this crate cites them. Assumes nothing.
+-- Definitions: free positions by a number of marks, where one step leads in a rectangle, and its size, by which functions answer that serve the crates
+-- above. No contract of a call outside this crate cites them. Assumes nothing.
 use Rattle.std.specs.Prelude.{Bool, not, cond, Option, None, Some, ◌&&◌, ℕ, ltb, pos, nat_abs}
 use Rattle.cells.specs.Set.{has_cell}
 use Rattle.direction.specs.Direction.{Position, at, shift, step}
-use Rattle.rectangle.specs.Board.{cell_of, inside}
+use Rattle.rectangle.specs.declared.sized.Rectangle.{Rectangle}
+use Rattle.rectangle.specs.Board.{cell_of, inside, size_ok}
 
 -- the place at a position of which a test holds
 unfoldable pub place_if : (Position → Bool) → Position → Option (ℕ × ℕ)
@@ -19,3 +20,13 @@ place_after w h row col code = cond (ltb row 16 && (ltb col 16 && ltb code 8)) (
 unfoldable pub free_in : ℕ → ℕ → ℕ → Position → Bool
 unfolding inside has_cell cell_of
 free_in w h m p = inside w h p && not (has_cell m (cell_of p))
+
+-- the width and the height of a rectangle
+abbrev pub size_of : Option Rectangle → Option (ℕ × ℕ)
+size_of None = None
+size_of (Some r) = Some (r.width, r.height)
+
+-- a width and a height, if a board may have them
+unfoldable pub size_if : ℕ → ℕ → Option (ℕ × ℕ)
+unfolding size_ok
+size_if w h = cond (size_ok w h) (Some (w, h)) None

@@ -19,10 +19,13 @@ returns-in_err-check-2 c =
     rw (p.1, p.2)
     (stores_no_tiles c.args.board _ _ (check_accepted _ _ c.check.ensures c.in_ok-check.was) _ c.in_err-check-2.ensures)
 
-pub add_children-requires : goal.add_children-requires
-add_children-requires c =
+pub invariant_of-parent : goal.invariant_of-parent
+invariant_of-parent c = record { sound = check_accepted _ _ c.check.ensures c.in_ok-check.was; both = c.marks.ensures }
+
+pub invariant_of-tested : goal.invariant_of-tested
+invariant_of-tested c =
     let a = read_tiles_accepted c.args.tiles (sym (ap verdict_number c.in_ok-check-2.was) ∙ c.check-2.ensures) in
-    (check_accepted _ _ c.check.ensures c.in_ok-check.was, a.1, a.0)
+    record { sound = a.1; few = a.0 }
 
 pub returns : goal.returns
 returns c =

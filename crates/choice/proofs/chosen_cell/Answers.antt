@@ -1,20 +1,20 @@
 -- `choice::chosen_cell` meets its contract: the size is tested; the best cell by the array of counts is the chosen one.
 -- Assumes nothing.
-use Rattle.std.proofs.Common.{sym, ap, ◌∙◌}
+use Rattle.std.proofs.Common.{ℕ, sym, ap, ap₂, ◌∙◌}
+use Rattle.cells.specs.Set.{number}
 use Rattle.refusal.specs.Refusal.{given}
-use Rattle.rectangle.proofs.BoardLaws.{size_ok_le}
+use Rattle.rectangle.proofs.SizeLaws.{sized, unsized}
 use Rattle.choice.specs.ChosenLaws.{chosen_for_refused}
+use Rattle.choice.specs.Parts.{chosen_for}
 use Rattle.choice.proofs.FoundLaws.{found_is}
 use Rattle.choice.proofs.chosen_cell.Goals as goal
 
-pub returns-then-not-size_ok : goal.returns-then-not-size_ok
-returns-then-not-size_ok c = sym (chosen_for_refused _ _ _ _ (sym c.if-not-size_ok.ensures))
-
-pub neighbour_counts-counts-requires : goal.neighbour_counts-counts-requires
-neighbour_counts-counts-requires c = size_ok_le _ _ (sym c.if-not-size_ok.ensures)
-
-pub choose-requires : goal.choose-requires
-choose-requires c = size_ok_le _ _ (sym c.if-not-size_ok.ensures)
+pub returns-in_default : goal.returns-in_default
+returns-in_default c = sym (chosen_for_refused _ _ _ _ (unsized _ _ _ c.of_size.ensures c.in_default.is))
 
 pub returns : goal.returns
-returns c = ap given c.choose.ensures ∙ found_is _ _ (sym c.if-not-size_ok.ensures) _ _ _ c.neighbour_counts-counts.ensures
+returns c =
+    let s = sized _ _ _ c.of_size.ensures _ c.in-Some.is in
+    ap given c.choose.ensures
+    ∙ found_is _ _ s.0 _ _ _ c.neighbour_counts-counts.ensures
+    ∙ ap₂ (λ (w h : ℕ). chosen_for w h (number c.args.marks) (number c.args.laid)) s.1 s.2

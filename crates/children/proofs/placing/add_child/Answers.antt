@@ -1,6 +1,6 @@
 -- `children::placing::add_child` meets its contract: it is sought among the children, and stored behind them if there is room.
 -- Assumes nothing.
-use Rattle.std.proofs.Common.{◌≡◌, Bool, true, false, refl, sym, ◌∙◌, rules}
+use Rattle.std.proofs.Common.{true, false, refl, sym, ◌∙◌, rules}
 use Rattle.cells.specs.WordLaws.{number_lt}
 use Rattle.children.proofs.PlacingLaws.{found_held, add_full, add_old, add_over, add_put}
 use Rattle.children.proofs.placing.add_child.Goals as goal

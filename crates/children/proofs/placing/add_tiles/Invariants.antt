@@ -6,4 +6,4 @@ use Rattle.children.proofs.PlacingLaws.{tile_children}
 use Rattle.children.proofs.placing.add_tiles.Given as goal
 
 abbrev pub invariant-loop-i : goal.invariant-loop-i
-invariant-loop-i l = (length l.out ≡ length l.initial.out) × Keeps (add_firsts eqb [] (tile_children (board_of l.board) l.cell l.tiles.lens l.tiles.codes l.i)) l.out l.state
+invariant-loop-i l = (length l.out ≡ length l.initial.out) × Keeps (add_firsts eqb [] (tile_children (board_of l.parent.board) l.cell l.tested.tiles.lens l.tested.tiles.codes l.i)) l.out l.state

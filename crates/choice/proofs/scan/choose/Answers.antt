@@ -12,4 +12,4 @@ pub loop-col-preserved : goal.loop-col-preserved
 loop-col-preserved c = (omega arith, columns_more _ _ _ _ _ _ c.loop-col.invariant.1 c.scan_column-scan.ensures.best)
 
 pub returns : goal.returns
-returns c = let end : c.loop-col.col ≡ c.args.width = omega arith in rw (← end) c.loop-col.invariant.1
+returns c = let end : c.loop-col.col ≡ c.args.rectangle.width = omega arith in rw (← end) c.loop-col.invariant.1

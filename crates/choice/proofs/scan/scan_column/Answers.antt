@@ -13,5 +13,5 @@ loop-row-preserved c = (omega arith, scanned_more _ _ _ _ _ _ _ _ c.loop-row.inv
 
 pub returns : goal.returns
 returns c =
-    let end : c.loop-row._row ≡ c.args.height = omega arith in
+    let end : c.loop-row._row ≡ c.args.rectangle.height = omega arith in
     record { best = rw (← end) c.loop-row.invariant.1; below = omega arith }
