@@ -137,7 +137,7 @@ module _ (width height : ℕ) (marks tiles : List ℕ) (small : Small marks) (fr
   generates : GeneratesGraph b ts nodes counts edges nodes' counts' edges' (Ok graph)
   generates = graph_below width height marks tiles nodes counts edges graphAnswer nodes' counts' edges' graphAnswer' graphTold
 
-  pub n_from_graph : count_from_graph ((result_in (take 4 graphAnswer')).complete) counts' ≡ n
+  pub n_from_graph : count_from_graph (result_in (take 4 graphAnswer')).complete counts' ≡ n
   n_from_graph = calls_agree b fixed laid ts room n count_n nodes counts edges nodes' counts' edges' (Ok graph) generates graph refl
 
   -- ---- the numbered call

@@ -39,7 +39,7 @@ pub record HoldsPlot (plot : Plot) (board : RectangularBoard) (tiles : Tiles) : 
 pub record Built (g : Graph) (r : GraphResult) (nodes counts edges : List ℕ) : Type 0 where
   pub node_number : r.nodes ≡ length g.nodes
   pub edge_number : r.edges ≡ length g.edges
-  pub count : count_from_graph (r.complete) counts ≡ count_of_graph g
+  pub count : count_from_graph r.complete counts ≡ count_of_graph g
   pub sound : bad_graph r (length nodes) counts edges ≡ false
   pub list : (m : ℕ) → m < count_of_graph g → node_list_in r counts edges m ≡ node_list_of g m
   pub short : (m : ℕ) → m < count_of_graph g → length (node_list_of g m) ≤ 257

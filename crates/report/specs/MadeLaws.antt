@@ -46,7 +46,7 @@ module _ {plot : Plot} {board : RectangularBoard} {tiles : Tiles} (h : HoldsPlot
   tiles_line_lem = ap (λ (n : ℕ). field "tiles " n ++ feed) (held_count plot board tiles h)
 
 pub graph_line_lem : {g : Graph} {r : GraphResult} {nodes counts edges : List ℕ} → Built g r nodes counts edges → (count : ℕ)
-    → count ≡ count_from_graph (r.complete) counts
+    → count ≡ count_from_graph r.complete counts
     → field "graph " count ++ field " nodes " r.nodes ++ field " edges " r.edges ++ feed ≡ graph_line g
 unfolding graph_line
 graph_line_lem built count e = let c = e ∙ built.count in cc

@@ -15,7 +15,7 @@ use refusal::Refusal;
 fn put_refusal(text: &mut Text<'_>, words: &[u8], refusal: Refusal)
     ensures { Puts text.old ((words.now ++ decimal (refusal_number refusal)) ++ feed) text.new }
 {
-    text.put_last(words, refusal.number() as u64);
+    text.put_last(words, refusal.into());
 }
 
 // A refused file.

@@ -9,4 +9,4 @@ use Rattle.report.proofs.lines.put_refusal.Goals as goal
 pub returns : goal.returns
 returns c =
     let words = c.args.words.now in
-    puts_as (ap (λ (n : ℕ). (words ++ decimal n) ++ feed) c.number.ensures) c.put_last.ensures
+    puts_as (ap (λ (n : ℕ). (words ++ decimal n) ++ feed) c.into.ensures) c.put_last.ensures
