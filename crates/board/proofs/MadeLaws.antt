@@ -50,11 +50,11 @@ module _ (b : Board) (row column : ℕ) where
   abbrev there : Position
   there = at (pos row) (pos column)
 
-  hole_below : b.height ≤ row → free_at b there ≡ false
+  pub hole_below : b.height ≤ row → free_at b there ≡ false
   unfolding free_at inside below
   hole_below h = rw (le-ltb row b.height h)
 
-  hole_beside : b.width ≤ column → free_at b there ≡ false
+  pub hole_beside : b.width ≤ column → free_at b there ≡ false
   unfolding free_at inside below
   hole_beside h = rw (le-ltb column b.width h, and-false (ltb row b.height))
 
@@ -102,23 +102,23 @@ module _ (n scale : ℕ) where
       ∙ ap₂ (shaped 0 0 0) (none n) (none (n + 1)))
 
   -- too high
-  l_high : 8 < scale → l_board n scale ≡ refused 4
+  pub l_high : 8 < scale → l_board n scale ≡ refused 4
   unfolding l_board
   l_high h = shaped_refused (n * scale) (2 * scale) scale 0 scale (size_ok_high (n * scale) (2 * scale) (omega arith))
 
-  t_high : 8 < scale → t_board n scale ≡ refused 4
+  pub t_high : 8 < scale → t_board n scale ≡ refused 4
   unfolding t_board
   t_high h =
       shaped_refused ((2 * n + 1) * scale) (2 * scale) scale (n * scale) ((n + 1) * scale) (size_ok_high ((2 * n + 1) * scale) (2 * scale) (omega arith))
 
   -- too wide
-  l_wide : (scale ≡ 0 → ⊥) → 16 < n → l_board n scale ≡ refused 4
+  pub l_wide : (scale ≡ 0 → ⊥) → 16 < n → l_board n scale ≡ refused 4
   unfolding l_board
   l_wide z h =
       let pos : 0 < scale = omega arith in
       shaped_refused (n * scale) (2 * scale) scale 0 scale (size_ok_wide (n * scale) (2 * scale) (omega (arith, le-mul_of_pos_right n pos)))
 
-  t_wide : (scale ≡ 0 → ⊥) → 16 < n → t_board n scale ≡ refused 4
+  pub t_wide : (scale ≡ 0 → ⊥) → 16 < n → t_board n scale ≡ refused 4
   unfolding t_board
   t_wide z h =
       let pos : 0 < scale = omega arith in

@@ -26,7 +26,7 @@ use Rattle.choice.specs.CountLaws.{count_inside}
 
 module _ (w h laid cell code : ℕ) (l : cell < 256) (k : code < 8) where
   -- one step from a cell leads to the place at the position one step on
-  beside_step : place_after w h (cell / 16) (cell % 16) code ≡ place_if (inside w h) (shift (position_of cell) (step code))
+  pub beside_step : place_after w h (cell / 16) (cell % 16) code ≡ place_if (inside w h) (shift (position_of cell) (step code))
   beside_step = place_after_is w h (cell / 16) (cell % 16) code (omega arith) (omega arith) k
 
   pub beside_nowhere : place_after w h (cell / 16) (cell % 16) code ≡ None → 0 ≡ one (laid_beside w h laid cell code)

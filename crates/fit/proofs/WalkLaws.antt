@@ -64,7 +64,7 @@ module _ (w h m row col : ℕ) (d : Direction) (hr : row < 16) (hc : col < 16) w
   free_open r c f t = let s = step_placed r c f in let place : ◌≡◌ {A = ℕ × ℕ} (nat_abs (shift (at (pos row) (pos col)) (step (code_of d))).row, nat_abs (shift (at (pos row) (pos col)) (step (code_of d))).col) (r, c) = ap (λ (q : Position). (nat_abs q.row, nat_abs q.col)) s.is_at in
       rw (s.is_inside, placed_cell w h _ r c s, ← t) (ap Some (sym place))
 
-free_in_placed : (w h m : ℕ) (p : Position) (r c : ℕ) → place_if (free_in w h m) p ≡ Some (r, c) → Placed w h p r c
+pub free_in_placed : (w h m : ℕ) (p : Position) (r c : ℕ) → place_if (free_in w h m) p ≡ Some (r, c) → Placed w h p r c
 unfolding free_in
 free_in_placed w h m p r c e =
     let s = place_true (free_in w h m) p r c (sym e) in

@@ -24,7 +24,7 @@ step_small =
     (λ c h i. absurd (omega arith))
 
 -- a small step from a small number, as the machine reads the sum back
-step_back : (n : ℕ) (d : ℤ) → n < 16 → mag d ≤ 1 → to_z w64 (of_z w64 (to_z w64 n +ℤ to_z w64 (of_z w64 d))) ≡ pos n +ℤ d
+pub step_back : (n : ℕ) (d : ℤ) → n < 16 → mag d ≤ 1 → to_z w64 (of_z w64 (to_z w64 n +ℤ to_z w64 (of_z w64 d))) ≡ pos n +ℤ d
 step_back n d h k = omega (arith, ints)
 
 -- a direction that was made of a code has it

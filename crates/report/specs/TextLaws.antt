@@ -216,7 +216,7 @@ cleared_by r n bytes zeros inside is e = list_of_eta 0 (put_mid r n bytes zeros)
         ∙ get_or-replicate n (k - length (take r bytes)) 0 0 (omega (arith, front)))
 
 -- put in front of all the bytes
-puts_cleared : {file out out' : List ℕ} {t t' : Text} → t.bytes.now ≡ out → t.at ≡ 0 → Puts t (report file) t' → out' ≡ cleared_from t'.at t'.bytes.now → WritesReport file out out' t'.at
+pub puts_cleared : {file out out' : List ℕ} {t t' : Text} → t.bytes.now ≡ out → t.at ≡ 0 → Puts t (report file) t' → out' ≡ cleared_from t'.at t'.bytes.now → WritesReport file out out' t'.at
 unfolding cleared_from padded
 puts_cleared {file} {out} {out'} {t} {t'} all front p e =
     record {

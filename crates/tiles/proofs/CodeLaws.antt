@@ -39,18 +39,18 @@ part_is codes a h =
 
 -- ---- one array laid over another
 
-overlay_inside : (a : ℕ) (ds cs : List ℕ) (j : ℕ) → j < 32 → get_or ds j 0 ≡ overlay a ds cs (a + j)
+pub overlay_inside : (a : ℕ) (ds cs : List ℕ) (j : ℕ) → j < 32 → get_or ds j 0 ≡ overlay a ds cs (a + j)
 unfolding overlay
 overlay_inside a ds cs j h =
     let p : a ≤ a + j = omega arith in
     let q : a + j < a + 32 = omega arith in
     rw (le-leb a (a + j) p, lt-ltb (a + j) (a + 32) q) (ap (λ (k : ℕ). get_or ds k 0) (sym (add_sub a j)))
 
-overlay_before : (a : ℕ) (ds cs : List ℕ) (k : ℕ) → k < a → overlay a ds cs k ≡ get_or cs k 0
+pub overlay_before : (a : ℕ) (ds cs : List ℕ) (k : ℕ) → k < a → overlay a ds cs k ≡ get_or cs k 0
 unfolding overlay
 overlay_before a ds cs k h = rw (lt-leb a k h)
 
-overlay_behind : (a : ℕ) (ds cs : List ℕ) (k : ℕ) → a + 32 ≤ k → get_or cs k 0 ≡ overlay a ds cs k
+pub overlay_behind : (a : ℕ) (ds cs : List ℕ) (k : ℕ) → a + 32 ≤ k → get_or cs k 0 ≡ overlay a ds cs k
 unfolding overlay
 overlay_behind a ds cs k h = rw (le-ltb k (a + 32) h, and-false (leb a k))
 
