@@ -3,11 +3,9 @@
 #![tactic(auto)]
 
 ghost use Rattle.std.specs.Prelude.{◌≡◌};
-ghost use Rattle.direction.specs.Direction.{at, code_of};
+ghost use Rattle.direction.specs.Direction.{at};
 ghost use Rattle.rectangle.specs.Board.{position_of, inside, size_ok};
 ghost use Rattle.rectangle.specs.Parts.{place_if, place_after};
-
-use direction::Direction;
 
 mod sized;
 
@@ -40,27 +38,9 @@ fn place_at(width: usize, height: usize, row: i64, col: i64) -> Option<(usize, u
     (r < height && c < width).then_some((r, c))
 }
 
-// Where one step from a place leads: nowhere off the board, and from a row or a column that no board
-// has.
-#[tactic(auto, unfolding(crate::specs::Parts::place_after))]
-fn step(
-    width: usize,
-    height: usize,
-    row: usize,
-    col: usize,
-    direction: Direction,
-) -> Option<(usize, usize)>
-    ensures { result ≡ place_after width height row col (code_of direction) }
-{
-    if 15 < row || 15 < col {
-        return None;
-    }
-    let (down, right) = direction.offset();
-    place_at(width, height, row as i64 + down, col as i64 + right)
-}
-
-// The same by a code: nowhere also by a code that is no direction.
-#[tactic(auto, unfolding(crate::specs::Parts::place_after, direction::specs::Direction::on_code, refusal::specs::Refusal::map_answer))]
+// Where one step from a place leads: nowhere off the board, from a row or a column that no board has,
+// and by a code that is no direction.
+#[tactic(auto, unfolding(crate::specs::Parts::place_after, direction::specs::Direction::on_code))]
 pub fn move_in_direction(
     width: usize,
     height: usize,
@@ -70,5 +50,9 @@ pub fn move_in_direction(
 ) -> Option<(usize, usize)>
     ensures { result ≡ place_after width height row col code }
 {
-    step(width, height, row, col, Direction::try_from(code).ok()?)
+    if 15 < row || 15 < col {
+        return None;
+    }
+    let (down, right) = direction::step(code).ok()?;
+    place_at(width, height, row as i64 + down, col as i64 + right)
 }

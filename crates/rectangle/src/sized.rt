@@ -41,6 +41,6 @@ impl Rectangle {
     pub fn step(self, row: usize, col: usize, direction: Direction) -> Option<(usize, usize)>
         ensures { result ≡ place_after self.width self.height row col (code_of direction) }
     {
-        crate::step(self.width, self.height, row, col, direction)
+        crate::move_in_direction(self.width, self.height, row, col, direction.into())
     }
 }
