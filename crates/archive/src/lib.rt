@@ -70,10 +70,13 @@ pub fn count_records(file: &[u8]) -> Result<usize, BrokenRecord>
     ensures { record_count_answer result ≡ count_records file.now }
 {
     let mut count = 0;
-    for bytes in file.chunks(24) {
-        if !bytes::is_whole(bytes) {
+    // what is left, and not `chunks(24)`, which works out the length of each part
+    let mut rest = file;
+    while !rest.is_empty() {
+        if !bytes::is_whole(rest) {
             return Err(BrokenRecord { place: count });
         }
+        rest = &rest[24..];
         count += 1;
     }
     Ok(count)
