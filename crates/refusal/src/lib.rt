@@ -2,7 +2,7 @@
 // that brought the refusal, gives each.
 #![tactic(auto)]
 
-ghost use Rattle.std.specs.Prelude.{◌≡◌};
+ghost use Rattle.std.specs.Prelude.{◌≡◌, Some, decimal};
 ghost use Rattle.refusal.specs.Refusal.{refusal_number};
 
 use std::fmt;
@@ -64,6 +64,8 @@ impl From<Refusal> for u64 {
 
 // The number in decimal digits.
 impl fmt::Display for Refusal {
+    ghost output = { λ refusal. Some (decimal (refusal_number refusal)) };
+
     fn fmt<W: fmt::Write>(&self, f: &mut fmt::Formatter<W>) -> fmt::Result {
         write!(f, "{}", self.number())
     }

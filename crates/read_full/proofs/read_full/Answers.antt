@@ -1,8 +1,8 @@
--- `read_full::read_full` keeps its loop's invariant: what a read gives stands behind what was read before. Assumes nothing.
-use Rattle.std.proofs.Common.{◌≡◌, ℕ, ◌+◌, ◌-◌, ◌≤◌, List, ◌++◌, rules, arith, length, take, slice_range, sym, ap, ◌∙◌, subst, le_refl, drop_at, length-take-le}
+-- `read_full::read_full` keeps its loop's invariant: what a read gives stands behind what was read before. Where a read fails, the reader lost what was read before, which left room. Assumes nothing.
+use Rattle.std.proofs.Common.{◌≡◌, ℕ, Option, ◌+◌, ◌-◌, ◌≤◌, List, ◌++◌, rules, arith, length, take, slice_range, sym, ap, ◌∙◌, subst, le_refl, drop_at, length-take-le}
 use Rattle.std.proofs.lemmas.Slice.{take-put_mid_below}
 use Rattle.std.specs.Io.KnownBytes.{Consumes}
-use Rattle.std.proofs.KnownBytes.{Consumes-trans}
+use Rattle.std.proofs.KnownBytes.{Consumes-kept, Consumes-trans}
 use borrow.Rule.Slice.PartMut.{put_mid, post_of}
 use lib.Seq.{take-add, take-append-le}
 use Rattle.read_full.proofs.read_full.Goals as goal
@@ -18,12 +18,23 @@ slice_range-put_mid a k n xs ys within fits =
     let after = post_of a k xs in
     ap (take ((a + n) - a)) (drop_at (take a xs) (ys ++ after) a (length-take-le a xs within)) ∙ ap (λ m. take m (ys ++ after)) same ∙ take-append-le n ys after fits
 
+-- the same over an equal number of bytes
+consumes_at : (a b : Option (List ℕ)) (m n : ℕ) (xs : List ℕ) → m ≡ n → Consumes a b (take m xs) → Consumes a b (take n xs)
+consumes_at a b m n xs same h = subst (λ k. Consumes a b (take k xs)) same h
+
 pub loop-done-preserved : goal.loop-done-preserved
 loop-done-preserved g c =
     let from = c.loop-done.done in
     let room = length c.loop-done.bytes - from in
     let within = c.loop-done.invariant.1 in
     let new = put_mid from room c.loop-done.bytes c.read.new.buf in
-    let part = slice_range-put_mid from room c.in_ok-n.n c.loop-done.bytes c.read.new.buf within c.in_ok-n.ensures.bound.0 in
-    let joined = take_split from (from + c.in_ok-n.n) c.loop-done.bytes new (omega arith) (take-put_mid_below _ _ _ _ _ (le_refl _) within) in
-    (search rules, search rules, subst (Consumes _ _) (ap (λ l. take from c.loop-done.bytes ++ l) (sym part) ∙ joined) (Consumes-trans _ _ _ _ _ c.loop-done.invariant.2 c.in_ok-n.ensures.bytes.0))
+    let part = slice_range-put_mid from room c.in-Ok.n c.loop-done.bytes c.read.new.buf within c.in-Ok.ensures.bound.0 in
+    let joined = take_split from (from + c.in-Ok.n) c.loop-done.bytes new (omega arith) (take-put_mid_below _ _ _ _ _ (le_refl _) within) in
+    let read = subst (Consumes _ _) (ap (λ l. take from c.loop-done.bytes ++ l) (sym part) ∙ joined) (Consumes-trans _ _ _ _ _ c.loop-done.invariant.2 c.in-Ok.ensures.bytes.0) in
+    (search rules, search rules, consumes_at _ _ _ _ _ (omega arith) read)
+
+pub returns-in-Err-clause-lost : goal.returns-in-Err-clause-lost
+returns-in-Err-clause-lost g c =
+    let read = take c.loop-done.done c.loop-done.bytes in
+    let count : length read ≡ c.loop-done.done = length-take-le _ _ c.loop-done.invariant.1 in
+    (read, omega (arith, count, c.loop-done-test.true, c.loop-done.invariant.0), Consumes-kept _ _ _ read c.loop-done.invariant.2 c.in-Err.ensures.bytes)
